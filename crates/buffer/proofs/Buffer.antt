@@ -1,0 +1,70 @@
+-- Laws of `part`, `overwrite` and two-byte fields.
+use Prim.Native.Nat.{ℕ, zero, suc, _+_, _*_, _/_, _%_, _-_, _≤_, _<_}
+use mathlib.Core.Path.{_≡_, refl, sym, ap, _∙_}
+use mathlib.Core.List.{List, [], _∷_, _++_, append-assoc, append-nil}
+use native.Mathlib.Nat.{add-assoc, zero-add, add-zero}
+use native.Mathlib.Numerals.{add-one}
+use native.Mathlib.Omega.{arith}
+use lib.ListN.{length, getD, set, take, drop, length-drop, length-take, length-append, drop-of-length-le, List·getD-append}
+use lib.Seq.{take-suc, take-suc-set, getD-drop, getD-take, length-take-le, take-at, drop-at, drop-drop, drop-append-add, take-append-le, drop-append-le, take-append-add, paste, paste-suc, take-length, take-take, getD-append-add, ext-getD}
+use Rattle.buffer.specs.Buffer.{part, overwrite, wordAt, wordBytes}
+
+module _ {A : Type 0} where
+  -- one more turn of a loop that fills l with the elements of t
+  pub fill-next : (l t : List A) (j : ℕ) (x d : A) → j < length l → j < length t → take j l ≡ take j t → x ≡ getD t j d → take (j + 1) (set l j x) ≡ take (j + 1) t
+  fill-next l t j x d hl ht e v = rw (add-one, take-suc-set, take-suc t j d, e, v)
+
+-- one more turn of a loop that copies a part
+pub copy-next : (l s : List ℕ) (at j : ℕ) → j < length l → at + j < length s → take j l ≡ take j (drop at s) → take (j + 1) (set l j (getD s (at + j) 0)) ≡ take (j + 1) (drop at s)
+copy-next l s at j hl hs e = fill-next l (drop at s) j (getD s (at + j) 0) 0 hl (simp length-drop (omega arith)) e (rw getD-drop)
+
+-- one more turn of a loop that overwrites
+pub overwrite-next : (d s l : List ℕ) (at j : ℕ) → at + j < length d → j < length s → l ≡ paste d at s j → set l (at + j) (getD s j 0) ≡ paste d at s (j + 1)
+overwrite-next d s l at j hd hs e = rw (add-one, e) (paste-suc d at s j 0 hd hs)
+
+pub overwrite-end : (d s l : List ℕ) (at j : ℕ) → j ≡ length s → l ≡ paste d at s j → l ≡ overwrite d at s
+overwrite-end d s l at j q e = e ∙ rw (q, take-length)
+
+-- ---- what an overwriting leaves
+module _ (d s : List ℕ) (at : ℕ) (h : at + length s ≤ length d) where
+  head-length : length (take at d ++ s) ≡ at + length s
+  head-length = length-append (take at d) s ∙ ap (λ (k : ℕ). k + length s) (length-take-le at d (omega arith))
+
+  pub overwrite-head : take (at + length s) (overwrite d at s) ≡ take at d ++ s
+  overwrite-head = take-at (take at d ++ s) (drop (at + length s) d) (at + length s) head-length
+
+  pub overwrite-length : length (overwrite d at s) ≡ length d
+  overwrite-length =
+      length-append (take at d ++ s) (drop (at + length s) d)
+      ∙ ap (λ (k : ℕ). k + length (drop (at + length s) d)) head-length
+      ∙ ap (λ (k : ℕ). at + length s + k) (length-drop (at + length s) d)
+      ∙ omega arith
+
+  -- what lies before is as it was
+  pub overwrite-take : (n : ℕ) → n ≤ at → take n (overwrite d at s) ≡ take n d
+  overwrite-take n k =
+      let q : length (take at d) ≡ at = length-take-le at d (omega arith) in
+      rw (append-assoc, take-append-le n (take at d) (s ++ drop (at + length s) d) (omega arith)) (take-take n at d k)
+
+  -- what lies behind is as it was
+  pub overwrite-drop : (n : ℕ) → at + length s ≤ n → drop n (overwrite d at s) ≡ drop n d
+  overwrite-drop n k =
+      let m : (at + length s) + (n - (at + length s)) ≡ n = omega arith in
+      let q = head-length in
+      rw (← m)
+      (ap (λ (j : ℕ). drop (j + (n - (at + length s))) (overwrite d at s)) (sym q)
+      ∙ drop-append-add (take at d ++ s) (drop (at + length s) d) (n - (at + length s))
+      ∙ drop-drop (n - (at + length s)) (at + length s) d)
+
+  -- what was laid there is there
+  pub overwrite-part : part (overwrite d at s) at (length s) ≡ s
+  overwrite-part =
+      let q : length (take at d) ≡ at = length-take-le at d (omega arith) in
+      rw (append-assoc, drop-at (take at d) (s ++ drop (at + length s) d) at q) (take-at s (drop (at + length s) d) (length s) refl)
+
+  -- a part that lies wholly before or behind is as it was
+  pub part-behind : (i n : ℕ) → at + length s ≤ i → part (overwrite d at s) i n ≡ part d i n
+  part-behind i n k = ap (λ (l : List ℕ). take n l) (overwrite-drop i k)
+
+pub word-split : (w : ℕ) → w % 256 + w / 256 * 256 ≡ w
+word-split w = omega arith

@@ -1,0 +1,3 @@
+pub mod Buffer
+pub mod Bools
+pub mod Lists

@@ -1,0 +1,19 @@
+-- Parts of byte buffers, and their two-byte fields.
+use Prim.Native.Nat.{ℕ, _+_, _*_, _/_, _%_}
+use mathlib.Core.List.{List, [], _∷_, _++_}
+use lib.ListN.{length, getD, take, drop}
+
+-- n bytes from place at
+abbrev pub part : List ℕ → ℕ → ℕ → List ℕ
+part l at n = take n (drop at l)
+
+-- s laid over l from place at; every other byte stays
+abbrev pub overwrite : List ℕ → ℕ → List ℕ → List ℕ
+overwrite l at s = take at l ++ s ++ drop (at + length s) l
+
+-- Document 01: "Two-byte fields of both buffers are low byte first."
+abbrev pub wordAt : List ℕ → ℕ → ℕ
+wordAt l at = getD l at 0 + getD l (at + 1) 0 * 256
+
+abbrev pub wordBytes : ℕ → List ℕ
+wordBytes w = w % 256 ∷ w / 256 ∷ []
