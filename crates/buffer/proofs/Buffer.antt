@@ -6,7 +6,7 @@ use native.Mathlib.Nat.{add-assoc, zero-add, add-zero}
 use native.Mathlib.Numerals.{add-one}
 use native.Mathlib.Omega.{arith}
 use lib.ListN.{length, getD, set, take, drop, length-drop, length-take, length-append, drop-of-length-le, List·getD-append}
-use lib.Seq.{take-suc, take-suc-set, getD-drop, getD-take, length-take-le, take-at, drop-at, drop-drop, drop-append-add, take-append-le, drop-append-le, take-append-add, paste, paste-suc, take-length, take-take, getD-append-add, ext-getD}
+use lib.Seq.{take-suc, take-suc-set, getD-drop, getD-take, length-take-le, take-at, drop-at, drop-drop, drop-append-add, take-append-le, drop-append-le, take-append-add, paste, paste-suc, drop-paste, set-split, append-snoc, take-length, take-take, getD-append-add, ext-getD}
 use Rattle.buffer.specs.Buffer.{part, overwrite, wordAt, wordBytes}
 
 module _ {A : Type 0} where
@@ -65,6 +65,34 @@ module _ (d s : List ℕ) (at : ℕ) (h : at + length s ≤ length d) where
   -- a part that lies wholly before or behind is as it was
   pub part-behind : (i n : ℕ) → at + length s ≤ i → part (overwrite d at s) i n ≡ part d i n
   part-behind i n k = ap (λ (l : List ℕ). take n l) (overwrite-drop i k)
+
+-- a second run laid right behind a first: as one run
+pub overwrite-joined : (d s t : List ℕ) (at b : ℕ) → b ≡ at + length s → b ≤ length d → overwrite (overwrite d at s) b t ≡ overwrite d at (s ++ t)
+overwrite-joined d s t at b q h = ap (λ (k : ℕ). overwrite (overwrite d at s) k t) q ∙ joined (omega arith)
+  where
+    joined : at + length s ≤ length d → overwrite (overwrite d at s) (at + length s) t ≡ overwrite d at (s ++ t)
+    joined h =
+        let n = head-length d s at h in
+        let m : drop (at + length s + length t) (overwrite d at s) ≡ drop (at + (length s + length t)) d = rw (← n, drop-append-add, n, drop-drop) (rw add-assoc) in
+        rw (take-at (take at d ++ s) (drop (at + length s) d) (at + length s) n, m, length-append, ← append-assoc)
+
+-- one byte written
+pub overwrite-set : (l : List ℕ) (i x : ℕ) → i < length l → set l i x ≡ overwrite l i (x ∷ [])
+overwrite-set l i x h = set-split l i x h ∙ sym (append-snoc (take i l) x (drop (suc i) l)) ∙ ap (λ (k : ℕ). take i l ++ (x ∷ []) ++ drop k l) (sym (add-one i))
+
+-- one more turn of a loop that moves a part down by k: what it reads has not been written yet
+pub moved-next : (d : List ℕ) (at k n j : ℕ) → at + k + n ≤ length d → j < n → getD (paste d at (part d (at + k) n) j) (at + k + j) 0 ≡ getD (part d (at + k) n) j 0
+moved-next d at k n j h b =
+    let s = part d (at + k) n in
+    let z : length (part d (at + k) n) ≡ n = length-take-le n (drop (at + k) d) (simp length-drop (omega arith)) in
+    let e : at + k + j ≡ (at + j) + k = omega arith in
+    rw e
+    (sym (getD-drop (at + j) (paste d at s j) k 0)
+    ∙ ap (λ (l : List ℕ). getD l k 0) (drop-paste d at s j (omega arith) (omega arith))
+    ∙ getD-drop (at + j) d k 0
+    ∙ ap (λ (i : ℕ). getD d i 0) (sym e)
+    ∙ sym (getD-drop (at + k) d j 0)
+    ∙ sym (getD-take n (drop (at + k) d) j 0 b))
 
 pub word-split : (w : ℕ) → w % 256 + w / 256 * 256 ≡ w
 word-split w = omega arith

@@ -2,13 +2,13 @@
 use Prim.Native.Nat.{ℕ, zero, suc, _+_, _-_, _≤_, _<_}
 use mathlib.Core.Path.{_≡_, refl, sym, ap, _∙_, subst}
 use mathlib.Core.Bool.{Bool, true, false, _&&_, and-false, and-assoc, and-true}
-use mathlib.Core.List.{List, [], _∷_, _++_, append-assoc, append-nil}
+use mathlib.Core.List.{List, [], _∷_, _++_, map, map-append, append-assoc, append-nil}
 use mathlib.Core.Logic.{_⊎_, inl, inr, ⊎-elim}
 use native.Mathlib.Nat.{not-suc-le-zero, le-of-suc-le-suc, eq-or-lt-of-le}
 use native.Mathlib.Numerals.{add-one}
 use native.Mathlib.Omega.{arith}
 use lib.Dec.{eqb}
-use lib.ListN.{length, getD, take, drop, set, length-append, List·getD-append}
+use lib.ListN.{length, getD, take, drop, set, replicate, length-append, List·getD-append}
 use lib.Seq.{take-suc, take-suc-set, take-all, getD-append-add, getD-at}
 use borrow.Author.Tests.{eq-eqb, ne-eqb, eqb-true}
 use Rattle.buffer.specs.Lists.{all, pairs, same, index, hereOr, later, tab, flat, without}
@@ -139,6 +139,41 @@ pub tab-same : {A : Type 0} (f g : ℕ → A) (n : ℕ) → ((i : ℕ) → i < n
 unfolding tab
 tab-same f g zero h = refl
 tab-same f g (suc n) h = rw (tab-same f g n (λ i k. h i (omega arith)), h n (omega arith))
+
+-- turns of a loop over a table: one more holds, or one fails
+module _ {A : Type 0} (f : ℕ → A) (p : A → Bool) where
+  pub all-tab-next : (i : ℕ) → all p (tab f i) ≡ true → p (f i) ≡ true → all p (tab f (i + 1)) ≡ true
+  all-tab-next i h e = rw (tab-more f i, all-snoc p (tab f i) (f i), h, e)
+
+  pub all-tab-stop : (i n : ℕ) → i < n → p (f i) ≡ false → all p (tab f n) ≡ false
+  all-tab-stop i n h e = all-stop p (tab f n) i (f i) (subst (λ (k : ℕ). i < k) (sym (tab-length f n)) h) (rw (tab-at f n i (f i) h) e)
+
+-- the same of a test between every two
+module _ {A : Type 0} (f : ℕ → A) (r : A → A → Bool) where
+  pub pairs-tab-next : (i : ℕ) → pairs r (tab f i) ≡ true → all (λ e. r e (f i)) (tab f i) ≡ true → pairs r (tab f (i + 1)) ≡ true
+  pairs-tab-next i h e = rw (tab-more f i, pairs-snoc r (tab f i) (f i), h, e)
+
+  pub pairs-tab-stop : (i n : ℕ) → i < n → all (λ e. r e (f i)) (tab f i) ≡ false → pairs r (tab f n) ≡ false
+  pairs-tab-stop i n h e =
+      not-true-is-false (pairs r (tab f n))
+      (λ t. true-not-false
+      (all-each (λ e. r e (f i)) (tab f i) (f i)
+      (λ j k.
+      let b : j < i = subst (λ (m : ℕ). j < m) (tab-length f i) k in
+      let a : r (getD (tab f n) j (f i)) (getD (tab f n) i (f i)) ≡ true = pairs-at r (tab f n) j i (f i) b (subst (λ (m : ℕ). i < m) (sym (tab-length f n)) h) t in
+      subst (λ (x : A). r x (f i) ≡ true) (tab-at f n j (f i) (omega arith) ∙ sym (tab-at f i j (f i) b))
+      (subst (λ (y : A). r (getD (tab f n) j (f i)) y ≡ true) (tab-at f n i (f i) h) a)))
+      e)
+
+pub map-tab : {A : Type 0} {B : Type 0} (g : A → B) (f : ℕ → A) (n : ℕ) → map g (tab f n) ≡ tab (λ i. g (f i)) n
+unfolding tab
+map-tab {A} {B} g f zero = refl
+map-tab {A} {B} g f (suc n) = map-append g (tab f n) (f n ∷ []) ∙ ap (λ (l : List B). l ++ (g (f n) ∷ [])) (map-tab g f n)
+
+pub drop-replicate : (n m a : ℕ) → drop m (replicate n a) ≡ replicate (n - m) a
+drop-replicate n zero a = let e : n - 0 ≡ n = omega arith in rw e
+drop-replicate zero (suc m) a = let e : 0 - suc m ≡ 0 = omega arith in rw e
+drop-replicate (suc n) (suc m) a = let e : suc n - suc m ≡ n - m = omega arith in rw e (drop-replicate n m a)
 
 pub flat-snoc : {A : Type 0} (f : A → List ℕ) (l : List A) (x : A) → flat f (l ++ (x ∷ [])) ≡ flat f l ++ f x
 unfolding flat

@@ -1,6 +1,9 @@
 // The decimal digits of a number, as every printed number has them.
+use buffer::text::Text;
 ghost use mathlib.Core.Path.{_≡_};
-ghost use Prim.Native.Nat.{_+_, _<_};
+ghost use Prim.Native.Nat.{_+_, _<_, _≤_};
+ghost use mathlib.Core.List.{_++_};
+ghost use Rattle.buffer.specs.Text.{written};
 ghost use Rattle.decimal.specs.Decimal.{decimal, shown};
 
 // The digits stand at the end of bytes, from start on.
@@ -17,7 +20,7 @@ fn digit(n: u32) -> u8
 }
 
 pub fn digits_of(n: u32) -> Digits
-    ensures { λ r. ⌜ shown r ≡ decimal n ⌝ }
+    ensures { λ r. ⌜ (r .start ≤ 9) × (shown r ≡ decimal n) ⌝ }
 {
     let mut bytes = [0u8; 10];
     let mut start: usize = 9;
@@ -32,4 +35,14 @@ pub fn digits_of(n: u32) -> Digits
         bytes: bytes,
         start: start,
     }
+}
+
+pub fn append_decimal(text: Text, n: u32) -> Text
+    requires { ⌜ text .len + 10 ≤ 256 ⌝ }
+    ensures { λ r. ⌜ (r .len ≤ text .len + 10) × (written r ≡ written text ++ decimal n) ⌝ }
+{
+    let digits = digits_of(n);
+    let bytes = digits.bytes;
+    let start = digits.start;
+    buffer::text::append(text, &bytes[start..])
 }

@@ -51,7 +51,7 @@ loop-again c =
     l .loop .inv .3 ∙ digit-next (l .loop .start) (l .loop .rest) (c .digit2 .result) (l .loop .bytes) (omega arith) h (omega arith) (c .digit2 .ensures))
 
 returns : tie.Need-returns Inv-loop μ-loop
-returns c = rw (c .before .loop .inv .3, lt-leb _ _ (c .loop-test .left))
+returns c = (omega arith, rw (c .before .loop .inv .3, lt-leb _ _ (c .loop-test .left)))
 
 pub digits-of-spec : {M : Type 1} → statement M
 digits-of-spec =

@@ -1,0 +1,195 @@
+-- The calls as a whole: a refused one changes nothing, why store is refused, and what free space says.
+use Prim.Native.Nat.{ℕ, _≤_, _<_}
+use mathlib.Core.Path.{_≡_, refl, sym, ap, _∙_, subst}
+use mathlib.Core.Bool.{Bool, true, false}
+use mathlib.Core.List.{List, [], _∷_}
+use native.Mathlib.Omega.{arith}
+use lib.Dec.{leb, ltb→lt}
+use lib.IntN.{ℤ, pos, negℤ, negℤ-negℤ}
+use lib.ListN.{length, getD}
+use lib.Signed.{_<ℤ_}
+use borrow.Author.Tests.{eqb-true}
+use Rattle.buffer.specs.Buffer.{overwrite}
+use Rattle.buffer.specs.Lists.{flat}
+use Rattle.buffer.specs.declared.Found.{Found}
+use Rattle.buffer.specs.declared.Found.the-variants.{At, Nowhere}
+use Rattle.buffer.proofs.Bools.{true-not-false}
+use Rattle.place.specs.Place.{fits, isAt, longest, runFrom}
+use Rattle.place.proofs.Place.{longest-fits, longest-most}
+use Rattle.store.specs.Answer.{Reported, Updated, answerNumber, eraseAnswer, eraseAt, fileLine, filesAnswer, freeSpaceAnswer, refusalNumber, reported, retrieveAnswer, retrieveAt, storeAnswer, storeAt, updated}
+use Rattle.store.specs.Directory.{contents, entryAt, fileCount, files, goodDisc, isDiscLength, lookup, runOf, taken}
+use Rattle.store.specs.File.{admission, entered, erased, placeOf, unless, writtenAt}
+use Rattle.store.specs.declared.Admission.{Admission}
+use Rattle.store.specs.declared.Admission.the-variants.{Start, Denied}
+use Rattle.store.specs.declared.Answer.the-variants.{Done, Refused}
+use Rattle.store.specs.declared.Refusal.{Refusal}
+use Rattle.store.specs.declared.Refusal.the-variants.{WrongLength, BadDisc, ShortOutput, BadName, BadSize, NameExists, DirectoryFull, NoRun, NoSuchFile}
+use Rattle.store.proofs.Admissions.{Admitted, Denial, admitted, denied}
+use Rattle.store.proofs.Goodness.{good-disc-is}
+
+-- ---- numbers
+-- the refusals by their numbers
+refusals : List Refusal
+refusals = NoSuchFile ∷ WrongLength ∷ BadDisc ∷ NoSuchFile ∷ ShortOutput ∷ BadName ∷ BadSize ∷ NameExists ∷ DirectoryFull ∷ NoRun ∷ NoSuchFile ∷ []
+
+refusal-at : (r : Refusal) → getD refusals (refusalNumber r) NoSuchFile ≡ r
+unfolding refusals
+refusal-at WrongLength = refl
+refusal-at BadDisc = refl
+refusal-at ShortOutput = refl
+refusal-at BadName = refl
+refusal-at BadSize = refl
+refusal-at NameExists = refl
+refusal-at DirectoryFull = refl
+refusal-at NoRun = refl
+refusal-at NoSuchFile = refl
+
+-- a number stands for one refusal
+pub number-refusal : (r q : Refusal) → answerNumber (Refused r) ≡ answerNumber (Refused q) → r ≡ q
+number-refusal r q e =
+    let p : pos (refusalNumber r) ≡ pos (refusalNumber q) = sym (negℤ-negℤ (pos (refusalNumber r))) ∙ ap negℤ e ∙ negℤ-negℤ (pos (refusalNumber q)) in
+    let n : refusalNumber r ≡ refusalNumber q = cc in
+    sym (refusal-at r) ∙ ap (λ (k : ℕ). getD refusals k NoSuchFile) n ∙ refusal-at q
+
+-- "0 or more is done [..], −n is refusal n"
+pub done-not-below : (n : ℕ) → pos n <ℤ pos 0 → ⊥
+done-not-below n h = let l : n < 0 = ltb→lt n 0 (h .lt) in omega arith
+
+pub refused-below : (r : Refusal) → answerNumber (Refused r) <ℤ pos 0
+refused-below WrongLength = record { lt = tt }
+refused-below BadDisc = record { lt = tt }
+refused-below ShortOutput = record { lt = tt }
+refused-below BadName = record { lt = tt }
+refused-below BadSize = record { lt = tt }
+refused-below NameExists = record { lt = tt }
+refused-below DirectoryFull = record { lt = tt }
+refused-below NoRun = record { lt = tt }
+refused-below NoSuchFile = record { lt = tt }
+
+pub refused-not-done : (r : Refusal) (n : ℕ) → answerNumber (Refused r) ≡ pos n → ⊥
+refused-not-done r n e = done-not-below n (subst (λ (z : ℤ). z <ℤ pos 0) e (refused-below r))
+
+-- ---- the tests that every operation on the disc makes first
+pub checked : {A : Type 0} (disc : List ℕ) (P : A → Type 0) (x y z : A)
+    → (isDiscLength (length disc) ≡ false → P x)
+    → (goodDisc disc ≡ false → P y)
+    → (isDiscLength (length disc) ≡ true → goodDisc disc ≡ true → P z)
+    → P (unless (isDiscLength (length disc)) x (unless (goodDisc disc) y z))
+checked {A} disc P x y z p q r = go (isDiscLength (length disc)) refl (goodDisc disc) refl
+  where
+    go : (a : Bool) → isDiscLength (length disc) ≡ a → (b : Bool) → goodDisc disc ≡ b → P (unless a x (unless b y z))
+    go false e b f = p e
+    go true e false f = q f
+    go true e true f = r e f
+
+-- ---- store and erase by cases: refused, with the disc as it was, or done
+abbrev pub stored : List ℕ → List ℕ → List ℕ → ℕ → List ℕ
+stored disc name bytes s = writtenAt (entered disc name (length bytes) s) (runFrom s (length bytes)) 0 bytes
+
+pub store-cases : (disc name bytes : List ℕ) (P : Updated → Type 0)
+    → ((r : Refusal) → Denial disc name (length bytes) r → P (updated (Refused r) disc))
+    → ((s : ℕ) → isDiscLength (length disc) ≡ true → goodDisc disc ≡ true → Admitted disc name (length bytes) s → P (updated (Done 0) (stored disc name bytes s)))
+    → P (storeAnswer disc name bytes)
+unfolding storeAnswer
+store-cases disc name bytes P refused done = checked disc P _ _ _ (refused WrongLength) (refused BadDisc) (go (admission disc name (length bytes)) refl)
+  where
+    go : (a : Admission) → admission disc name (length bytes) ≡ a → isDiscLength (length disc) ≡ true → goodDisc disc ≡ true → P (storeAt a disc name bytes)
+    go (Denied r) e l g = refused r (denied disc name (length bytes) r e)
+    go (Start s) e l g = done s l g (admitted disc name (length bytes) s e)
+
+pub erase-cases : (disc name : List ℕ) (P : Updated → Type 0)
+    → ((r : Refusal) → P (updated (Refused r) disc))
+    → ((i : ℕ) → goodDisc disc ≡ true → lookup disc name ≡ At i → P (updated (Done 0) (erased disc i)))
+    → P (eraseAnswer disc name)
+unfolding eraseAnswer
+erase-cases disc name P refused done = checked disc P _ _ _ (λ e. refused WrongLength) (λ e. refused BadDisc) (λ l g. go (lookup disc name) refl g)
+  where
+    go : (f : Found) → lookup disc name ≡ f → goodDisc disc ≡ true → P (eraseAt f disc)
+    go Nowhere e g = refused NoSuchFile
+    go (At i) e g = done i g e
+
+-- ---- Document 01: "−n is refusal n with both buffers and the output unchanged"
+pub store-refused : (disc name bytes : List ℕ) → storeAnswer disc name bytes .number <ℤ pos 0 → storeAnswer disc name bytes .disc ≡ disc
+store-refused disc name bytes = store-cases disc name bytes (λ u. u .number <ℤ pos 0 → u .disc ≡ disc) (λ r d h. refl) (λ s l g a h. absurd (done-not-below 0 h))
+
+pub erase-refused : (disc name : List ℕ) → eraseAnswer disc name .number <ℤ pos 0 → eraseAnswer disc name .disc ≡ disc
+erase-refused disc name = erase-cases disc name (λ u. u .number <ℤ pos 0 → u .disc ≡ disc) (λ r h. refl) (λ i g e h. absurd (done-not-below 0 h))
+
+abbrev Unwritten : List ℕ → Reported → Type 0
+Unwritten out u = u .number <ℤ pos 0 → u .out ≡ out
+
+unwritten : (fit : Bool) (n : ℕ) (out after : List ℕ) → Unwritten out (unless fit (reported (Refused ShortOutput) out) (reported (Done n) after))
+unwritten true n out after h = absurd (done-not-below n h)
+unwritten false n out after h = refl
+
+pub retrieve-refused : (disc name out : List ℕ) → retrieveAnswer disc name out .number <ℤ pos 0 → retrieveAnswer disc name out .out ≡ out
+unfolding retrieveAnswer
+retrieve-refused disc name out = checked disc (Unwritten out) _ _ _ (λ e h. refl) (λ e h. refl) (λ e f. go (lookup disc name))
+  where
+    go : (f : Found) → Unwritten out (retrieveAt f disc out)
+    go Nowhere h = refl
+    go (At i) h = unwritten (leb (entryAt disc i .len) (length out)) (entryAt disc i .len) out (overwrite out 0 (contents disc (runOf (entryAt disc i)))) h
+
+pub files-refused : (disc out : List ℕ) → filesAnswer disc out .number <ℤ pos 0 → filesAnswer disc out .out ≡ out
+unfolding filesAnswer
+files-refused disc out =
+    let text : List ℕ = flat fileLine (files disc) in
+    checked disc (Unwritten out) _ _ _ (λ e h. refl) (λ e h. refl) (λ e f. unwritten (leb (length text) (length out)) (length text) out (overwrite out 0 text))
+
+-- ---- each refusal of store only where it says so
+pub store-refused-for : (disc name bytes : List ℕ) (r : Refusal) → storeAnswer disc name bytes .number ≡ answerNumber (Refused r) → Denial disc name (length bytes) r
+store-refused-for disc name bytes r =
+    store-cases disc name bytes (λ u. u .number ≡ answerNumber (Refused r) → Denial disc name (length bytes) r)
+    (λ q d h. subst (λ (x : Refusal). Denial disc name (length bytes) x) (number-refusal q r h) d)
+    (λ s l g a h. absurd (refused-not-done r 0 (sym h)))
+
+-- a number below 0 is one of these refusals
+pub store-refused-by : (disc name bytes : List ℕ) → storeAnswer disc name bytes .number <ℤ pos 0 → (r : Refusal) × (storeAnswer disc name bytes .number ≡ answerNumber (Refused r)) × Denial disc name (length bytes) r
+store-refused-by disc name bytes =
+    store-cases disc name bytes (λ u. u .number <ℤ pos 0 → (r : Refusal) × (u .number ≡ answerNumber (Refused r)) × Denial disc name (length bytes) r)
+    (λ r d h. (r, refl, d))
+    (λ s l g a h. absurd (done-not-below 0 h))
+
+-- on a good disc of the right length nothing but the admission is asked
+pub store-admission : (disc name bytes : List ℕ) → isDiscLength (length disc) ≡ true → goodDisc disc ≡ true → storeAnswer disc name bytes ≡ storeAt (admission disc name (length bytes)) disc name bytes
+unfolding storeAnswer
+store-admission disc name bytes l g = rw (l, g)
+
+-- refusal 8 only with ten files, refusal 9 only where no start fits
+pub store-refused-full : (disc name bytes : List ℕ) → goodDisc disc ≡ true → storeAnswer disc name bytes .number ≡ negℤ (pos 8) → fileCount disc ≡ 10
+store-refused-full disc name bytes good e =
+    let full : 10 ≤ fileCount disc = store-refused-for disc name bytes DirectoryFull e in
+    omega (arith, good-disc-is disc good .few)
+
+pub store-refused-no-run : (disc name bytes : List ℕ) → storeAnswer disc name bytes .number ≡ negℤ (pos 9) → (s : ℕ) → fits (taken disc) 161 (length disc) (length bytes) s ≡ false
+store-refused-no-run disc name bytes e = store-refused-for disc name bytes NoRun e
+
+-- ---- free space
+module _ (disc : List ℕ) (n : ℕ) where
+  free-space-is : freeSpaceAnswer disc ≡ pos n → (isDiscLength (length disc) ≡ true) × (longest (taken disc) 161 (length disc) ≡ n)
+  unfolding freeSpaceAnswer
+  free-space-is =
+      checked disc (λ z. z ≡ pos n → (isDiscLength (length disc) ≡ true) × (longest (taken disc) 161 (length disc) ≡ n)) _ _ _
+      (λ e h. absurd (refused-not-done WrongLength n h))
+      (λ e h. absurd (refused-not-done BadDisc n h))
+      (λ e f h. (e, cc))
+
+  -- a file of that length has a place
+  pub free-space-fits : freeSpaceAnswer disc ≡ pos n → 0 < n → (s : ℕ) × (placeOf disc n ≡ At s)
+  unfolding placeOf
+  free-space-fits e h = go (placeOf disc n) refl
+    where
+      some : isAt (placeOf disc n) ≡ true
+      some = subst (λ (k : ℕ). 0 < k → isAt (placeOf disc k) ≡ true) (free-space-is e .1) (longest-fits (taken disc) 161 (length disc)) h
+
+      go : (f : Found) → placeOf disc n ≡ f → (s : ℕ) × (placeOf disc n ≡ At s)
+      go (At s) q = (s, q)
+      go Nowhere q = absurd (true-not-false some (ap isAt q))
+
+  -- no longer one has
+  pub free-space-most : freeSpaceAnswer disc ≡ pos n → (m : ℕ) → n < m → placeOf disc m ≡ Nowhere
+  unfolding placeOf
+  free-space-most e m h =
+      let f = free-space-is e in
+      let l : length disc ≡ 1024 = eqb-true (length disc) 1024 (f .0) in
+      longest-most (taken disc) 161 (length disc) (omega arith) m (omega (arith, f .1))

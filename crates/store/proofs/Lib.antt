@@ -1,0 +1,13 @@
+pub mod Admissions
+pub mod Calls
+pub mod Changes
+pub mod Contents
+pub mod Effects
+pub mod Entries
+pub mod Fields
+pub mod Goodness
+pub mod Invariant
+pub mod LookupChanges
+pub mod Lookups
+pub mod Names
+pub mod Steps

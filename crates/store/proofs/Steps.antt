@@ -1,0 +1,26 @@
+-- What the steps of the code come to: entering, erasing, a line of the listing.
+use Prim.Native.Nat.{ℕ, _+_, _*_, _-_, _≤_, _<_}
+use mathlib.Core.Path.{_≡_, _∙_}
+use mathlib.Core.List.{List, [], _∷_, _++_, append-assoc}
+use native.Mathlib.Omega.{arith}
+use lib.ListN.{length, set, replicate}
+use Rattle.buffer.specs.Buffer.{part, overwrite}
+use Rattle.buffer.proofs.Buffer.{overwrite-joined, overwrite-set}
+use Rattle.buffer.proofs.Parts.{part-length}
+use Rattle.store.specs.Directory.{entryBytes, fileCount}
+use Rattle.store.specs.File.{entered, erased, newEntry}
+
+module _ (d : List ℕ) (h : 161 ≤ length d) where
+  pub entered-steps : (p name : List ℕ) (n s count : ℕ) → count ≡ fileCount d → length p ≡ length d → p ≡ overwrite d (count * 16) (entryBytes (newEntry name n s)) → set p 160 (count + 1) ≡ entered d name n s
+  unfolding entered
+  entered-steps p name n s count q l e = overwrite-set p 160 (count + 1) (omega arith) ∙ rw (e, q)
+
+  pub erased-steps : (m z : List ℕ) (i last : ℕ) → last ≡ fileCount d - 1 → i ≤ last → last < 10 → length z ≡ length d → m ≡ overwrite d (i * 16) (part d (i * 16 + 16) ((last - i) * 16)) → z ≡ overwrite m (last * 16) (replicate 16 0) → set z 160 last ≡ erased d i
+  unfolding erased
+  erased-steps m z i last q a b l e f =
+      let n : length (part d (i * 16 + 16) ((last - i) * 16)) ≡ (last - i) * 16 = part-length d (i * 16 + 16) ((last - i) * 16) (omega arith) in
+      overwrite-set z 160 last (omega arith)
+      ∙ rw (f, e, overwrite-joined d (part d (i * 16 + 16) ((last - i) * 16)) (replicate 16 0) (i * 16) (last * 16) (omega arith) (omega arith), q)
+
+pub line-joined : (t a b c d : List ℕ) → (((t ++ a) ++ b) ++ c) ++ d ≡ t ++ (((a ++ b) ++ c) ++ d)
+line-joined t a b c d = simp append-assoc

@@ -1,0 +1,79 @@
+-- The loop: the first i runs are those of the first i entries.
+use Prim.Native.Nat.{ℕ, _≤_, _-_}
+use mathlib.Core.Path.{_≡_, refl, sym, ap, subst, _∙_}
+use lib.ListN.{length, take, length-set}
+use Rattle.buffer.specs.Lists.{tab}
+use Rattle.buffer.proofs.Lists.{map-tab, tab-next}
+use Rattle.store.specs.Directory.{entryAt, fileCount, runOf}
+use native.Mathlib.Omega.{arith}
+use borrow.Author.Needs.{needs}
+use Rattle.store.proofs.directory.taken_runs.Statement.{statement}
+use Rattle.store.proofs.directory.taken_runs.Tie as tie
+
+abbrev Inv-loop : tie.InvT-loop
+Inv-loop disc count runs₀ i₀ runs i = (i ≤ count) × (length runs ≡ 36) × (take i runs ≡ tab (λ k. runOf (entryAt disc k)) i)
+
+abbrev μ-loop : tie.MeasureT-loop
+μ-loop disc count runs₀ i₀ runs i = count - i
+
+sizes : (c : tie.After-no-runs Inv-loop μ-loop) → length (c .no-runs .result) ≡ 36
+sizes c = search needs
+
+file-count-requires : tie.Need-file-count-requires Inv-loop μ-loop
+file-count-requires c κs = search needs
+
+no-runs-requires : tie.Need-no-runs-requires Inv-loop μ-loop
+no-runs-requires c κs = search needs
+
+loop-holds : tie.Need-loop-holds Inv-loop μ-loop
+unfolding tab
+loop-holds c = (omega arith, sizes c, refl)
+
+entry-at-requires : tie.Need-entry-at-requires Inv-loop μ-loop
+entry-at-requires c κs = search needs
+
+run-of-requires : tie.Need-run-of-requires Inv-loop μ-loop
+run-of-requires c κs = search needs
+
+mul-runs : tie.Need-mul-runs Inv-loop μ-loop
+mul-runs c = omega arith
+
+array-set-from-runs : tie.Need-array-set-from-runs Inv-loop μ-loop
+array-set-from-runs c = omega arith
+
+add-i : tie.Need-add-i Inv-loop μ-loop
+add-i c = omega arith
+
+loop-less : tie.Need-loop-less Inv-loop μ-loop
+loop-less c = omega arith
+
+loop-again : tie.Need-loop-again Inv-loop μ-loop
+loop-again c =
+    let l = c .before .before .before in
+    let d = l .before .before .before .before .args .disc .now in
+    (omega arith, simp length-set (l .loop .inv .1), tab-next (λ k. runOf (entryAt d k)) (l .loop .runs) (l .loop .i) (c .run-of .result) (omega arith) (l .loop .inv .2) (c .run-of .ensures ∙ ap runOf (c .before .entry-at .ensures)))
+
+returns : tie.Need-returns Inv-loop μ-loop
+returns c =
+    let l = c .before in
+    let d = l .before .before .before .before .args .disc .now in
+    let q : l .loop .i ≡ fileCount d = omega arith in
+    rw (← q) (l .loop .inv .2 ∙ sym (map-tab runOf (entryAt d) (l .loop .i)))
+
+pub taken-runs-spec : {M : Type 1} → statement M
+taken-runs-spec =
+    tie.close
+    (tie.spec
+    Inv-loop
+    μ-loop
+    file-count-requires
+    no-runs-requires
+    loop-holds
+    entry-at-requires
+    run-of-requires
+    mul-runs
+    array-set-from-runs
+    add-i
+    loop-less
+    loop-again
+    returns)

@@ -1,0 +1,82 @@
+-- The loop: the first i bytes are moved.
+use Prim.Native.Nat.{ℕ, _+_, _≤_, _-_}
+use mathlib.Core.Path.{_≡_, refl, sym, ap, _∙_}
+use mathlib.Core.List.{List}
+use lib.ListN.{length, getD, set, length-set}
+use lib.Seq.{paste, paste-zero}
+use Rattle.buffer.specs.Buffer.{part}
+use Rattle.buffer.proofs.Buffer.{moved-next, overwrite-next, overwrite-end}
+use Rattle.buffer.proofs.Parts.{part-length}
+use native.Mathlib.Omega.{arith}
+use borrow.Author.Needs.{needs}
+use Rattle.store.proofs.file.move_up.Statement.{statement}
+use Rattle.store.proofs.file.move_up.Tie as tie
+
+abbrev Inv-loop : tie.InvT-loop
+Inv-loop disc₀ at n i₀ disc i = (i ≤ n) × (length disc ≡ length disc₀) × (disc ≡ paste disc₀ at (part disc₀ (at + 16) n) i)
+
+abbrev μ-loop : tie.MeasureT-loop
+μ-loop disc₀ at n i₀ disc i = n - i
+
+loop-holds : tie.Need-loop-holds Inv-loop μ-loop
+loop-holds c = (omega arith, refl, paste-zero (c .args .disc .now) (c .args .at) (part (c .args .disc .now) (c .args .at + 16) (c .args .n)))
+
+add-disc : tie.Need-add-disc Inv-loop μ-loop
+add-disc c = omega arith
+
+add-disc-2 : tie.Need-add-disc-2 Inv-loop μ-loop
+add-disc-2 c = omega arith
+
+slice-read-disc : tie.Need-slice-read-disc Inv-loop μ-loop
+slice-read-disc c = omega arith
+
+add-disc-3 : tie.Need-add-disc-3 Inv-loop μ-loop
+add-disc-3 c = omega arith
+
+slice-write-disc : tie.Need-slice-write-disc Inv-loop μ-loop
+slice-write-disc c = omega arith
+
+add-i : tie.Need-add-i Inv-loop μ-loop
+add-i c = omega arith
+
+loop-less : tie.Need-loop-less Inv-loop μ-loop
+loop-less c = omega arith
+
+loop-again : tie.Need-loop-again Inv-loop μ-loop
+loop-again c =
+    let l = c .before .before in
+    let a = l .before .args in
+    let d = a .disc .now in
+    let s = part d (a .at + 16) (a .n) in
+    let z : length s ≡ a .n = part-length d (a .at + 16) (a .n) (omega arith) in
+    let r : getD (l .loop .disc) (a .at + 16 + l .loop .i) 0 ≡ getD s (l .loop .i) 0 = ap (λ (x : List ℕ). getD x (a .at + 16 + l .loop .i) 0) (l .loop .inv .2) ∙ moved-next d (a .at) 16 (a .n) (l .loop .i) (omega arith) (omega arith) in
+    (omega arith, simp length-set (l .loop .inv .1), ap (λ (x : ℕ). set (l .loop .disc) (a .at + l .loop .i) x) r ∙ overwrite-next d s (l .loop .disc) (a .at) (l .loop .i) (omega arith) (omega arith) (l .loop .inv .2))
+
+same-length : tie.Need-same-length Inv-loop μ-loop
+same-length c = search needs
+
+returns : tie.Need-returns Inv-loop μ-loop
+returns c =
+    let l = c .before in
+    let a = l .before .args in
+    let d = a .disc .now in
+    let z : length (part d (a .at + 16) (a .n)) ≡ a .n = part-length d (a .at + 16) (a .n) (omega arith) in
+    overwrite-end d (part d (a .at + 16) (a .n)) (l .loop .disc) (a .at) (l .loop .i) (omega arith) (l .loop .inv .2)
+
+pub move-up-spec : {M : Type 1} → statement M
+move-up-spec =
+    tie.close
+    (tie.spec
+    Inv-loop
+    μ-loop
+    loop-holds
+    add-disc
+    add-disc-2
+    slice-read-disc
+    add-disc-3
+    slice-write-disc
+    add-i
+    loop-less
+    loop-again
+    same-length
+    returns)

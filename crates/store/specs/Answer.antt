@@ -1,0 +1,111 @@
+-- What the operations on the disc answer and leave, for every disc, name and buffer.
+use Prim.Native.Nat.{ℕ}
+use mathlib.Core.Bool.{Bool}
+use mathlib.Core.List.{List, [], _∷_, _++_}
+use lib.Dec.{leb}
+use lib.IntN.{ℤ, pos, negℤ}
+use lib.ListN.{length, getD}
+use Rattle.buffer.specs.Buffer.{overwrite}
+use Rattle.buffer.specs.Lists.{flat}
+use Rattle.buffer.specs.declared.Found.{Found}
+use Rattle.buffer.specs.declared.Found.the-variants.{At, Nowhere}
+use Rattle.decimal.specs.Decimal.{decimal}
+use Rattle.place.specs.Place.{longest, runFrom}
+use Rattle.store.specs.Directory.{contents, entryAt, files, goodDisc, isDiscLength, lookup, runOf, taken}
+use Rattle.store.specs.File.{admission, entered, erased, unless, writtenAt}
+use Rattle.store.specs.Name.{trimmed}
+use Rattle.store.specs.declared.Admission.{Admission}
+use Rattle.store.specs.declared.Admission.the-variants.{Start, Denied}
+use Rattle.store.specs.declared.Answer.{Answer}
+use Rattle.store.specs.declared.Answer.the-variants.{Done, Refused}
+use Rattle.store.specs.declared.Entry.{Entry}
+use Rattle.store.specs.declared.Refusal.{Refusal}
+use Rattle.store.specs.declared.Refusal.the-variants.{WrongLength, BadDisc, ShortOutput, BadName, BadSize, NameExists, DirectoryFull, NoRun, NoSuchFile}
+
+-- ---- document 01's numbers
+abbrev pub refusalNumber : Refusal → ℕ
+refusalNumber WrongLength = 1
+refusalNumber BadDisc = 2
+refusalNumber ShortOutput = 4
+refusalNumber BadName = 5
+refusalNumber BadSize = 6
+refusalNumber NameExists = 7
+refusalNumber DirectoryFull = 8
+refusalNumber NoRun = 9
+refusalNumber NoSuchFile = 10
+
+-- Document 01: "0 or more is done (0 where nothing else is said), −n is refusal n"
+abbrev pub answerNumber : Answer → ℤ
+answerNumber (Done n) = pos n
+answerNumber (Refused r) = negℤ (pos (refusalNumber r))
+
+-- ---- what a call answers and leaves: the disc of one that may change it, the output of one that may write it
+pub record Updated : Type 0 where
+  pub number : ℤ
+  pub disc : List ℕ
+
+pub record Reported : Type 0 where
+  pub number : ℤ
+  pub out : List ℕ
+
+abbrev pub updated : Answer → List ℕ → Updated
+updated a disc = record { number = answerNumber a; disc = disc }
+
+abbrev pub reported : Answer → List ℕ → Reported
+reported a out = record { number = answerNumber a; out = out }
+
+-- ---- store
+abbrev pub storeAt : Admission → List ℕ → List ℕ → List ℕ → Updated
+storeAt (Denied r) disc name bytes = updated (Refused r) disc
+storeAt (Start s) disc name bytes = updated (Done 0) (writtenAt (entered disc name (length bytes) s) (runFrom s (length bytes)) 0 bytes)
+
+unfoldable pub storeAnswer : List ℕ → List ℕ → List ℕ → Updated
+storeAnswer disc name bytes =
+    unless (isDiscLength (length disc)) (updated (Refused WrongLength) disc)
+    (unless (goodDisc disc) (updated (Refused BadDisc) disc)
+    (storeAt (admission disc name (length bytes)) disc name bytes))
+
+-- ---- retrieve: "10 no such file, tried before 4. Returns the length, its bytes written."
+abbrev pub retrieveFile : Entry → List ℕ → List ℕ → Reported
+retrieveFile e disc out = unless (leb (e .len) (length out)) (reported (Refused ShortOutput) out) (reported (Done (e .len)) (overwrite out 0 (contents disc (runOf e))))
+
+abbrev pub retrieveAt : Found → List ℕ → List ℕ → Reported
+retrieveAt Nowhere disc out = reported (Refused NoSuchFile) out
+retrieveAt (At i) disc out = retrieveFile (entryAt disc i) disc out
+
+unfoldable pub retrieveAnswer : List ℕ → List ℕ → List ℕ → Reported
+retrieveAnswer disc name out =
+    unless (isDiscLength (length disc)) (reported (Refused WrongLength) out)
+    (unless (goodDisc disc) (reported (Refused BadDisc) out)
+    (retrieveAt (lookup disc name) disc out))
+
+-- ---- erase, the disc's part: whether a process uses the file comes from above
+abbrev pub eraseAt : Found → List ℕ → Updated
+eraseAt Nowhere disc = updated (Refused NoSuchFile) disc
+eraseAt (At i) disc = updated (Done 0) (erased disc i)
+
+unfoldable pub eraseAnswer : List ℕ → List ℕ → Updated
+eraseAnswer disc name =
+    unless (isDiscLength (length disc)) (updated (Refused WrongLength) disc)
+    (unless (goodDisc disc) (updated (Refused BadDisc) disc)
+    (eraseAt (lookup disc name) disc))
+
+-- ---- files: "a line per file, name, space, length, newline; returns the bytes written"
+unfoldable pub fileLine : Entry → List ℕ
+fileLine e = trimmed (e .name) ++ (32 ∷ []) ++ decimal (e .len) ++ (10 ∷ [])
+
+abbrev pub textAnswer : List ℕ → List ℕ → Reported
+textAnswer text out = unless (leb (length text) (length out)) (reported (Refused ShortOutput) out) (reported (Done (length text)) (overwrite out 0 text))
+
+unfoldable pub filesAnswer : List ℕ → List ℕ → Reported
+filesAnswer disc out =
+    unless (isDiscLength (length disc)) (reported (Refused WrongLength) out)
+    (unless (goodDisc disc) (reported (Refused BadDisc) out)
+    (textAnswer (flat fileLine (files disc)) out))
+
+-- ---- free space: "the longest free run, however many files there are"
+unfoldable pub freeSpaceAnswer : List ℕ → ℤ
+freeSpaceAnswer disc =
+    unless (isDiscLength (length disc)) (answerNumber (Refused WrongLength))
+    (unless (goodDisc disc) (answerNumber (Refused BadDisc))
+    (answerNumber (Done (longest (taken disc) 161 (length disc)))))

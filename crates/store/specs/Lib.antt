@@ -1,0 +1,4 @@
+pub mod Name
+pub mod Directory
+pub mod File
+pub mod Answer

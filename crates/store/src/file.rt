@@ -1,0 +1,100 @@
+// What becomes of files: a new one enters, one goes, bytes are written and read inside one.
+use buffer::Found;
+use crate::Admission;
+use crate::Entry;
+use crate::Refusal;
+use place::Run;
+ghost use mathlib.Core.Path.{_≡_};
+ghost use Prim.Native.Nat.{_+_, _<_, _≤_};
+ghost use lib.ListN.{length};
+ghost use Rattle.buffer.specs.Buffer.{overwrite, part};
+ghost use Rattle.store.specs.Directory.{Readable, fileCount};
+ghost use Rattle.store.specs.File.{admission, entered, erased, readAt, writtenAt};
+
+// Whether a new file of n bytes is admitted under this name, and where it goes.
+pub fn admit(disc: &[u8], name: &[u8], n: usize) -> Admission
+    requires { ⌜ Readable (now disc) ⌝ }
+    ensures { λ r. ⌜ r ≡ admission (now (disc .entry)) (now (name .entry)) n ⌝ }
+{
+    if !crate::name::is_good_name(name) {
+        return Admission::Denied(Refusal::BadName);
+    }
+    if n < 1 {
+        return Admission::Denied(Refusal::BadSize);
+    }
+    if disc.len() - 161 < n {
+        return Admission::Denied(Refusal::BadSize);
+    }
+    let count = crate::directory::file_count(disc);
+    if 10 <= count {
+        return Admission::Denied(Refusal::DirectoryFull);
+    }
+    if let Found::At(_) = crate::directory::find(disc, name) {
+        return Admission::Denied(Refusal::NameExists);
+    }
+    let runs = crate::directory::taken_runs(disc);
+    match place::find_place(runs, count, 161, disc.len(), n) {
+        Found::At(start) => Admission::Start(start),
+        Found::Nowhere => Admission::Denied(Refusal::NoRun),
+    }
+}
+
+// Enters a file of n bytes at start. Its data bytes stay as found.
+pub fn enter(disc: &mut [u8], name: &[u8], n: usize, start: usize)
+    requires { ⌜ Readable (now disc) ⌝ }
+    requires { ⌜ (fileCount (now disc) < 10) × (length (now name) ≤ 12) × (n < 65536) × (start < 65536) ⌝ }
+    ensures { λ _. ⌜ now (disc .exit) ≡ entered (now (disc .entry)) (now (name .entry)) n start ⌝ }
+{
+    let count = crate::directory::file_count(disc);
+    let field = crate::name::pad(name);
+    let entry = Entry {
+        name: field,
+        start: start as u16,
+        len: n as u16,
+    };
+    crate::directory::put_entry(disc, count, entry);
+    disc[160] = (count + 1) as u8;
+}
+
+// Moves the n bytes behind at + 16 up by one entry.
+fn move_up(disc: &mut [u8], at: usize, n: usize)
+    requires { ⌜ at + 16 + n ≤ length (now disc) ⌝ }
+    ensures { λ _. ⌜ now (disc .exit) ≡ overwrite (now (disc .entry)) at (part (now (disc .entry)) (at + 16) n) ⌝ }
+{
+    let mut i: usize = 0;
+    while i < n {
+        disc[at + i] = disc[at + 16 + i];
+        i += 1;
+    }
+}
+
+// Document 01: "Later entries move up, the vacated entry becomes zero, data bytes remain."
+pub fn erase_entry(disc: &mut [u8], i: usize)
+    requires { ⌜ Readable (now disc) ⌝ }
+    requires { ⌜ i < fileCount (now disc) ⌝ }
+    ensures { λ _. ⌜ now (disc .exit) ≡ erased (now (disc .entry)) i ⌝ }
+{
+    let last = crate::directory::file_count(disc) - 1;
+    let zeros = [0u8; 16];
+    move_up(disc, i * 16, (last - i) * 16);
+    buffer::bytes::overwrite_at(disc, last * 16, &zeros);
+    disc[160] = last as u8;
+}
+
+// Writes the bytes at an offset of a file.
+pub fn write_at(disc: &mut [u8], run: Run, offset: usize, bytes: &[u8])
+    requires { ⌜ (offset + length (now bytes) ≤ run .len) × (run .start + run .len ≤ length (now disc)) ⌝ }
+    ensures { λ _. ⌜ now (disc .exit) ≡ writtenAt (now (disc .entry)) run offset (now (bytes .entry)) ⌝ }
+{
+    let start = run.start as usize;
+    buffer::bytes::overwrite_at(disc, start + offset, bytes);
+}
+
+// Fills out with the bytes at an offset of a file.
+pub fn read_at(disc: &[u8], run: Run, offset: usize, out: &mut [u8])
+    requires { ⌜ (offset + length (now out) ≤ run .len) × (run .start + run .len ≤ length (now disc)) ⌝ }
+    ensures { λ _. ⌜ now (out .exit) ≡ readAt (now (disc .entry)) run offset (length (now (out .entry))) ⌝ }
+{
+    let start = run.start as usize;
+    buffer::bytes::copy_part(out, disc, start + offset);
+}

@@ -1,0 +1,81 @@
+// File names: as they are given, and as the directory holds them.
+use buffer::text::Text;
+ghost use mathlib.Core.Path.{_≡_};
+ghost use mathlib.Core.List.{_++_};
+ghost use Prim.Native.Nat.{_+_, _≤_};
+ghost use lib.ListN.{length, take};
+ghost use Rattle.buffer.specs.Text.{written};
+ghost use Rattle.store.specs.Name.{goodField, goodName, isNameByte, padded, trimmed};
+
+fn is_name_byte(b: u8) -> bool
+    ensures { λ r. ⌜ r ≡ isNameByte b ⌝ }
+{
+    if 33 <= b {
+        return b <= 126;
+    }
+    false
+}
+
+pub fn is_good_name(name: &[u8]) -> bool
+    ensures { λ r. ⌜ r ≡ goodName (now (name .entry)) ⌝ }
+{
+    if name.len() < 1 {
+        return false;
+    }
+    if 11 < name.len() {
+        return false;
+    }
+    let mut i = 0;
+    while i < name.len() {
+        let b = name[i];
+        if !is_name_byte(b) {
+            return false;
+        }
+        i += 1;
+    }
+    true
+}
+
+// Document 01: "zero-filled".
+pub fn pad(name: &[u8]) -> [u8; 12]
+    requires { ⌜ length (now name) ≤ 12 ⌝ }
+    ensures { λ r. ⌜ r ≡ padded (now (name .entry)) ⌝ }
+{
+    let mut field = [0u8; 12];
+    buffer::bytes::overwrite_at(&mut field, 0, name);
+    field
+}
+
+// How many bytes of the field stand before its first zero.
+pub fn trimmed_length(field: [u8; 12]) -> usize
+    ensures { λ r. ⌜ (r ≤ 12) × (take r field ≡ trimmed field) ⌝ }
+{
+    let mut n: usize = 0;
+    while n < 12 {
+        if field[n] == 0 {
+            return n;
+        }
+        n += 1;
+    }
+    n
+}
+
+pub fn append_name(text: Text, field: [u8; 12]) -> Text
+    requires { ⌜ text .len + 12 ≤ 256 ⌝ }
+    ensures { λ r. ⌜ (r .len ≤ text .len + 12) × (written r ≡ written text ++ trimmed field) ⌝ }
+{
+    let n = trimmed_length(field);
+    buffer::text::append(text, &field[..n])
+}
+
+pub fn is_good_field(field: [u8; 12]) -> bool
+    ensures { λ r. ⌜ r ≡ goodField field ⌝ }
+{
+    let n = trimmed_length(field);
+    let name = &field[..n];
+    if !is_good_name(name) {
+        return false;
+    }
+    let whole = pad(name);
+    buffer::bytes::same_bytes(&field, &whole)
+}

@@ -1,0 +1,145 @@
+// The operations on the disc alone, for every disc, name and buffer. A refused one writes nothing.
+use buffer::Found;
+use buffer::text::Text;
+use crate::Admission;
+use crate::Answer;
+use crate::Entry;
+use crate::Refusal;
+use place::Run;
+ghost use mathlib.Core.Path.{_≡_};
+ghost use mathlib.Core.List.{_++_};
+ghost use Prim.Native.Nat.{_+_, _*_, _≤_};
+ghost use lib.ListN.{length};
+ghost use Rattle.buffer.specs.Lists.{flat};
+ghost use Rattle.buffer.specs.Text.{written};
+ghost use Rattle.store.specs.Answer.{answerNumber, eraseAnswer, fileLine, filesAnswer, freeSpaceAnswer, reported, retrieveAnswer, storeAnswer, updated};
+ghost use Rattle.store.specs.Directory.{Readable, files};
+
+pub fn store(disc: &mut [u8], name: &[u8], data: &[u8]) -> Answer
+    ensures { λ r. ⌜ updated r (now (disc .exit)) ≡ storeAnswer (now (disc .entry)) (now (name .entry)) (now («data» .entry)) ⌝ }
+{
+    if !crate::good::is_disc_length(disc.len()) {
+        return Answer::Refused(Refusal::WrongLength);
+    }
+    if !crate::good::is_good_disc(disc) {
+        return Answer::Refused(Refusal::BadDisc);
+    }
+    match crate::file::admit(disc, name, data.len()) {
+        Admission::Denied(refusal) => Answer::Refused(refusal),
+        Admission::Start(start) => {
+            crate::file::enter(disc, name, data.len(), start);
+            let run = Run {
+                start: start as u16,
+                len: data.len() as u16,
+            };
+            crate::file::write_at(disc, run, 0, data);
+            Answer::Done(0)
+        }
+    }
+}
+
+pub fn retrieve(disc: &[u8], name: &[u8], out: &mut [u8]) -> Answer
+    ensures { λ r. ⌜ reported r (now (out .exit)) ≡ retrieveAnswer (now (disc .entry)) (now (name .entry)) (now (out .entry)) ⌝ }
+{
+    if !crate::good::is_disc_length(disc.len()) {
+        return Answer::Refused(Refusal::WrongLength);
+    }
+    if !crate::good::is_good_disc(disc) {
+        return Answer::Refused(Refusal::BadDisc);
+    }
+    match crate::directory::find(disc, name) {
+        Found::Nowhere => Answer::Refused(Refusal::NoSuchFile),
+        Found::At(i) => {
+            let entry = crate::directory::entry_at(disc, i);
+            let len = entry.len as usize;
+            let start = entry.start as usize;
+            if out.len() < len {
+                return Answer::Refused(Refusal::ShortOutput);
+            }
+            let end = start + len;
+            buffer::bytes::overwrite_at(out, 0, &disc[start..end]);
+            Answer::Done(entry.len)
+        }
+    }
+}
+
+// The disc's part of erase: whether a process uses the file is asked above.
+pub fn erase(disc: &mut [u8], name: &[u8]) -> Answer
+    ensures { λ r. ⌜ updated r (now (disc .exit)) ≡ eraseAnswer (now (disc .entry)) (now (name .entry)) ⌝ }
+{
+    if !crate::good::is_disc_length(disc.len()) {
+        return Answer::Refused(Refusal::WrongLength);
+    }
+    if !crate::good::is_good_disc(disc) {
+        return Answer::Refused(Refusal::BadDisc);
+    }
+    match crate::directory::find(disc, name) {
+        Found::Nowhere => Answer::Refused(Refusal::NoSuchFile),
+        Found::At(i) => {
+            crate::file::erase_entry(disc, i);
+            Answer::Done(0)
+        }
+    }
+}
+
+// Document 01: "a line per file, name, space, length, newline".
+fn with_line(text: Text, entry: Entry) -> Text
+    requires { ⌜ text .len + 24 ≤ 256 ⌝ }
+    ensures { λ r. ⌜ (r .len ≤ text .len + 24) × (written r ≡ written text ++ fileLine entry) ⌝ }
+{
+    let name = entry.name;
+    let named = crate::name::append_name(text, name);
+    let spaced = buffer::text::append(named, b" ");
+    let counted = decimal::append_decimal(spaced, entry.len as u32);
+    buffer::text::append(counted, b"\n")
+}
+
+fn files_text(disc: &[u8]) -> Text
+    requires { ⌜ Readable (now disc) ⌝ }
+    ensures { λ r. ⌜ (r .len ≤ 240) × (written r ≡ flat fileLine (files (now (disc .entry)))) ⌝ }
+{
+    let count = crate::directory::file_count(disc);
+    let mut text = buffer::text::empty_text();
+    let mut i: usize = 0;
+    while i < count {
+        let entry = crate::directory::entry_at(disc, i);
+        text = with_line(text, entry);
+        i += 1;
+    }
+    text
+}
+
+pub fn files(disc: &[u8], out: &mut [u8]) -> Answer
+    ensures { λ r. ⌜ reported r (now (out .exit)) ≡ filesAnswer (now (disc .entry)) (now (out .entry)) ⌝ }
+{
+    if !crate::good::is_disc_length(disc.len()) {
+        return Answer::Refused(Refusal::WrongLength);
+    }
+    if !crate::good::is_good_disc(disc) {
+        return Answer::Refused(Refusal::BadDisc);
+    }
+    let text = files_text(disc);
+    let len = text.len;
+    if out.len() < len {
+        return Answer::Refused(Refusal::ShortOutput);
+    }
+    let bytes = text.bytes;
+    buffer::bytes::overwrite_at(out, 0, &bytes[..len]);
+    Answer::Done(len as u16)
+}
+
+// Document 01: "Free space: the longest free run, however many files there are."
+pub fn free_space(disc: &[u8]) -> Answer
+    ensures { λ r. ⌜ answerNumber r ≡ freeSpaceAnswer (now (disc .entry)) ⌝ }
+{
+    if !crate::good::is_disc_length(disc.len()) {
+        return Answer::Refused(Refusal::WrongLength);
+    }
+    if !crate::good::is_good_disc(disc) {
+        return Answer::Refused(Refusal::BadDisc);
+    }
+    let count = crate::directory::file_count(disc);
+    let runs = crate::directory::taken_runs(disc);
+    let len = place::longest_run(runs, count, 161, disc.len());
+    Answer::Done(len as u16)
+}
