@@ -179,3 +179,7 @@ pub flat-snoc : {A : Type 0} (f : A → List ℕ) (l : List A) (x : A) → flat 
 unfolding flat
 flat-snoc f [] x = append-nil (f x)
 flat-snoc f (y ∷ l) x = rw (flat-snoc f l x) (sym (append-assoc (f y) (flat f l) (f x)))
+
+-- one more turn of a loop that joins what f makes of each
+pub flat-tab-next : {A : Type 0} (f : A → List ℕ) (g : ℕ → A) (i : ℕ) → flat f (tab g (i + 1)) ≡ flat f (tab g i) ++ f (g i)
+flat-tab-next f g i = rw (tab-more g i) (flat-snoc f (tab g i) (g i))

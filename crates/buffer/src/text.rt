@@ -11,7 +11,7 @@ pub struct Text {
 }
 
 pub fn empty_text() -> Text
-    ensures { λ r. ⌜ written r ≡ [] ⌝ }
+    ensures { λ r. ⌜ (r .len ≡ 0) × (written r ≡ []) ⌝ }
 {
     Text {
         bytes: [0u8; 256],

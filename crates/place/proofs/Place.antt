@@ -225,6 +225,15 @@ module _ (p : ℕ → Bool) where
       go true q x r = q
       go false q x r = r x
 
+  greatest-bound : (n : ℕ) → greatest p n ≤ n
+  unfolding greatest
+  greatest-bound zero = omega arith
+  greatest-bound (suc n) = go (p (suc n)) (greatest-bound n)
+    where
+      go : (b : Bool) → greatest p n ≤ n → greaterOf b (suc n) (greatest p n) ≤ suc n
+      go true h = omega arith
+      go false h = omega arith
+
   greatest-most : (n j : ℕ) → greatest p n < j → j ≤ n → p j ≡ false
   unfolding greatest
   greatest-most zero j h k = absurd (omega arith)
@@ -238,6 +247,10 @@ module _ (runs : List Run) (lo hi : ℕ) where
   pub longest-is : (g : ℕ) → g ≤ hi - lo → (0 < g → isAt (place runs lo hi g) ≡ true) → ((j : ℕ) → g < j → j ≤ hi - lo → isAt (place runs lo hi j) ≡ false) → longest runs lo hi ≡ g
   unfolding longest
   longest-is g a e f = greatest-is (λ n. isAt (place runs lo hi n)) (hi - lo) g a e f
+
+  pub longest-bound : longest runs lo hi ≤ hi - lo
+  unfolding longest
+  longest-bound = greatest-bound (λ n. isAt (place runs lo hi n)) (hi - lo)
 
   -- a run of that length has a place
   pub longest-fits : 0 < longest runs lo hi → isAt (place runs lo hi (longest runs lo hi)) ≡ true

@@ -44,7 +44,9 @@ entry-fields disc at name start len h n s l = λ t. record { name = named t; sta
   where
     named : name ≡ take 12 (part disc at 16)
     named = n ∙ sym (take-take 12 16 (drop at disc) (omega arith))
+
     started : start ≡ wordAt (part disc at 16) 12
     started = s ∙ rw (byte-of disc at 12 (omega arith), byte-of disc at 13 (omega arith), add-assoc)
+
     counted : len ≡ wordAt (part disc at 16) 14
     counted = l ∙ rw (byte-of disc at 14 (omega arith), byte-of disc at 15 (omega arith), add-assoc)

@@ -1,14 +1,19 @@
 -- What the steps of the code come to: entering, erasing, a line of the listing.
 use Prim.Native.Nat.{ℕ, _+_, _*_, _-_, _≤_, _<_}
-use mathlib.Core.Path.{_≡_, _∙_}
+use mathlib.Core.Path.{_≡_, sym, ap, ap₂, _∙_}
 use mathlib.Core.List.{List, [], _∷_, _++_, append-assoc}
 use native.Mathlib.Omega.{arith}
+use borrow.Author.Tests.{le-leb, lt-leb}
 use lib.ListN.{length, set, replicate}
 use Rattle.buffer.specs.Buffer.{part, overwrite}
 use Rattle.buffer.proofs.Buffer.{overwrite-joined, overwrite-set}
 use Rattle.buffer.proofs.Parts.{part-length}
-use Rattle.store.specs.Directory.{entryBytes, fileCount}
+use Rattle.store.specs.Directory.{contents, entryBytes, fileCount, runOf}
+use Rattle.store.specs.Answer.{reported, retrieveFile, textAnswer}
 use Rattle.store.specs.File.{entered, erased, newEntry}
+use Rattle.store.specs.declared.Answer.the-variants.{Done, Refused}
+use Rattle.store.specs.declared.Entry.{Entry}
+use Rattle.store.specs.declared.Refusal.the-variants.{ShortOutput}
 
 module _ (d : List ℕ) (h : 161 ≤ length d) where
   pub entered-steps : (p name : List ℕ) (n s count : ℕ) → count ≡ fileCount d → length p ≡ length d → p ≡ overwrite d (count * 16) (entryBytes (newEntry name n s)) → set p 160 (count + 1) ≡ entered d name n s
@@ -24,3 +29,17 @@ module _ (d : List ℕ) (h : 161 ≤ length d) where
 
 pub line-joined : (t a b c d : List ℕ) → (((t ++ a) ++ b) ++ c) ++ d ≡ t ++ (((a ++ b) ++ c) ++ d)
 line-joined t a b c d = simp append-assoc
+
+-- a text that the output has room for, and one that it has not
+pub text-done : (text out after : List ℕ) (n : ℕ) → length text ≡ n → n ≤ length out → after ≡ overwrite out 0 text → reported (Done n) after ≡ textAnswer text out
+text-done text out after n e h q = rw (le-leb (length text) (length out) (omega arith)) (ap₂ (λ (m : ℕ) (l : List ℕ). reported (Done m) l) (sym e) q)
+
+pub text-short : (text out : List ℕ) (n : ℕ) → length text ≡ n → length out < n → reported (Refused ShortOutput) out ≡ textAnswer text out
+text-short text out n e h = rw (lt-leb (length text) (length out) (omega arith))
+
+-- a file that the output has room for, and one that it has not
+pub file-done : (e : Entry) (disc out after : List ℕ) → e .len ≤ length out → after ≡ overwrite out 0 (contents disc (runOf e)) → reported (Done (e .len)) after ≡ retrieveFile e disc out
+file-done e disc out after h q = rw (le-leb _ _ h) (ap (λ (l : List ℕ). reported (Done (e .len)) l) q)
+
+pub file-short : (e : Entry) (disc out : List ℕ) → length out < e .len → reported (Refused ShortOutput) out ≡ retrieveFile e disc out
+file-short e disc out h = rw (lt-leb _ _ h)

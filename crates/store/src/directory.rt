@@ -1,6 +1,6 @@
 // The directory: its entries, the one lookup by name, and the runs that files take.
-use buffer::Found;
 use crate::Entry;
+use buffer::Found;
 use place::Run;
 ghost use mathlib.Core.Path.{_≡_};
 ghost use Prim.Native.Nat.{_+_, _*_, _<_, _≤_};

@@ -1,8 +1,8 @@
 // What becomes of files: a new one enters, one goes, bytes are written and read inside one.
-use buffer::Found;
 use crate::Admission;
 use crate::Entry;
 use crate::Refusal;
+use buffer::Found;
 use place::Run;
 ghost use mathlib.Core.Path.{_≡_};
 ghost use Prim.Native.Nat.{_+_, _<_, _≤_};

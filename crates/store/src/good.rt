@@ -37,7 +37,11 @@ fn is_beside(a: Entry, b: Entry) -> bool
     if buffer::bytes::same_bytes(&one, &other) {
         return false;
     }
-    place::is_apart(a.start as usize, a.len as usize, crate::directory::run_of(b))
+    place::is_apart(
+        a.start as usize,
+        a.len as usize,
+        crate::directory::run_of(b),
+    )
 }
 
 // Whether the entry at i is beside every earlier one.

@@ -1,10 +1,10 @@
 // The operations on the disc alone, for every disc, name and buffer. A refused one writes nothing.
-use buffer::Found;
-use buffer::text::Text;
 use crate::Admission;
 use crate::Answer;
 use crate::Entry;
 use crate::Refusal;
+use buffer::Found;
+use buffer::text::Text;
 use place::Run;
 ghost use mathlib.Core.Path.{_≡_};
 ghost use mathlib.Core.List.{_++_};

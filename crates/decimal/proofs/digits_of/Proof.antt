@@ -46,9 +46,12 @@ loop-less c = omega arith
 loop-again : tie.Need-loop-again Inv-loop μ-loop
 loop-again c =
     let l = c .before .before in
-    let h = more (c .before) in
-    (omega arith, simp length-set (l .loop .inv .1), shorter (l .loop .start) (l .loop .rest) h (l .loop .inv .2),
-    l .loop .inv .3 ∙ digit-next (l .loop .start) (l .loop .rest) (c .digit2 .result) (l .loop .bytes) (omega arith) h (omega arith) (c .digit2 .ensures))
+    let h = more (c .before) in (
+      omega arith,
+      simp length-set (l .loop .inv .1),
+      shorter (l .loop .start) (l .loop .rest) h (l .loop .inv .2),
+      l .loop .inv .3 ∙ digit-next (l .loop .start) (l .loop .rest) (c .digit2 .result) (l .loop .bytes) (omega arith) h (omega arith) (c .digit2 .ensures),
+    )
 
 returns : tie.Need-returns Inv-loop μ-loop
 returns c = (omega arith, rw (c .before .loop .inv .3, lt-leb _ _ (c .loop-test .left)))

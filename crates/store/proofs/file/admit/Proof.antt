@@ -1,80 +1,110 @@
+use Prim.Native.Nat.{ℕ, _≤_, _<_, _-_}
+use mathlib.Core.Path.{_≡_, sym, ap, _∙_}
+use mathlib.Core.Bool.{true, false}
+use mathlib.Core.List.{List}
+use borrow.Author.Tests.{le-leb, lt-leb, le-ltb, lt-ltb, not-true, not-false}
+use lib.Dec.{ltb}
+use lib.ListN.{length, take}
+use Rattle.buffer.specs.declared.Found.{Found}
+use Rattle.place.specs.Place.{place}
+use Rattle.place.specs.declared.Run.{Run}
+use Rattle.store.specs.Directory.{fileCount, taken}
+use Rattle.store.specs.File.{admission, denyIfFound, goodSize, placeOf, startOr}
+use Rattle.store.specs.Name.{goodName}
+use native.Mathlib.Omega.{arith}
 use borrow.Author.Needs.{needs}
 use Rattle.store.proofs.file.admit.Statement.{statement}
 use Rattle.store.proofs.file.admit.Tie as tie
-use Rattle.store.proofs.file.admit.Reads as reads
-use Rattle.store.proofs.file.admit.Lts as lts
-use Rattle.place.proofs.find_place.Reads as find-place-reads
-use Rattle.store.proofs.directory.file_count.Reads as file-count-reads
-use Rattle.store.proofs.directory.find.Reads as find-reads
-use Rattle.store.proofs.directory.taken_runs.Reads as taken-runs-reads
-use Rattle.store.proofs.name.is_good_name.Reads as is-good-name-reads
 
--- src/file.rt:19:9
+-- what the tests on the way say
+named : (c : tie.Else1) → goodName (c .before .before .before .before .args .name .now) ≡ true
+named c = sym (c .before .is-good-name .ensures) ∙ not-false _ (c .if1 .left)
+
+sized : (c : tie.Else3) → goodSize (c .before .before .before .before .before .before .args .disc .now) (c .before .before .before .before .before .before .args .n) ≡ true
+sized c = rw (le-leb _ _ (c .before .if2 .left)) (le-leb _ _ (c .if3 .left))
+
+few : (c : tie.Else4) → ltb (fileCount (c .before .before .before .before .before .before .before .before .args .disc .now)) 10 ≡ true
+few c = lt-ltb (fileCount (c .before .before .before .before .before .before .before .before .args .disc .now)) 10 (omega (arith, c .if4 .left, c .before .file-count .ensures))
+
+placed : (c : tie.After-find-place) → c .find-place .result ≡ placeOf (c .before .before .before .before .before .before .before .before .before .before .before .before .before .args .disc .now) (c .before .before .before .before .before .before .before .before .before .before .before .before .before .args .n)
+unfolding placeOf
+placed c =
+    let d = c .before .before .before .before .before .before .before .before .before .before .before .before .before .args .disc .now in
+    let e : take (c .before .before .before .before .before .before .file-count .result) (c .before .taken-runs .result) ≡ taken d = ap (λ (k : ℕ). take k (c .before .taken-runs .result)) (c .before .before .before .before .before .before .file-count .ensures) ∙ c .before .taken-runs .ensures in
+    c .find-place .ensures ∙ ap (λ (l : List Run). place l 161 (length d) (c .before .before .before .before .before .before .before .before .before .before .before .before .before .args .n)) e
+
 is-good-name-requires : tie.Need-is-good-name-requires
 is-good-name-requires c κs = search needs
 
--- src/file.rt:20:9
 returns : tie.Need-returns
-returns c = ?
+unfolding admission
+returns c = rw (sym (c .before .is-good-name .ensures) ∙ not-true _ (c .if1 .taken))
 
--- src/file.rt:23:9
 returns-2 : tie.Need-returns-2
-returns-2 c = ?
+unfolding admission
+returns-2 c = rw (named (c .before), lt-leb _ _ (c .if2 .taken))
 
--- src/file.rt:25:8
 sub-if3 : tie.Need-sub-if3
 sub-if3 c = search needs
 
--- src/file.rt:26:9
 returns-3 : tie.Need-returns-3
-returns-3 c = ?
+unfolding admission
+returns-3 c = rw (named (c .before .before), le-leb _ _ (c .before .if2 .left), lt-leb _ _ (c .if3 .taken))
 
--- src/file.rt:28:9
 file-count-requires : tie.Need-file-count-requires
 file-count-requires c κs = search needs
 
--- src/file.rt:30:9
 returns-4 : tie.Need-returns-4
-returns-4 c = ?
+unfolding admission
+returns-4 c =
+    let d = c .before .before .before .before .before .before .before .before .args .disc .now in
+    rw (named (c .before .before .before .before), sized (c .before .before), le-ltb (fileCount d) 10 (omega (arith, c .if4 .taken, c .before .file-count .ensures)))
 
--- src/file.rt:32:27
 find-requires : tie.Need-find-requires
 find-requires c κs = search needs
 
--- src/file.rt:33:34
 enum-told : tie.Need-enum-told
 enum-told c = search needs
 
--- src/file.rt:33:9
 returns-5 : tie.Need-returns-5
-returns-5 c = ?
+unfolding admission
+returns-5 c =
+    let f = c .before .before .before in
+    let a = f .before .before .before .before .before .before .before .before .args in
+    rw (named (f .before .before .before .before), sized (f .before .before), few f) (ap (λ (g : Found). denyIfFound g (startOr (placeOf (a .disc .now) (a .n)))) (sym (c .enum-told .given .1) ∙ c .before .before .find .ensures))
 
 enum-told-2 : tie.Need-enum-told-2
 enum-told-2 c = search needs
 
--- src/file.rt:35:9
 taken-runs-requires : tie.Need-taken-runs-requires
 taken-runs-requires c κs = search needs
 
--- src/file.rt:36:11
 find-place-requires : tie.Need-find-place-requires
-find-place-requires c κs = search needs
+find-place-requires c κs =
+    let e = c .before .before .before .before .before .file-count .ensures in
+    omega (arith, c .before .before .before .before .if4 .left)
 
--- src/file.rt:37:19
 enum-known-start : tie.Need-enum-known-start
 enum-known-start c = search needs
 
--- src/file.rt:38:45
 enum-told-3 : tie.Need-enum-told-3
 enum-told-3 c = search needs
 
--- src/file.rt:15:1
 returns-6 : tie.Need-returns-6
-returns-6 c = ?
+unfolding admission
+returns-6 c =
+    let f = c .before .before .before .before .before .before .before .before in
+    let a = f .before .before .before .before .before .before .before .before .args in
+    rw (named (f .before .before .before .before), sized (f .before .before), few f)
+    (ap startOr (sym (c .before .start .given .1) ∙ placed (c .before .before .before)) ∙ ap (λ (g : Found). denyIfFound g (startOr (placeOf (a .disc .now) (a .n)))) (sym (c .before .before .before .before .before .enum-told2 .given .1) ∙ c .before .before .before .before .before .before .before .find .ensures))
 
--- src/file.rt:15:1
 returns-7 : tie.Need-returns-7
-returns-7 c = ?
+unfolding admission
+returns-7 c =
+    let f = c .before .before .before .before .before .before .before in
+    let a = f .before .before .before .before .before .before .before .before .args in
+    rw (named (f .before .before .before .before), sized (f .before .before), few f)
+    (ap startOr (sym (c .enum-told3 .given .1) ∙ placed (c .before .before)) ∙ ap (λ (g : Found). denyIfFound g (startOr (placeOf (a .disc .now) (a .n)))) (sym (c .before .before .before .before .enum-told2 .given .1) ∙ c .before .before .before .before .before .before .find .ensures))
 
 pub admit-spec : {M : Type 1} → statement M
 admit-spec =

@@ -1,30 +1,41 @@
+use Prim.Native.Nat.{ℕ, _+_, _≤_}
+use mathlib.Core.Path.{_≡_, sym, ap, _∙_}
+use mathlib.Core.List.{List, _++_}
+use lib.ListN.{length, take}
+use lib.Seq.{length-take-le}
+use Rattle.buffer.specs.Text.{written}
+use native.Mathlib.Omega.{arith}
 use borrow.Author.Needs.{needs}
 use Rattle.store.proofs.name.append_name.Statement.{statement}
 use Rattle.store.proofs.name.append_name.Tie as tie
-use Rattle.store.proofs.name.append_name.Reads as reads
-use Rattle.store.proofs.name.append_name.Lts as lts
-use Rattle.buffer.proofs.text.append.Reads as append-reads
-use Rattle.store.proofs.name.trimmed_length.Reads as trimmed-length-reads
 
--- src/name.rt:67:9
+sizes : (s : tie.Start) → length (s .args .t2) ≡ 12
+sizes s = search needs
+
+named : (c : tie.After-trimmed-length) → length (take (c .trimmed-length .result) (c .before .args .t2)) ≡ c .trimmed-length .result
+named c = let z = sizes (c .before) in length-take-le (c .trimmed-length .result) (c .before .args .t2) (omega (arith, c .trimmed-length .ensures .0))
+
 trimmed-length-requires : tie.Need-trimmed-length-requires
 trimmed-length-requires c κs = search needs
 
--- src/name.rt:68:32
 array-share-prefix-field : tie.Need-array-share-prefix-field
-array-share-prefix-field c = search needs
+array-share-prefix-field c =
+    let z = sizes (c .before) in
+    omega (arith, c .trimmed-length .ensures .0)
 
--- src/name.rt:68:32
 slice-aggregate-append : tie.Need-slice-aggregate-append
-slice-aggregate-append c = ?
+slice-aggregate-append c = sym (named (c .before))
 
--- src/name.rt:68:5
 append-requires : tie.Need-append-requires
-append-requires c κs = ?
+append-requires c κs =
+    let m = named (c .before) in
+    omega (arith, c .before .trimmed-length .ensures .0)
 
--- src/name.rt:63:1
 returns : tie.Need-returns
-returns c = ?
+returns c =
+    let t = c .before .before in
+    let m = named t in
+    (omega (arith, c .append .ensures .0, t .trimmed-length .ensures .0), c .append .ensures .1 ∙ ap (λ (l : List ℕ). written (t .before .args .text) ++ l) (t .trimmed-length .ensures .1))
 
 pub append-name-spec : {M : Type 1} → statement M
 append-name-spec =

@@ -1,64 +1,82 @@
+use mathlib.Core.Path.{_≡_, sym, ap, subst, _∙_}
+use mathlib.Core.Bool.{true, false}
+use mathlib.Core.List.{List}
+use Prim.Native.Nat.{ℕ, _+_, _≤_, _<_}
+use borrow.Author.Tests.{eqb-true, not-true, not-false}
+use lib.ListN.{length}
+use Rattle.store.specs.Directory.{goodDisc, isDiscLength, Readable}
+use Rattle.store.proofs.Goodness.{readable}
+use Rattle.store.specs.Answer.{eraseAnswer, eraseAt, updated}
+use Rattle.store.specs.declared.Answer.the-variants.{Done}
+use Rattle.store.proofs.Lookups.{lookup-at}
+use native.Mathlib.Omega.{arith}
 use borrow.Author.Needs.{needs}
 use Rattle.store.proofs.operations.erase.Statement.{statement}
 use Rattle.store.proofs.operations.erase.Tie as tie
-use Rattle.store.proofs.operations.erase.Reads as reads
-use Rattle.store.proofs.operations.erase.Lts as lts
-use Rattle.store.proofs.directory.find.Reads as find-reads
-use Rattle.store.proofs.file.erase_entry.Reads as erase-entry-reads
-use Rattle.store.proofs.good.is_disc_length.Reads as is-disc-length-reads
-use Rattle.store.proofs.good.is_good_disc.Reads as is-good-disc-reads
 
--- src/operations.rt:70:9
+-- what the two tests say of the disc
+right : (c : tie.Else1) → isDiscLength (length (c .before .before .before .before .args .disc .now)) ≡ true
+right c = sym (c .before .is-disc-length .ensures) ∙ not-false _ (c .if1 .left)
+
+sound : (c : tie.Else2) → goodDisc (c .before .before .before .before .before .before .before .args .disc .now) ≡ true
+sound c = sym (c .before .is-good-disc .ensures) ∙ not-false _ (c .if2 .left)
+
+long : (c : tie.Else1) → 161 ≤ length (c .before .before .before .before .args .disc .now)
+long c = let e : length (c .before .before .before .before .args .disc .now) ≡ 1024 = eqb-true _ _ (right c) in omega arith
+
+ready : (c : tie.Else2) → Readable (c .before .before .before .before .before .before .before .args .disc .now)
+ready c = readable (c .before .before .before .before .before .before .before .args .disc .now) (right (c .before .before .before)) (sound c)
+
 is-disc-length-requires : tie.Need-is-disc-length-requires
 is-disc-length-requires c κs = search needs
 
--- src/operations.rt:71:9
 returns : tie.Need-returns
-returns c = ?
+unfolding eraseAnswer
+returns c = rw (sym (c .before .is-disc-length .ensures) ∙ not-true _ (c .if1 .taken))
 
--- src/operations.rt:73:9
 is-good-disc-requires : tie.Need-is-good-disc-requires
-is-good-disc-requires c κs = ?
+is-good-disc-requires c κs = long (c .before)
 
--- src/operations.rt:74:9
 same-length : tie.Need-same-length
 same-length c = search needs
 
--- src/operations.rt:74:9
 returns-2 : tie.Need-returns-2
-returns-2 c = ?
+unfolding eraseAnswer
+returns-2 c = rw (right (c .before .before .before), sym (c .before .is-good-disc .ensures) ∙ not-true _ (c .if2 .taken))
 
--- src/operations.rt:76:11
 find-requires : tie.Need-find-requires
-find-requires c κs = ?
+find-requires c κs = ready (c .before)
 
--- src/operations.rt:77:43
 enum-told : tie.Need-enum-told
 enum-told c = search needs
 
--- src/operations.rt:78:19
 enum-known-i : tie.Need-enum-known-i
 enum-known-i c = search needs
 
--- src/operations.rt:79:13
 erase-entry-requires : tie.Need-erase-entry-requires
-erase-entry-requires c κs = ?
+erase-entry-requires c κs =
+    let s = c .before .before .before .before .before .before in
+    let l = lookup-at _ _ (c .before .before .i .given .0 .0) (sym (c .before .before .before .before .find .ensures) ∙ c .before .before .i .given .1) in
+    (ready s, l .inside)
 
--- src/operations.rt:67:1
 same-length-2 : tie.Need-same-length-2
 same-length-2 c = search needs
 
--- src/operations.rt:67:1
 returns-3 : tie.Need-returns-3
-returns-3 c = ?
+unfolding eraseAnswer
+returns-3 c =
+    let s = c .before .before .before .before in
+    rw (right (s .before .before .before), sound s) (ap (λ f. eraseAt f (s .before .before .before .before .before .before .before .args .disc .now)) (sym (c .enum-told .given .1) ∙ c .before .before .find .ensures))
 
--- src/operations.rt:67:1
 same-length-3 : tie.Need-same-length-3
 same-length-3 c = search needs
 
--- src/operations.rt:67:1
 returns-4 : tie.Need-returns-4
-returns-4 c = ?
+unfolding eraseAnswer
+returns-4 c =
+    let s = c .before .before .before .before .before .before .before .before .before in
+    let e = sym (c .before .before .before .before .before .i .given .1) ∙ c .before .before .before .before .before .before .before .find .ensures in
+    rw (right (s .before .before .before), sound s) (ap (λ d. updated (Done 0) d) (c .before .before .erase-entry .ensures) ∙ ap (λ f. eraseAt f (s .before .before .before .before .before .before .before .args .disc .now)) e)
 
 pub erase-spec : {M : Type 1} → statement M
 erase-spec =

@@ -1,53 +1,57 @@
+-- The loop: the lines of the first i files stand in the text.
+use Prim.Native.Nat.{ℕ, _+_, _*_, _-_, _≤_}
+use mathlib.Core.Path.{_≡_, refl, sym, ap, ap₂, subst, _∙_}
+use mathlib.Core.List.{List, _++_}
+use Rattle.buffer.specs.Lists.{flat, tab}
+use Rattle.buffer.specs.Text.{written}
+use Rattle.buffer.proofs.Lists.{flat-tab-next}
+use Rattle.store.specs.Answer.{fileLine}
+use Rattle.store.specs.Directory.{entryAt, fileCount}
+use native.Mathlib.Omega.{arith}
+use borrow.Author.Needs.{needs}
 use Rattle.store.proofs.operations.files_text.Statement.{statement}
 use Rattle.store.proofs.operations.files_text.Tie as tie
-use Rattle.store.proofs.operations.files_text.Reads as reads
-use Rattle.store.proofs.operations.files_text.Lts as lts
-use Rattle.buffer.proofs.text.empty_text.Reads as empty-text-reads
-use Rattle.store.proofs.directory.entry_at.Reads as entry-at-reads
-use Rattle.store.proofs.directory.file_count.Reads as file-count-reads
-use Rattle.store.proofs.operations.with_line.Reads as with-line-reads
 
 abbrev Inv-loop : tie.InvT-loop
-Inv-loop disc count text₀ i₀ text i = ?
+Inv-loop disc count text₀ i₀ text i = (i ≤ count) × (text .len ≤ i * 24) × (written text ≡ flat fileLine (tab (entryAt disc) i))
 
 abbrev μ-loop : tie.MeasureT-loop
-μ-loop disc count text₀ i₀ text i = ?
+μ-loop disc count text₀ i₀ text i = count - i
 
--- src/operations.rt:105:9
 file-count-requires : tie.Need-file-count-requires Inv-loop μ-loop
-file-count-requires c κs = ?
+file-count-requires c κs = search needs
 
--- src/operations.rt:106:9
 empty-text-requires : tie.Need-empty-text-requires Inv-loop μ-loop
-empty-text-requires c κs = ?
+empty-text-requires c κs = search needs
 
--- src/operations.rt:108:5
 loop-holds : tie.Need-loop-holds Inv-loop μ-loop
-loop-holds c = ?
+unfolding flat tab
+loop-holds c = (omega arith, omega arith, c .empty-text .ensures .1)
 
--- src/operations.rt:109:13
 entry-at-requires : tie.Need-entry-at-requires Inv-loop μ-loop
-entry-at-requires c κs = ?
+entry-at-requires c κs = search needs
 
--- src/operations.rt:110:9
 with-line-requires : tie.Need-with-line-requires Inv-loop μ-loop
-with-line-requires c κs = ?
+with-line-requires c κs = search needs
 
--- src/operations.rt:111:9
 add-i : tie.Need-add-i Inv-loop μ-loop
-add-i c = ?
+add-i c = omega arith
 
--- src/operations.rt:108:5
 loop-less : tie.Need-loop-less Inv-loop μ-loop
-loop-less c = ?
+loop-less c = omega arith
 
--- src/operations.rt:108:5
 loop-again : tie.Need-loop-again Inv-loop μ-loop
-loop-again c = ?
+loop-again c =
+    let l = c .before .before .before in
+    let d = l .before .before .before .before .args .disc .now in
+    (omega arith, omega (arith, c .with-line .ensures .0), c .with-line .ensures .1 ∙ ap₂ (λ (a b : List ℕ). a ++ b) (l .loop .inv .2) (ap fileLine (c .before .entry-at .ensures)) ∙ sym (flat-tab-next fileLine (entryAt d) (l .loop .i)))
 
--- src/operations.rt:101:1
 returns : tie.Need-returns Inv-loop μ-loop
-returns c = ?
+returns c =
+    let l = c .before in
+    let d = l .before .before .before .before .args .disc .now in
+    let q : l .loop .i ≡ fileCount d = omega arith in
+    (omega arith, subst (λ (k : ℕ). written (l .loop .text) ≡ flat fileLine (tab (entryAt d) k)) q (l .loop .inv .2))
 
 pub files-text-spec : {M : Type 1} → statement M
 files-text-spec =

@@ -1,49 +1,82 @@
+use mathlib.Core.Path.{_≡_, sym, ap, subst, _∙_}
+use mathlib.Core.Bool.{true, false}
+use mathlib.Core.List.{List}
+use Prim.Native.Nat.{ℕ, _+_, _≤_, _<_}
+use borrow.Author.Tests.{eqb-true, not-true, not-false}
+use lib.ListN.{length}
+use Rattle.store.specs.Directory.{goodDisc, isDiscLength, Readable}
+use Rattle.store.proofs.Goodness.{readable}
+use lib.IntN.{pos}
+use lib.ListN.{take}
+use Rattle.place.specs.Place.{longest}
+use Rattle.place.specs.declared.Run.{Run}
+use Rattle.place.proofs.Place.{longest-bound}
+use Rattle.store.specs.Answer.{freeSpaceAnswer}
+use Rattle.store.specs.Directory.{taken}
+use native.Mathlib.Omega.{arith}
 use borrow.Author.Needs.{needs}
 use Rattle.store.proofs.operations.free_space.Statement.{statement}
 use Rattle.store.proofs.operations.free_space.Tie as tie
-use Rattle.store.proofs.operations.free_space.Reads as reads
-use Rattle.store.proofs.operations.free_space.Lts as lts
-use Rattle.place.proofs.longest_run.Reads as longest-run-reads
-use Rattle.store.proofs.directory.file_count.Reads as file-count-reads
-use Rattle.store.proofs.directory.taken_runs.Reads as taken-runs-reads
-use Rattle.store.proofs.good.is_disc_length.Reads as is-disc-length-reads
-use Rattle.store.proofs.good.is_good_disc.Reads as is-good-disc-reads
 
--- src/operations.rt:139:9
+-- what the two tests say of the disc
+right : (c : tie.Else1) → isDiscLength (length (c .before .before .before .args .disc .now)) ≡ true
+right c = sym (c .before .is-disc-length .ensures) ∙ not-false _ (c .if1 .left)
+
+sound : (c : tie.Else2) → goodDisc (c .before .before .before .before .before .args .disc .now) ≡ true
+sound c = sym (c .before .is-good-disc .ensures) ∙ not-false _ (c .if2 .left)
+
+long : (c : tie.Else1) → 161 ≤ length (c .before .before .before .args .disc .now)
+long c = let e : length (c .before .before .before .args .disc .now) ≡ 1024 = eqb-true _ _ (right c) in omega arith
+
+ready : (c : tie.Else2) → Readable (c .before .before .before .before .before .args .disc .now)
+ready c = readable (c .before .before .before .before .before .args .disc .now) (right (c .before .before)) (sound c)
+
 is-disc-length-requires : tie.Need-is-disc-length-requires
 is-disc-length-requires c κs = search needs
 
--- src/operations.rt:140:9
 returns : tie.Need-returns
-returns c = ?
+unfolding freeSpaceAnswer
+returns c = rw (sym (c .before .is-disc-length .ensures) ∙ not-true _ (c .if1 .taken))
 
--- src/operations.rt:142:9
 is-good-disc-requires : tie.Need-is-good-disc-requires
-is-good-disc-requires c κs = ?
+is-good-disc-requires c κs = long (c)
 
--- src/operations.rt:143:9
 returns-2 : tie.Need-returns-2
-returns-2 c = ?
+unfolding freeSpaceAnswer
+returns-2 c = rw (right (c .before .before), sym (c .before .is-good-disc .ensures) ∙ not-true _ (c .if2 .taken))
 
--- src/operations.rt:145:9
 file-count-requires : tie.Need-file-count-requires
-file-count-requires c κs = ?
+file-count-requires c κs =
+    let r = ready c in
+    omega (arith, r .low)
 
--- src/operations.rt:146:9
 taken-runs-requires : tie.Need-taken-runs-requires
-taken-runs-requires c κs = ?
+taken-runs-requires c κs = ready (c .before)
 
--- src/operations.rt:147:9
 longest-run-requires : tie.Need-longest-run-requires
-longest-run-requires c κs = ?
+longest-run-requires c κs =
+    let r = ready (c .before .before) in
+    omega (arith, r .low, r .high, r .few, c .before .file-count .ensures)
 
--- src/operations.rt:148:18
+-- the length found is the longest run that the definition has
+found : (c : tie.After-longest-run) → c .longest-run .result ≡ longest (taken (c .before .before .before .before .before .before .before .before .args .disc .now)) 161 (length (c .before .before .before .before .before .before .before .before .args .disc .now))
+found c =
+    let d = c .before .before .before .before .before .before .before .before .args .disc .now in
+    let e : take (c .before .before .file-count .result) (c .before .taken-runs .result) ≡ taken d = ap (λ (n : ℕ). take n (c .before .taken-runs .result)) (c .before .before .file-count .ensures) ∙ c .before .taken-runs .ensures in
+    c .longest-run .ensures ∙ ap (λ (l : List Run). longest l 161 (length d)) e
+
 cast-t10 : tie.Need-cast-t10
-cast-t10 c = ?
+cast-t10 c =
+    let d = c .before .before .before .before .before .before .before .before .args .disc .now in
+    let r = ready (c .before .before .before) in
+    let m = longest-bound (taken d) 161 (length d) in
+    omega (arith, found c, m, r .high)
 
--- src/operations.rt:136:1
 returns-3 : tie.Need-returns-3
-returns-3 c = ?
+unfolding freeSpaceAnswer
+returns-3 c =
+    let s = c .before .before .before in
+    rw (right (s .before .before), sound s) (ap pos (found c))
 
 pub free-space-spec : {M : Type 1} → statement M
 free-space-spec =

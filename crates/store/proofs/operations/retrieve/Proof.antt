@@ -1,89 +1,132 @@
+use mathlib.Core.Path.{_≡_, sym, ap, subst, _∙_}
+use mathlib.Core.Bool.{true, false}
+use mathlib.Core.List.{List}
+use Prim.Native.Nat.{ℕ, _+_, _≤_, _<_}
+use borrow.Author.Tests.{eqb-true, not-true, not-false}
+use lib.ListN.{length}
+use Rattle.store.specs.Directory.{goodDisc, isDiscLength, Readable}
+use Rattle.store.proofs.Goodness.{readable}
+use Prim.Native.Nat.{_-_}
+use lib.ListN.{length-drop, length-take}
+use Rattle.buffer.specs.Buffer.{overwrite, part}
+use Rattle.buffer.specs.declared.Found.{Found}
+use Rattle.store.specs.Answer.{retrieveAnswer, retrieveAt, retrieveFile}
+use Rattle.store.specs.Directory.{lookup}
+use Rattle.store.specs.declared.Entry.{Entry}
+use Rattle.store.proofs.Goodness.{GoodEntry, good-entry-at}
+use Rattle.store.proofs.Lookups.{Located, lookup-at}
+use Rattle.store.proofs.Steps.{file-done, file-short}
+use native.Mathlib.Omega.{arith}
 use borrow.Author.Needs.{needs}
 use Rattle.store.proofs.operations.retrieve.Statement.{statement}
 use Rattle.store.proofs.operations.retrieve.Tie as tie
-use Rattle.store.proofs.operations.retrieve.Reads as reads
-use Rattle.store.proofs.operations.retrieve.Lts as lts
-use Rattle.buffer.proofs.bytes.overwrite_at.Reads as overwrite-at-reads
-use Rattle.store.proofs.directory.entry_at.Reads as entry-at-reads
-use Rattle.store.proofs.directory.find.Reads as find-reads
-use Rattle.store.proofs.good.is_disc_length.Reads as is-disc-length-reads
-use Rattle.store.proofs.good.is_good_disc.Reads as is-good-disc-reads
 
--- src/operations.rt:44:9
+-- what the two tests say of the disc
+right : (c : tie.Else1) → isDiscLength (length (c .before .before .before .before .before .args .disc .now)) ≡ true
+right c = sym (c .before .is-disc-length .ensures) ∙ not-false _ (c .if1 .left)
+
+sound : (c : tie.Else2) → goodDisc (c .before .before .before .before .before .before .before .args .disc .now) ≡ true
+sound c = sym (c .before .is-good-disc .ensures) ∙ not-false _ (c .if2 .left)
+
+long : (c : tie.Else1) → 161 ≤ length (c .before .before .before .before .before .args .disc .now)
+long c = let e : length (c .before .before .before .before .before .args .disc .now) ≡ 1024 = eqb-true _ _ (right c) in omega arith
+
+ready : (c : tie.Else2) → Readable (c .before .before .before .before .before .before .before .args .disc .now)
+ready c = readable (c .before .before .before .before .before .before .before .args .disc .now) (right (c .before .before)) (sound c)
+
+-- the file found, and that it lies inside the disc
+located : (c : tie.After-known-told) → Located (c .before .before .before .before .before .before .before .before .before .before .before .args .disc .now) (c .before .before .before .before .before .before .before .before .before .before .before .args .name .now) (c .before .i .given .0 .0)
+located c = lookup-at _ _ _ (sym (c .before .before .before .find .ensures) ∙ c .before .i .given .1)
+
+inside : (c : tie.After-entry-at) → GoodEntry (length (c .before .before .before .before .before .before .before .before .before .before .before .before .args .disc .now)) (c .entry-at .result)
+inside c = subst (GoodEntry (length (c .before .before .before .before .before .before .before .before .before .before .before .before .args .disc .now))) (sym (c .entry-at .ensures)) (good-entry-at (c .before .before .before .before .before .before .before .before .before .before .before .before .args .disc .now) (sound (c .before .before .before .before .before)) (c .before .before .i .given .0 .0) (located (c .before) .inside))
+
 is-disc-length-requires : tie.Need-is-disc-length-requires
 is-disc-length-requires c κs = search needs
 
--- src/operations.rt:45:9
 returns : tie.Need-returns
-returns c = ?
+unfolding retrieveAnswer
+returns c = rw (sym (c .before .is-disc-length .ensures) ∙ not-true _ (c .if1 .taken))
 
--- src/operations.rt:47:9
 is-good-disc-requires : tie.Need-is-good-disc-requires
-is-good-disc-requires c κs = ?
+is-good-disc-requires c κs = long (c)
 
--- src/operations.rt:48:9
 returns-2 : tie.Need-returns-2
-returns-2 c = ?
+unfolding retrieveAnswer
+returns-2 c = rw (right (c .before .before), sym (c .before .is-good-disc .ensures) ∙ not-true _ (c .if2 .taken))
 
--- src/operations.rt:50:11
 find-requires : tie.Need-find-requires
-find-requires c κs = ?
+find-requires c κs = ready c
 
--- src/operations.rt:51:43
 enum-told : tie.Need-enum-told
 enum-told c = search needs
 
--- src/operations.rt:52:19
 enum-known-i : tie.Need-enum-known-i
 enum-known-i c = search needs
 
--- src/operations.rt:53:17
 entry-at-requires : tie.Need-entry-at-requires
-entry-at-requires c κs = ?
+entry-at-requires c κs =
+    let r = ready (c .before .before .before .before) in
+    (r .low, omega (arith, located c .inside, r .few))
 
--- src/operations.rt:54:23
 cast-len : tie.Need-cast-len
 cast-len c = search needs
 
--- src/operations.rt:55:25
 cast-start : tie.Need-cast-start
 cast-start c = search needs
 
--- src/operations.rt:57:17
-returns-3 : tie.Need-returns-3
-returns-3 c = ?
+-- the entry that was read is the one that the definition finds
+chosen : (c : tie.After-entry-at) → retrieveFile (c .entry-at .result) (c .before .before .before .before .before .before .before .before .before .before .before .before .args .disc .now) (c .before .before .before .before .before .before .before .before .before .before .before .before .args .out .now) ≡ retrieveAt (lookup (c .before .before .before .before .before .before .before .before .before .before .before .before .args .disc .now) (c .before .before .before .before .before .before .before .before .before .before .before .before .args .name .now)) (c .before .before .before .before .before .before .before .before .before .before .before .before .args .disc .now) (c .before .before .before .before .before .before .before .before .before .before .before .before .args .out .now)
+chosen c =
+    let a = c .before .before .before .before .before .before .before .before .before .before .before .before .args in
+    ap (λ (e : Entry). retrieveFile e (a .disc .now) (a .out .now)) (c .entry-at .ensures)
+    ∙ ap (λ (f : Found). retrieveAt f (a .disc .now) (a .out .now)) (sym (c .before .before .i .given .1) ∙ c .before .before .before .before .find .ensures)
 
--- src/operations.rt:59:23
+returns-3 : tie.Need-returns-3
+unfolding retrieveAnswer
+returns-3 c =
+    let t = c .before .before .before in
+    let s = t .before .before .before .before .before in
+    let a = s .before .before .before .before .before .before .before .args in
+    rw (right (s .before .before), sound s) (file-short (t .entry-at .result) (a .disc .now) (a .out .now) (c .if3 .taken) ∙ chosen t)
+
 add-end : tie.Need-add-end
 add-end c = search needs
 
--- src/operations.rt:60:49
 sub-overwrite-at : tie.Need-sub-overwrite-at
 sub-overwrite-at c = search needs
 
--- src/operations.rt:60:49
 part-overwrite-at-start : tie.Need-part-overwrite-at-start
-part-overwrite-at-start c = search needs
+part-overwrite-at-start c = omega arith
 
--- src/operations.rt:60:49
 part-overwrite-at-end : tie.Need-part-overwrite-at-end
-part-overwrite-at-end c = ?
+part-overwrite-at-end c = omega (arith, inside (c .before .before .before .before) .high)
 
--- src/operations.rt:60:13
 overwrite-at-requires : tie.Need-overwrite-at-requires
-overwrite-at-requires c κs = search needs
+overwrite-at-requires c κs =
+    let h = inside (c .before .before .before .before .before) .high in
+    simp (length-take, length-drop) (omega arith)
 
--- src/operations.rt:41:1
 returns-4 : tie.Need-returns-4
-returns-4 c = ?
+unfolding retrieveAnswer
+returns-4 c =
+    let s = c .before .before .before in
+    let a = s .before .before .before .before .before .before .before .args in
+    rw (right (s .before .before), sound s) (ap (λ (f : Found). retrieveAt f (a .disc .now) (a .out .now)) (sym (c .enum-told .given .1) ∙ c .before .before .find .ensures))
 
--- src/operations.rt:41:1
 same-length : tie.Need-same-length
 same-length c = search needs
 
--- src/operations.rt:41:1
 returns-5 : tie.Need-returns-5
-returns-5 c = ?
+unfolding retrieveAnswer
+returns-5 c =
+    let t = c .before .before .before .before .before .before .before .before in
+    let s = t .before .before .before .before .before in
+    let a = s .before .before .before .before .before .before .before .args in
+    let e = t .entry-at .result in
+    let z : e .start + e .len - e .start ≡ e .len = omega arith in
+    rw (right (s .before .before), sound s)
+    (file-done e (a .disc .now) (a .out .now) _ (c .before .before .before .before .before .if3 .left) (c .before .before .overwrite-at .ensures ∙ ap (λ (n : ℕ). overwrite (a .out .now) 0 (part (a .disc .now) (e .start) n)) z) ∙ chosen t)
 
 pub retrieve-spec : {M : Type 1} → statement M
 retrieve-spec =

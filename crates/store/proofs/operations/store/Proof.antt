@@ -1,77 +1,115 @@
+use mathlib.Core.Path.{_≡_, sym, ap, subst, _∙_}
+use mathlib.Core.Bool.{true, false}
+use mathlib.Core.List.{List}
+use Prim.Native.Nat.{ℕ, _+_, _≤_, _<_}
+use borrow.Author.Tests.{eqb-true, not-true, not-false}
+use lib.ListN.{length}
+use Rattle.store.specs.Directory.{goodDisc, isDiscLength, Readable}
+use Rattle.store.proofs.Goodness.{readable}
+use Rattle.place.specs.Place.{runFrom}
+use Rattle.store.specs.Answer.{storeAnswer, storeAt, updated}
+use Rattle.store.specs.File.{admission, writtenAt}
+use Rattle.store.specs.declared.Admission.{Admission}
+use Rattle.store.specs.declared.Answer.the-variants.{Done}
+use Rattle.store.proofs.Admissions.{Admitted, admitted}
+use Rattle.store.proofs.Fields.{good-name-length}
+use native.Mathlib.Omega.{arith}
 use borrow.Author.Needs.{needs}
 use Rattle.store.proofs.operations.store.Statement.{statement}
 use Rattle.store.proofs.operations.store.Tie as tie
-use Rattle.store.proofs.operations.store.Reads as reads
-use Rattle.store.proofs.operations.store.Lts as lts
-use Rattle.store.proofs.file.admit.Reads as admit-reads
-use Rattle.store.proofs.file.enter.Reads as enter-reads
-use Rattle.store.proofs.file.write_at.Reads as write-at-reads
-use Rattle.store.proofs.good.is_disc_length.Reads as is-disc-length-reads
-use Rattle.store.proofs.good.is_good_disc.Reads as is-good-disc-reads
 
--- src/operations.rt:21:9
+-- what the two tests say of the disc
+right : (c : tie.Else1) → isDiscLength (length (c .before .before .before .before .before .args .disc .now)) ≡ true
+right c = sym (c .before .is-disc-length .ensures) ∙ not-false _ (c .if1 .left)
+
+sound : (c : tie.Else2) → goodDisc (c .before .before .before .before .before .before .before .before .args .disc .now) ≡ true
+sound c = sym (c .before .is-good-disc .ensures) ∙ not-false _ (c .if2 .left)
+
+long : (c : tie.Else1) → 161 ≤ length (c .before .before .before .before .before .args .disc .now)
+long c = let e : length (c .before .before .before .before .before .args .disc .now) ≡ 1024 = eqb-true _ _ (right c) in omega arith
+
+ready : (c : tie.Else2) → Readable (c .before .before .before .before .before .before .before .before .args .disc .now)
+ready c = readable (c .before .before .before .before .before .before .before .before .args .disc .now) (right (c .before .before .before)) (sound c)
+
+-- what the admission of a start says
+let-in : (c : tie.After-known-told2) → Admitted (c .before .before .before .before .before .before .before .before .before .before .before .before .before .args .disc .now) (c .before .before .before .before .before .before .before .before .before .before .before .before .before .args .name .now) (length (c .before .before .before .before .before .before .before .before .before .before .before .before .before .args .«data» .now)) (c .before .start .given .0 .0)
+let-in c = admitted _ _ _ _ (sym (c .before .before .before .admit .ensures) ∙ c .before .start .given .1)
+
 is-disc-length-requires : tie.Need-is-disc-length-requires
 is-disc-length-requires c κs = search needs
 
--- src/operations.rt:22:9
 returns : tie.Need-returns
-returns c = ?
+unfolding storeAnswer
+returns c = rw (sym (c .before .is-disc-length .ensures) ∙ not-true _ (c .if1 .taken))
 
--- src/operations.rt:24:9
 is-good-disc-requires : tie.Need-is-good-disc-requires
-is-good-disc-requires c κs = ?
+is-good-disc-requires c κs = long (c .before)
 
--- src/operations.rt:25:9
 same-length : tie.Need-same-length
 same-length c = search needs
 
--- src/operations.rt:25:9
 returns-2 : tie.Need-returns-2
-returns-2 c = ?
+unfolding storeAnswer
+returns-2 c = rw (right (c .before .before .before), sym (c .before .is-good-disc .ensures) ∙ not-true _ (c .if2 .taken))
 
--- src/operations.rt:27:11
 admit-requires : tie.Need-admit-requires
-admit-requires c κs = ?
+admit-requires c κs = ready (c .before)
 
--- src/operations.rt:28:27
 enum-known-refusal : tie.Need-enum-known-refusal
 enum-known-refusal c = search needs
 
--- src/operations.rt:29:26
 enum-known-start : tie.Need-enum-known-start
 enum-known-start c = search needs
 
--- src/operations.rt:30:13
 enter-requires : tie.Need-enter-requires
-enter-requires c κs = ?
+enter-requires c κs =
+    let t = c .before in
+    let a = let-in t in
+    let r = ready (t .before .before .before .before .before) in
+    let n = good-name-length _ (a .good) in
+    (r, (a .few, omega arith, omega (arith, a .placed .high, r .high), omega (arith, a .placed .high, r .high)))
 
--- src/operations.rt:32:24
 cast-t22 : tie.Need-cast-t22
-cast-t22 c = ?
+cast-t22 c =
+    let t = c .before .before .before .before in
+    let a = let-in t in
+    let r = ready (t .before .before .before .before .before) in
+    omega (arith, a .placed .high, r .high)
 
--- src/operations.rt:33:22
 cast-t23 : tie.Need-cast-t23
-cast-t23 c = ?
+cast-t23 c =
+    let t = c .before .before .before .before in
+    let a = let-in t in
+    let r = ready (t .before .before .before .before .before) in
+    omega (arith, a .placed .high, r .high)
 
--- src/operations.rt:35:13
 write-at-requires : tie.Need-write-at-requires
-write-at-requires c κs = ?
+write-at-requires c κs =
+    let a = let-in (c .before .before .before .before .before) in
+    (omega arith, omega (arith, a .placed .high))
 
--- src/operations.rt:18:1
 same-length-2 : tie.Need-same-length-2
 same-length-2 c = search needs
 
--- src/operations.rt:18:1
 returns-3 : tie.Need-returns-3
-returns-3 c = ?
+unfolding storeAnswer
+returns-3 c =
+    let s = c .before .before .before .before .before in
+    let a = s .before .before .before .before .before .before .before .before .args in
+    rw (right (s .before .before .before), sound s) (ap (λ (m : Admission). storeAt m (a .disc .now) (a .name .now) (a .«data» .now)) (sym (c .before .refusal .given .1) ∙ c .before .before .before .admit .ensures))
 
--- src/operations.rt:18:1
 same-length-3 : tie.Need-same-length-3
 same-length-3 c = search needs
 
--- src/operations.rt:18:1
 returns-4 : tie.Need-returns-4
-returns-4 c = ?
+unfolding storeAnswer
+returns-4 c =
+    let t = c .before .before .before .before .before .before .before .before in
+    let s = t .before .before .before .before .before in
+    let a = s .before .before .before .before .before .before .before .before .args in
+    rw (right (s .before .before .before), sound s)
+    (ap (λ (l : List ℕ). updated (Done 0) l) (c .before .before .write-at .ensures ∙ ap (λ (l : List ℕ). writtenAt l (runFrom (t .before .start .given .0 .0) (length (a .«data» .now))) 0 (a .«data» .now)) (c .before .before .before .before .before .before .enter .ensures))
+    ∙ ap (λ (m : Admission). storeAt m (a .disc .now) (a .name .now) (a .«data» .now)) (sym (t .before .start .given .1) ∙ t .before .before .before .admit .ensures))
 
 pub store-spec : {M : Type 1} → statement M
 store-spec =

@@ -1,43 +1,49 @@
+use Prim.Native.Nat.{ℕ, _+_, _≤_}
+use mathlib.Core.Path.{_≡_, ap, _∙_}
+use mathlib.Core.List.{List, [], _∷_, _++_}
+use Rattle.buffer.specs.Text.{written}
+use Rattle.decimal.specs.Decimal.{decimal}
+use Rattle.store.specs.Answer.{fileLine}
+use Rattle.store.specs.Name.{trimmed}
+use Rattle.store.proofs.Steps.{line-joined}
+use native.Mathlib.Omega.{arith}
 use borrow.Author.Needs.{needs}
 use Rattle.store.proofs.operations.with_line.Statement.{statement}
 use Rattle.store.proofs.operations.with_line.Tie as tie
-use Rattle.store.proofs.operations.with_line.Reads as reads
-use Rattle.store.proofs.operations.with_line.Lts as lts
-use Rattle.buffer.proofs.text.append.Reads as append-reads
-use Rattle.decimal.proofs.append_decimal.Reads as append-decimal-reads
-use Rattle.store.proofs.name.append_name.Reads as append-name-reads
 
--- src/operations.rt:91:9
 append-name-requires : tie.Need-append-name-requires
 append-name-requires c κs = search needs
 
--- src/operations.rt:92:46
 slice-aggregate-append : tie.Need-slice-aggregate-append
 slice-aggregate-append c = search needs
 
--- src/operations.rt:92:9
 append-requires : tie.Need-append-requires
 append-requires c κs = search needs
 
--- src/operations.rt:93:51
 cast-append-decimal : tie.Need-cast-append-decimal
 cast-append-decimal c = search needs
 
--- src/operations.rt:93:9
 append-decimal-requires : tie.Need-append-decimal-requires
 append-decimal-requires c κs = search needs
 
--- src/operations.rt:94:35
 slice-aggregate-append-2 : tie.Need-slice-aggregate-append-2
 slice-aggregate-append-2 c = search needs
 
--- src/operations.rt:94:5
 append-requires-2 : tie.Need-append-requires-2
 append-requires-2 c κs = search needs
 
--- src/operations.rt:86:1
 returns : tie.Need-returns
-returns c = ?
+unfolding fileLine
+returns c =
+    let a = c .before .before .before .before .before .before .before .before .args in
+    let n = c .before .before .before .before .before .before .append-name .ensures in
+    let s = c .before .before .before .before .append .ensures in
+    let d = c .before .before .append-decimal .ensures in (
+      omega (arith, c .append2 .ensures .0, d .0, s .0, n .0),
+      c .append2 .ensures .1
+          ∙ ap (λ (l : List ℕ). l ++ (10 ∷ [])) (d .1 ∙ ap (λ (l : List ℕ). l ++ decimal (a .entry .len)) (s .1 ∙ ap (λ (l : List ℕ). l ++ (32 ∷ [])) (n .1)))
+          ∙ line-joined (written (a .text)) (trimmed (a .entry .name)) (32 ∷ []) (decimal (a .entry .len)) (10 ∷ []),
+    )
 
 pub with-line-spec : {M : Type 1} → statement M
 with-line-spec =
