@@ -1,6 +1,6 @@
 -- Tests on lists, and lists made from others. Everything above is said in these words.
 use Prim.Native.Nat.{ℕ, zero, suc}
-use mathlib.Core.Bool.{Bool, true, false, _&&_}
+use mathlib.Core.Bool.{Bool, true, false, _&&_, _||_}
 use mathlib.Core.List.{List, [], _∷_, _++_}
 use lib.Dec.{eqb}
 use lib.ListN.{take, drop}
@@ -17,6 +17,20 @@ unfoldable pub pairs : {A : Type 0} → (A → A → Bool) → List A → Bool
 unfolding all
 pairs r [] = true
 pairs r (x ∷ l) = all (r x) l && pairs r l
+
+-- p holds of some element
+unfoldable pub any : {A : Type 0} → (A → Bool) → List A → Bool
+any p [] = false
+any p (x ∷ l) = p x || any p l
+
+abbrev pub consIf : {A : Type 0} → Bool → A → List A → List A
+consIf true x l = x ∷ l
+consIf false x l = l
+
+-- the elements that p holds of
+unfoldable pub keep : {A : Type 0} → (A → Bool) → List A → List A
+keep p [] = []
+keep p (x ∷ l) = consIf (p x) x (keep p l)
 
 -- the same elements in the same order
 unfoldable pub same : List ℕ → List ℕ → Bool

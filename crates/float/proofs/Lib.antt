@@ -1,0 +1,16 @@
+pub mod Bench
+pub mod Tests
+pub mod Patterns
+pub mod Fractions
+pub mod Decoding
+pub mod Ranges
+pub mod Values
+pub mod Sizes
+pub mod Hundredths
+pub mod Exactly
+pub mod Scaling
+pub mod LastDigit
+pub mod RoundedRoot
+pub mod RootCases
+pub mod RootMiddles
+pub mod NearestRoot
