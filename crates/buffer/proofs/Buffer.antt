@@ -1,13 +1,13 @@
 -- Laws of `part`, `overwrite` and two-byte fields.
-use Prim.Native.Nat.{ℕ, zero, suc, _+_, _*_, _/_, _%_, _-_, _≤_, _<_}
+use Prim.Native.Nat.{ℕ, suc, _+_, _*_, _/_, _%_, _-_, _≤_, _<_}
 use mathlib.Core.Path.{_≡_, refl, sym, ap, _∙_}
-use mathlib.Core.List.{List, [], _∷_, _++_, append-assoc, append-nil}
-use native.Mathlib.Nat.{add-assoc, zero-add, add-zero}
+use mathlib.Core.List.{List, [], _∷_, _++_, append-assoc}
+use native.Mathlib.Nat.{add-assoc}
 use native.Mathlib.Numerals.{add-one}
 use native.Mathlib.Omega.{arith}
-use lib.ListN.{length, getD, set, take, drop, length-drop, length-take, length-append, drop-of-length-le, List·getD-append}
-use lib.Seq.{take-suc, take-suc-set, getD-drop, getD-take, length-take-le, take-at, drop-at, drop-drop, drop-append-add, take-append-le, drop-append-le, take-append-add, paste, paste-suc, drop-paste, set-split, append-snoc, take-length, take-take, getD-append-add, ext-getD}
-use Rattle.buffer.specs.Buffer.{part, overwrite, wordAt, wordBytes}
+use lib.ListN.{length, getD, set, take, drop, length-drop, length-append}
+use lib.Seq.{take-suc, take-suc-set, getD-drop, getD-take, length-take-le, take-at, drop-at, drop-drop, drop-append-add, take-append-le, paste, paste-suc, drop-paste, set-split, append-snoc, take-length, take-take}
+use Rattle.buffer.specs.Buffer.{part, overwrite}
 
 module _ {A : Type 0} where
   -- one more turn of a loop that fills l with the elements of t

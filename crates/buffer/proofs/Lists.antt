@@ -1,18 +1,17 @@
 -- Laws of the tests on lists, and of the lists made from others.
-use Prim.Native.Nat.{ℕ, zero, suc, _+_, _-_, _≤_, _<_}
+use Prim.Native.Nat.{ℕ, zero, suc, _+_, _-_, _<_}
 use mathlib.Core.Path.{_≡_, refl, sym, ap, _∙_, subst}
 use mathlib.Core.Bool.{Bool, true, false, _&&_, and-false, and-assoc, and-true}
 use mathlib.Core.List.{List, [], _∷_, _++_, map, map-append, append-assoc, append-nil}
-use mathlib.Core.Logic.{_⊎_, inl, inr, ⊎-elim}
+use mathlib.Core.Logic.{⊎-elim}
 use native.Mathlib.Nat.{not-suc-le-zero, le-of-suc-le-suc, eq-or-lt-of-le}
 use native.Mathlib.Numerals.{add-one}
 use native.Mathlib.Omega.{arith}
 use lib.Dec.{eqb}
 use lib.ListN.{length, getD, take, drop, set, replicate, length-append, List·getD-append}
-use lib.Seq.{take-suc, take-suc-set, take-all, getD-append-add, getD-at}
-use borrow.Author.Tests.{eq-eqb, ne-eqb, eqb-true}
-use Rattle.buffer.specs.Lists.{all, pairs, same, index, hereOr, later, tab, flat, without}
-use Rattle.buffer.specs.declared.Found.{Found}
+use lib.Seq.{take-suc, take-suc-set, getD-at}
+use borrow.Author.Tests.{eq-eqb, eqb-true}
+use Rattle.buffer.specs.Lists.{all, pairs, same, index, later, tab, flat, without}
 use Rattle.buffer.specs.declared.Found.the-variants.{At, Nowhere}
 use Rattle.buffer.proofs.Bools.{and-left, and-right, and-both, true-not-false, not-true-is-false}
 

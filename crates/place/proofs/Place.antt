@@ -1,6 +1,6 @@
 -- Laws of places: what is found is free and inside, nothing lower fits, none found means none fits; and the longest free run.
 use Prim.Native.Nat.{ℕ, zero, suc, _+_, _-_, _≤_, _<_}
-use mathlib.Core.Path.{_≡_, refl, sym, ap, _∙_, subst}
+use mathlib.Core.Path.{_≡_, refl, sym, ap, subst}
 use mathlib.Core.Bool.{Bool, true, false, _&&_, _||_, and-false}
 use mathlib.Core.List.{List}
 use mathlib.Core.Logic.{_⊎_, inl, inr, ⊎-elim}
@@ -12,7 +12,7 @@ use borrow.Author.Tests.{le-leb, lt-leb, leb-true, leb-false}
 use Rattle.buffer.specs.Lists.{all}
 use Rattle.buffer.specs.declared.Found.{Found}
 use Rattle.buffer.specs.declared.Found.the-variants.{At, Nowhere}
-use Rattle.buffer.proofs.Bools.{and-left, and-right, and-both, true-not-false, not-true-is-false}
+use Rattle.buffer.proofs.Bools.{and-left, and-right, true-not-false, not-true-is-false}
 use Rattle.buffer.proofs.Lists.{all-stop, all-weaker}
 use Rattle.place.specs.Place.{runFrom, apart, fits, atOr, lowest, place, isAt, greaterOf, greatest, longest}
 use Rattle.place.specs.declared.Run.{Run}

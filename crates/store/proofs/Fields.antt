@@ -1,5 +1,5 @@
 -- Fields of an entry as code reads them: the name before its first zero, and the entry of 16 bytes.
-use Prim.Native.Nat.{ℕ, zero, suc, _+_, _*_, _≤_, _<_}
+use Prim.Native.Nat.{ℕ, zero, suc, _+_, _≤_, _<_}
 use mathlib.Core.Path.{_≡_, refl, sym, ap, _∙_}
 use mathlib.Core.List.{List, [], _∷_}
 use native.Mathlib.Nat.{not-suc-le-zero, le-of-suc-le-suc, add-assoc}
@@ -11,9 +11,8 @@ use lib.Dec.{leb}
 use mathlib.Core.Bool.{true}
 use Rattle.buffer.proofs.Bools.{and-left, and-right}
 use Rattle.buffer.specs.Buffer.{part, wordAt}
-use Rattle.store.specs.Name.{goodName, trimmed, unlessZero}
+use Rattle.store.specs.Name.{goodName, trimmed}
 use Rattle.store.specs.Directory.{entryOf}
-use Rattle.store.specs.declared.Entry.{Entry}
 
 -- the first zero at n: the name is what stands before
 pub trimmed-at : (l : List ℕ) (n : ℕ) → n < length l → getD l n 0 ≡ 0 → ((k : ℕ) → k < n → getD l k 0 ≡ 0 → ⊥) → trimmed l ≡ take n l

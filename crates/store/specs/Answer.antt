@@ -1,10 +1,9 @@
 -- What the operations on the disc answer and leave, for every disc, name and buffer.
 use Prim.Native.Nat.{ℕ}
-use mathlib.Core.Bool.{Bool}
 use mathlib.Core.List.{List, [], _∷_, _++_}
 use lib.Dec.{leb}
 use lib.IntN.{ℤ, pos, negℤ}
-use lib.ListN.{length, getD}
+use lib.ListN.{length}
 use Rattle.buffer.specs.Buffer.{overwrite}
 use Rattle.buffer.specs.Lists.{flat}
 use Rattle.buffer.specs.declared.Found.{Found}

@@ -3,15 +3,15 @@
 --     0    ten entries of 16 bytes: name 12, start 2, length 2
 --     160  the file count
 --     161  data, to the disc's end
-use Prim.Native.Nat.{ℕ, _+_, _*_, _-_, _≤_}
+use Prim.Native.Nat.{ℕ, _+_, _*_, _≤_}
 use mathlib.Core.Bool.{Bool, true, false, _&&_, not}
-use mathlib.Core.List.{List, [], _∷_, _++_, map}
+use mathlib.Core.List.{List, _++_, map}
 use lib.Dec.{eqb, leb}
 use lib.ListN.{length, getD, take}
 use Rattle.buffer.specs.Buffer.{part, wordAt, wordBytes}
 use Rattle.buffer.specs.Lists.{all, index, pairs, same, tab}
 use Rattle.buffer.specs.declared.Found.{Found}
-use Rattle.buffer.specs.declared.Found.the-variants.{At, Nowhere}
+use Rattle.buffer.specs.declared.Found.the-variants.{Nowhere}
 use Rattle.place.specs.Place.{apart}
 use Rattle.place.specs.declared.Run.{Run}
 use Rattle.store.specs.Name.{goodField, goodName, padded}

@@ -14,7 +14,6 @@ use Rattle.store.specs.Name.{goodName, padded}
 use Rattle.store.specs.declared.Admission.{Admission}
 use Rattle.store.specs.declared.Admission.the-variants.{Start, Denied}
 use Rattle.store.specs.declared.Entry.{Entry}
-use Rattle.store.specs.declared.Refusal.{Refusal}
 use Rattle.store.specs.declared.Refusal.the-variants.{BadName, BadSize, NameExists, DirectoryFull, NoRun}
 
 -- the rest where the test holds, else the refusal: the order of refusals is the order of the lines

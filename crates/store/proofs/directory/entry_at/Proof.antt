@@ -1,5 +1,4 @@
-use Prim.Native.Nat.{ℕ, _+_, _*_}
-use mathlib.Core.Path.{_≡_, sym, _∙_}
+use Prim.Native.Nat.{_*_}
 use Rattle.store.specs.Directory.{entryAt}
 use Rattle.store.proofs.Fields.{entry-fields}
 use native.Mathlib.Omega.{arith}

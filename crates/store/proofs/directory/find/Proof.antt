@@ -1,15 +1,12 @@
 -- The loop: none of the first i entries has the name.
 use Prim.Native.Nat.{ℕ, _≤_, _<_, _-_}
-use mathlib.Core.Path.{_≡_, refl, sym, ap, ap₂, _∙_}
-use mathlib.Core.Bool.{Bool, true, false}
-use mathlib.Core.List.{List}
+use mathlib.Core.Path.{_≡_, sym, ap, ap₂, _∙_}
+use mathlib.Core.Bool.{false}
 use borrow.Author.Count.{below-more}
 use borrow.Author.Tests.{not-true, not-false}
-use lib.ListN.{length}
 use Rattle.buffer.specs.Lists.{same}
 use Rattle.buffer.proofs.Tables.{index-tab-is, index-tab-miss}
 use Rattle.store.specs.Directory.{entryAt, fileCount, lookup, named}
-use Rattle.store.specs.Name.{goodName, padded}
 use Rattle.store.specs.declared.Entry.{Entry}
 use Rattle.store.proofs.Fields.{good-name-length}
 use native.Mathlib.Omega.{arith}

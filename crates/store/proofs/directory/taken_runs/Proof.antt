@@ -1,6 +1,6 @@
 -- The loop: the first i runs are those of the first i entries.
-use Prim.Native.Nat.{ℕ, _≤_, _-_}
-use mathlib.Core.Path.{_≡_, refl, sym, ap, subst, _∙_}
+use Prim.Native.Nat.{_≤_, _-_}
+use mathlib.Core.Path.{_≡_, refl, sym, ap, _∙_}
 use lib.ListN.{length, take, length-set}
 use Rattle.buffer.specs.Lists.{tab}
 use Rattle.buffer.proofs.Lists.{map-tab, tab-next}

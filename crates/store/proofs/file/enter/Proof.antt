@@ -1,9 +1,8 @@
 use Prim.Native.Nat.{ℕ, _*_}
-use mathlib.Core.Path.{_≡_, ap, _∙_}
+use mathlib.Core.Path.{ap, _∙_}
 use mathlib.Core.List.{List}
 use Rattle.buffer.specs.Buffer.{overwrite}
 use Rattle.store.specs.Directory.{entryBytes}
-use Rattle.store.specs.declared.Entry.{Entry}
 use Rattle.store.proofs.Steps.{entered-steps}
 use native.Mathlib.Omega.{arith}
 use borrow.Author.Needs.{needs}

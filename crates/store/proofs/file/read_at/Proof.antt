@@ -1,6 +1,5 @@
-use Prim.Native.Nat.{_+_}
-use mathlib.Core.Path.{_≡_, sym, _∙_}
-use lib.ListN.{length, drop}
+use mathlib.Core.Path.{sym, _∙_}
+use lib.ListN.{length}
 use Rattle.store.specs.File.{readAt}
 use Rattle.buffer.proofs.Parts.{part-of-part}
 use native.Mathlib.Omega.{arith}

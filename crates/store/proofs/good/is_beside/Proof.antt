@@ -1,5 +1,4 @@
-use mathlib.Core.Path.{_≡_, sym, ap, _∙_}
-use mathlib.Core.Bool.{true, false}
+use mathlib.Core.Path.{sym, ap, _∙_}
 use Rattle.place.specs.Place.{apart, runFrom}
 use Rattle.place.specs.declared.Run.{Run}
 use Rattle.store.specs.Directory.{beside}

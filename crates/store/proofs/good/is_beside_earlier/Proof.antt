@@ -1,7 +1,7 @@
 -- The loop: the entry is beside each of the first j.
 use Prim.Native.Nat.{_≤_, _-_}
-use mathlib.Core.Path.{_≡_, refl, sym, ap, ap₂, subst, _∙_}
-use mathlib.Core.Bool.{true, false}
+use mathlib.Core.Path.{_≡_, refl, sym, ap₂, subst, _∙_}
+use mathlib.Core.Bool.{true}
 use borrow.Author.Tests.{not-true, not-false}
 use Rattle.buffer.specs.Lists.{all, tab}
 use Rattle.buffer.proofs.Lists.{all-tab-next, all-tab-stop}

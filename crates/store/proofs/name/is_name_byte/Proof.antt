@@ -1,4 +1,3 @@
-use mathlib.Core.Path.{_≡_, refl}
 use borrow.Author.Tests.{le-leb, lt-leb}
 use Rattle.store.proofs.name.is_name_byte.Statement.{statement}
 use Rattle.store.proofs.name.is_name_byte.Tie as tie

@@ -1,8 +1,8 @@
-use Prim.Native.Nat.{ℕ, _+_}
-use mathlib.Core.Path.{_≡_, ap, _∙_}
+use Prim.Native.Nat.{ℕ}
+use mathlib.Core.Path.{ap, _∙_}
 use mathlib.Core.List.{List, _++_}
 use native.Mathlib.Nat.{zero-add}
-use lib.ListN.{length, drop, replicate}
+use lib.ListN.{length}
 use Rattle.buffer.proofs.Lists.{drop-replicate}
 use borrow.Author.Needs.{needs}
 use Rattle.store.proofs.name.pad.Statement.{statement}

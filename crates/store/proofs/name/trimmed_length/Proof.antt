@@ -1,8 +1,8 @@
 -- The loop: no byte before n is zero.
 use Prim.Native.Nat.{ℕ, _≤_, _<_, _-_}
-use mathlib.Core.Path.{_≡_, refl, sym, _∙_}
+use mathlib.Core.Path.{_≡_, sym}
 use borrow.Author.Count.{below-more}
-use lib.ListN.{length, take, getD}
+use lib.ListN.{length, getD}
 use Rattle.store.proofs.Fields.{trimmed-at, trimmed-whole}
 use native.Mathlib.Omega.{arith}
 use borrow.Author.Needs.{needs}

@@ -1,4 +1,3 @@
-use Prim.Native.Nat.{ℕ}
 use mathlib.Core.Path.{_≡_, sym, ap}
 use lib.IntN.{negℤ, pos}
 use Rattle.store.specs.Answer.{refusalNumber}

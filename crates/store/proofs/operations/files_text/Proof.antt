@@ -1,6 +1,6 @@
 -- The loop: the lines of the first i files stand in the text.
-use Prim.Native.Nat.{ℕ, _+_, _*_, _-_, _≤_}
-use mathlib.Core.Path.{_≡_, refl, sym, ap, ap₂, subst, _∙_}
+use Prim.Native.Nat.{ℕ, _*_, _-_, _≤_}
+use mathlib.Core.Path.{_≡_, sym, ap, ap₂, subst, _∙_}
 use mathlib.Core.List.{List, _++_}
 use Rattle.buffer.specs.Lists.{flat, tab}
 use Rattle.buffer.specs.Text.{written}

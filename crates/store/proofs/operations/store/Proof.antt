@@ -1,14 +1,14 @@
-use mathlib.Core.Path.{_≡_, sym, ap, subst, _∙_}
-use mathlib.Core.Bool.{true, false}
+use mathlib.Core.Path.{_≡_, sym, ap, _∙_}
+use mathlib.Core.Bool.{true}
 use mathlib.Core.List.{List}
-use Prim.Native.Nat.{ℕ, _+_, _≤_, _<_}
+use Prim.Native.Nat.{ℕ, _≤_}
 use borrow.Author.Tests.{eqb-true, not-true, not-false}
 use lib.ListN.{length}
 use Rattle.store.specs.Directory.{goodDisc, isDiscLength, Readable}
 use Rattle.store.proofs.Goodness.{readable}
 use Rattle.place.specs.Place.{runFrom}
 use Rattle.store.specs.Answer.{storeAnswer, storeAt, updated}
-use Rattle.store.specs.File.{admission, writtenAt}
+use Rattle.store.specs.File.{writtenAt}
 use Rattle.store.specs.declared.Admission.{Admission}
 use Rattle.store.specs.declared.Answer.the-variants.{Done}
 use Rattle.store.proofs.Admissions.{Admitted, admitted}
