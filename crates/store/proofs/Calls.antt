@@ -24,6 +24,7 @@ use Rattle.store.specs.declared.Admission.the-variants.{Start, Denied}
 use Rattle.store.specs.declared.Answer.the-variants.{Done, Refused}
 use Rattle.store.specs.declared.Refusal.{Refusal}
 use Rattle.store.specs.declared.Refusal.the-variants.{WrongLength, BadDisc, ShortOutput, BadName, BadSize, NameExists, DirectoryFull, NoRun, NoSuchFile}
+use Rattle.store.proofs.Checks.{by-checks, is-usable}
 use Rattle.store.proofs.Admissions.{Admitted, Denial, admitted, denied}
 use Rattle.store.proofs.Goodness.{good-disc-is}
 
@@ -69,19 +70,6 @@ refused-below NoSuchFile = record { lt = tt }
 pub refused-not-done : (r : Refusal) (n : ℕ) → answerNumber (Refused r) ≡ pos n → ⊥
 refused-not-done r n e = done-not-below n (subst (λ (z : ℤ). z <ℤ pos 0) e (refused-below r))
 
--- ---- the tests that every operation on the disc makes first
-pub checked : {A : Type 0} (disc : List ℕ) (P : A → Type 0) (x y z : A)
-    → (isDiscLength (length disc) ≡ false → P x)
-    → (goodDisc disc ≡ false → P y)
-    → (isDiscLength (length disc) ≡ true → goodDisc disc ≡ true → P z)
-    → P (unless (isDiscLength (length disc)) x (unless (goodDisc disc) y z))
-checked {A} disc P x y z p q r = go (isDiscLength (length disc)) refl (goodDisc disc) refl
-  where
-    go : (a : Bool) → isDiscLength (length disc) ≡ a → (b : Bool) → goodDisc disc ≡ b → P (unless a x (unless b y z))
-    go false e b f = p e
-    go true e false f = q f
-    go true e true f = r e f
-
 -- ---- store and erase by cases: refused, with the disc as it was, or done
 abbrev pub stored : List ℕ → List ℕ → List ℕ → ℕ → List ℕ
 stored disc name bytes s = writtenAt (entered disc name (length bytes) s) (runFrom s (length bytes)) 0 bytes
@@ -91,7 +79,7 @@ pub store-cases : (disc name bytes : List ℕ) (P : Updated → Type 0)
     → ((s : ℕ) → isDiscLength (length disc) ≡ true → goodDisc disc ≡ true → Admitted disc name (length bytes) s → P (updated (Done 0) (stored disc name bytes s)))
     → P (storeAnswer disc name bytes)
 unfolding storeAnswer
-store-cases disc name bytes P refused done = checked disc P _ _ _ (refused WrongLength) (refused BadDisc) (go (admission disc name (length bytes)) refl)
+store-cases disc name bytes P refused done = by-checks disc P _ _ (refused WrongLength) (refused BadDisc) (go (admission disc name (length bytes)) refl)
   where
     go : (a : Admission) → admission disc name (length bytes) ≡ a → isDiscLength (length disc) ≡ true → goodDisc disc ≡ true → P (storeAt a disc name bytes)
     go (Denied r) e l g = refused r (denied disc name (length bytes) r e)
@@ -102,7 +90,7 @@ pub erase-cases : (disc name : List ℕ) (P : Updated → Type 0)
     → ((i : ℕ) → goodDisc disc ≡ true → lookup disc name ≡ At i → P (updated (Done 0) (erased disc i)))
     → P (eraseAnswer disc name)
 unfolding eraseAnswer
-erase-cases disc name P refused done = checked disc P _ _ _ (λ e. refused WrongLength) (λ e. refused BadDisc) (λ l g. go (lookup disc name) refl g)
+erase-cases disc name P refused done = by-checks disc P _ _ (λ e. refused WrongLength) (λ e. refused BadDisc) (λ l g. go (lookup disc name) refl g)
   where
     go : (f : Found) → lookup disc name ≡ f → goodDisc disc ≡ true → P (eraseAt f disc)
     go Nowhere e g = refused NoSuchFile
@@ -124,7 +112,7 @@ unwritten false n out after h = refl
 
 pub retrieve-refused : (disc name out : List ℕ) → retrieveAnswer disc name out .number <ℤ pos 0 → retrieveAnswer disc name out .out ≡ out
 unfolding retrieveAnswer
-retrieve-refused disc name out = checked disc (Unwritten out) _ _ _ (λ e h. refl) (λ e h. refl) (λ e f. go (lookup disc name))
+retrieve-refused disc name out = by-checks disc (Unwritten out) _ _ (λ e h. refl) (λ e h. refl) (λ e f. go (lookup disc name))
   where
     go : (f : Found) → Unwritten out (retrieveAt f disc out)
     go Nowhere h = refl
@@ -134,7 +122,7 @@ pub files-refused : (disc out : List ℕ) → filesAnswer disc out .number <ℤ 
 unfolding filesAnswer
 files-refused disc out =
     let text : List ℕ = flat fileLine (files disc) in
-    checked disc (Unwritten out) _ _ _ (λ e h. refl) (λ e h. refl) (λ e f. unwritten (leb (length text) (length out)) (length text) out (overwrite out 0 text))
+    by-checks disc (Unwritten out) _ _ (λ e h. refl) (λ e h. refl) (λ e f. unwritten (leb (length text) (length out)) (length text) out (overwrite out 0 text))
 
 -- ---- each refusal of store only where it says so
 pub store-refused-for : (disc name bytes : List ℕ) (r : Refusal) → storeAnswer disc name bytes .number ≡ answerNumber (Refused r) → Denial disc name (length bytes) r
@@ -153,7 +141,7 @@ store-refused-by disc name bytes =
 -- on a good disc of the right length nothing but the admission is asked
 pub store-admission : (disc name bytes : List ℕ) → isDiscLength (length disc) ≡ true → goodDisc disc ≡ true → storeAnswer disc name bytes ≡ storeAt (admission disc name (length bytes)) disc name bytes
 unfolding storeAnswer
-store-admission disc name bytes l g = rw (l, g)
+store-admission disc name bytes l g = rw (is-usable disc l g)
 
 -- refusal 8 only with ten files, refusal 9 only where no start fits
 pub store-refused-full : (disc name bytes : List ℕ) → goodDisc disc ≡ true → storeAnswer disc name bytes .number ≡ negℤ (pos 8) → fileCount disc ≡ 10
@@ -169,7 +157,7 @@ module _ (disc : List ℕ) (n : ℕ) where
   free-space-is : freeSpaceAnswer disc ≡ pos n → (isDiscLength (length disc) ≡ true) × (longest (taken disc) 161 (length disc) ≡ n)
   unfolding freeSpaceAnswer
   free-space-is =
-      checked disc (λ z. z ≡ pos n → (isDiscLength (length disc) ≡ true) × (longest (taken disc) 161 (length disc) ≡ n)) _ _ _
+      by-checks disc (λ z. z ≡ pos n → (isDiscLength (length disc) ≡ true) × (longest (taken disc) 161 (length disc) ≡ n)) _ _
       (λ e h. absurd (refused-not-done WrongLength n h))
       (λ e h. absurd (refused-not-done BadDisc n h))
       (λ e f h. (e, cc))

@@ -19,6 +19,7 @@ use Rattle.store.specs.File.{entered, newEntry, readAt}
 use Rattle.store.specs.declared.Answer.the-variants.{Done}
 use Rattle.store.specs.declared.Entry.{Entry}
 use Rattle.store.proofs.Admissions.{Admitted}
+use Rattle.store.proofs.Checks.{is-usable}
 use Rattle.store.proofs.Calls.{erase-cases, refused-not-done, store-cases, stored}
 use Rattle.store.proofs.Changes.{Inside, entered-length, entered-new, entered-old, erased-length, written-entry, written-length}
 use Rattle.store.proofs.Contents.{entered-contents, erased-contents, written-elsewhere, written-read}
@@ -100,7 +101,7 @@ pub store-retrieve : (disc name bytes out : List ℕ) (k : ℕ) → length bytes
 unfolding retrieveAnswer
 store-retrieve disc name bytes out k fit =
     store-cases disc name bytes (λ u. u .number ≡ pos k → retrieveAnswer (u .disc) name out ≡ reported (Done (length bytes)) (overwrite out 0 bytes)) (λ r d h. absurd (refused-not-done r k h))
-    (λ s l g a h. rw (stored-length bytes g a, l, stored-good bytes g a, stored-found bytes g a, stored-new bytes g a, le-leb (length bytes) (length out) fit, stored-data bytes g a))
+    (λ s l g a h. rw (is-usable (stored disc name bytes s) (rw (stored-length bytes g a) l) (stored-good bytes g a), stored-found bytes g a, stored-new bytes g a, le-leb (length bytes) (length out) fit, stored-data bytes g a))
 
 -- ---- erase
 module _ (disc name : List ℕ) (good : goodDisc disc ≡ true) where

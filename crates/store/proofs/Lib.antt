@@ -1,6 +1,7 @@
 pub mod Admissions
 pub mod Calls
 pub mod Changes
+pub mod Checks
 pub mod Contents
 pub mod Effects
 pub mod Entries

@@ -17,6 +17,8 @@ use Rattle.store.specs.declared.Admission.{Admission}
 use Rattle.store.specs.declared.Admission.the-variants.{Start, Denied}
 use Rattle.store.specs.declared.Answer.{Answer}
 use Rattle.store.specs.declared.Answer.the-variants.{Done, Refused}
+use Rattle.store.specs.declared.Checked.{Checked}
+use Rattle.store.specs.declared.Checked.the-variants.{Usable, Unusable}
 use Rattle.store.specs.declared.Entry.{Entry}
 use Rattle.store.specs.declared.Refusal.{Refusal}
 use Rattle.store.specs.declared.Refusal.the-variants.{WrongLength, BadDisc, ShortOutput, BadName, BadSize, NameExists, DirectoryFull, NoRun, NoSuchFile}
@@ -53,6 +55,18 @@ updated a disc = record { number = answerNumber a; disc = disc }
 abbrev pub reported : Answer → List ℕ → Reported
 reported a out = record { number = answerNumber a; out = out }
 
+-- ---- what every operation tries first
+-- Document 01: "1: a buffer has the wrong length. 2: disc not good."
+unfoldable pub checked : List ℕ → Checked
+checked disc =
+    unless (isDiscLength (length disc)) (Unusable WrongLength)
+    (unless (goodDisc disc) (Unusable BadDisc)
+    Usable)
+
+abbrev pub ifUsable : {A : Type 0} → Checked → (Refusal → A) → A → A
+ifUsable (Unusable r) refuse rest = refuse r
+ifUsable Usable refuse rest = rest
+
 -- ---- store
 abbrev pub storeAt : Admission → List ℕ → List ℕ → List ℕ → Updated
 storeAt (Denied r) disc name bytes = updated (Refused r) disc
@@ -60,9 +74,8 @@ storeAt (Start s) disc name bytes = updated (Done 0) (writtenAt (entered disc na
 
 unfoldable pub storeAnswer : List ℕ → List ℕ → List ℕ → Updated
 storeAnswer disc name bytes =
-    unless (isDiscLength (length disc)) (updated (Refused WrongLength) disc)
-    (unless (goodDisc disc) (updated (Refused BadDisc) disc)
-    (storeAt (admission disc name (length bytes)) disc name bytes))
+    ifUsable (checked disc) (λ r. updated (Refused r) disc)
+    (storeAt (admission disc name (length bytes)) disc name bytes)
 
 -- ---- retrieve: "10 no such file, tried before 4. Returns the length, its bytes written."
 abbrev pub retrieveFile : Entry → List ℕ → List ℕ → Reported
@@ -74,9 +87,8 @@ retrieveAt (At i) disc out = retrieveFile (entryAt disc i) disc out
 
 unfoldable pub retrieveAnswer : List ℕ → List ℕ → List ℕ → Reported
 retrieveAnswer disc name out =
-    unless (isDiscLength (length disc)) (reported (Refused WrongLength) out)
-    (unless (goodDisc disc) (reported (Refused BadDisc) out)
-    (retrieveAt (lookup disc name) disc out))
+    ifUsable (checked disc) (λ r. reported (Refused r) out)
+    (retrieveAt (lookup disc name) disc out)
 
 -- ---- erase, the disc's part: whether a process uses the file comes from above
 abbrev pub eraseAt : Found → List ℕ → Updated
@@ -85,9 +97,8 @@ eraseAt (At i) disc = updated (Done 0) (erased disc i)
 
 unfoldable pub eraseAnswer : List ℕ → List ℕ → Updated
 eraseAnswer disc name =
-    unless (isDiscLength (length disc)) (updated (Refused WrongLength) disc)
-    (unless (goodDisc disc) (updated (Refused BadDisc) disc)
-    (eraseAt (lookup disc name) disc))
+    ifUsable (checked disc) (λ r. updated (Refused r) disc)
+    (eraseAt (lookup disc name) disc)
 
 -- ---- files: "a line per file, name, space, length, newline; returns the bytes written"
 unfoldable pub fileLine : Entry → List ℕ
@@ -98,13 +109,11 @@ textAnswer text out = unless (leb (length text) (length out)) (reported (Refused
 
 unfoldable pub filesAnswer : List ℕ → List ℕ → Reported
 filesAnswer disc out =
-    unless (isDiscLength (length disc)) (reported (Refused WrongLength) out)
-    (unless (goodDisc disc) (reported (Refused BadDisc) out)
-    (textAnswer (flat fileLine (files disc)) out))
+    ifUsable (checked disc) (λ r. reported (Refused r) out)
+    (textAnswer (flat fileLine (files disc)) out)
 
 -- ---- free space: "the longest free run, however many files there are"
 unfoldable pub freeSpaceAnswer : List ℕ → ℤ
 freeSpaceAnswer disc =
-    unless (isDiscLength (length disc)) (answerNumber (Refused WrongLength))
-    (unless (goodDisc disc) (answerNumber (Refused BadDisc))
-    (answerNumber (Done (longest (taken disc) 161 (length disc)))))
+    ifUsable (checked disc) (λ r. answerNumber (Refused r))
+    (answerNumber (Done (longest (taken disc) 161 (length disc))))

@@ -1,9 +1,12 @@
-// The test that every operation makes of the disc before it reads or writes a file.
+// The tests that every operation makes of the disc before it reads or writes a file.
+use crate::Checked;
 use crate::Entry;
+use crate::Refusal;
 ghost use mathlib.Core.Path.{_≡_};
 ghost use Prim.Native.Nat.{_<_, _≤_};
 ghost use lib.ListN.{length};
 ghost use Rattle.buffer.specs.Lists.{all, tab};
+ghost use Rattle.store.specs.Answer.{checked};
 ghost use Rattle.store.specs.Directory.{beside, entryAt, goodDisc, goodEntry, isDiscLength};
 
 // Document 01: "Disc, 1,024 bytes."
@@ -81,4 +84,17 @@ pub fn is_good_disc(disc: &[u8]) -> bool
         i += 1;
     }
     true
+}
+
+// Document 01: "1: a buffer has the wrong length. 2: disc not good." Every operation tries these first.
+pub fn check(disc: &[u8]) -> Checked
+    ensures { λ r. ⌜ r ≡ checked (now (disc .entry)) ⌝ }
+{
+    if !is_disc_length(disc.len()) {
+        return Checked::Unusable(Refusal::WrongLength);
+    }
+    if !is_good_disc(disc) {
+        return Checked::Unusable(Refusal::BadDisc);
+    }
+    Checked::Usable
 }

@@ -32,6 +32,12 @@ pub enum Answer {
     Refused(Refusal),
 }
 
+// Whether an operation may use the disc, or why not.
+pub enum Checked {
+    Usable,
+    Unusable(Refusal),
+}
+
 // Whether a new file is admitted: its start, or why not.
 pub enum Admission {
     Start(usize),

@@ -1,6 +1,7 @@
 // The operations on the disc alone, for every disc, name and buffer. A refused one writes nothing.
 use crate::Admission;
 use crate::Answer;
+use crate::Checked;
 use crate::Entry;
 use crate::Refusal;
 use buffer::Found;
@@ -17,11 +18,8 @@ ghost use Rattle.store.specs.Directory.{Readable, files};
 pub fn store(disc: &mut [u8], name: &[u8], data: &[u8]) -> Answer
     ensures { λ r. ⌜ updated r (now (disc .exit)) ≡ storeAnswer (now (disc .entry)) (now (name .entry)) (now («data» .entry)) ⌝ }
 {
-    if !crate::good::is_disc_length(disc.len()) {
-        return Answer::Refused(Refusal::WrongLength);
-    }
-    if !crate::good::is_good_disc(disc) {
-        return Answer::Refused(Refusal::BadDisc);
+    if let Checked::Unusable(refusal) = crate::good::check(disc) {
+        return Answer::Refused(refusal);
     }
     match crate::file::admit(disc, name, data.len()) {
         Admission::Denied(refusal) => Answer::Refused(refusal),
@@ -40,11 +38,8 @@ pub fn store(disc: &mut [u8], name: &[u8], data: &[u8]) -> Answer
 pub fn retrieve(disc: &[u8], name: &[u8], out: &mut [u8]) -> Answer
     ensures { λ r. ⌜ reported r (now (out .exit)) ≡ retrieveAnswer (now (disc .entry)) (now (name .entry)) (now (out .entry)) ⌝ }
 {
-    if !crate::good::is_disc_length(disc.len()) {
-        return Answer::Refused(Refusal::WrongLength);
-    }
-    if !crate::good::is_good_disc(disc) {
-        return Answer::Refused(Refusal::BadDisc);
+    if let Checked::Unusable(refusal) = crate::good::check(disc) {
+        return Answer::Refused(refusal);
     }
     match crate::directory::find(disc, name) {
         Found::Nowhere => Answer::Refused(Refusal::NoSuchFile),
@@ -66,11 +61,8 @@ pub fn retrieve(disc: &[u8], name: &[u8], out: &mut [u8]) -> Answer
 pub fn erase(disc: &mut [u8], name: &[u8]) -> Answer
     ensures { λ r. ⌜ updated r (now (disc .exit)) ≡ eraseAnswer (now (disc .entry)) (now (name .entry)) ⌝ }
 {
-    if !crate::good::is_disc_length(disc.len()) {
-        return Answer::Refused(Refusal::WrongLength);
-    }
-    if !crate::good::is_good_disc(disc) {
-        return Answer::Refused(Refusal::BadDisc);
+    if let Checked::Unusable(refusal) = crate::good::check(disc) {
+        return Answer::Refused(refusal);
     }
     match crate::directory::find(disc, name) {
         Found::Nowhere => Answer::Refused(Refusal::NoSuchFile),
@@ -111,11 +103,8 @@ fn files_text(disc: &[u8]) -> Text
 pub fn files(disc: &[u8], out: &mut [u8]) -> Answer
     ensures { λ r. ⌜ reported r (now (out .exit)) ≡ filesAnswer (now (disc .entry)) (now (out .entry)) ⌝ }
 {
-    if !crate::good::is_disc_length(disc.len()) {
-        return Answer::Refused(Refusal::WrongLength);
-    }
-    if !crate::good::is_good_disc(disc) {
-        return Answer::Refused(Refusal::BadDisc);
+    if let Checked::Unusable(refusal) = crate::good::check(disc) {
+        return Answer::Refused(refusal);
     }
     let text = files_text(disc);
     let len = text.len;
@@ -131,11 +120,8 @@ pub fn files(disc: &[u8], out: &mut [u8]) -> Answer
 pub fn free_space(disc: &[u8]) -> Answer
     ensures { λ r. ⌜ answerNumber r ≡ freeSpaceAnswer (now (disc .entry)) ⌝ }
 {
-    if !crate::good::is_disc_length(disc.len()) {
-        return Answer::Refused(Refusal::WrongLength);
-    }
-    if !crate::good::is_good_disc(disc) {
-        return Answer::Refused(Refusal::BadDisc);
+    if let Checked::Unusable(refusal) = crate::good::check(disc) {
+        return Answer::Refused(refusal);
     }
     let count = crate::directory::file_count(disc);
     let runs = crate::directory::taken_runs(disc);

@@ -1,0 +1,46 @@
+-- The tests that every operation on the disc makes first.
+use mathlib.Core.Path.{_≡_, refl}
+use mathlib.Core.Bool.{Bool, true, false}
+use mathlib.Core.List.{List}
+use Prim.Native.Nat.{ℕ}
+use native.Mathlib.Omega.{arith}
+use lib.ListN.{length}
+use Rattle.store.specs.Answer.{checked, ifUsable}
+use Rattle.store.specs.Directory.{Readable, goodDisc, isDiscLength}
+use Rattle.store.specs.File.{unless}
+use Rattle.store.specs.declared.Checked.the-variants.{Usable, Unusable}
+use Rattle.store.specs.declared.Refusal.{Refusal}
+use Rattle.store.specs.declared.Refusal.the-variants.{WrongLength, BadDisc}
+use Rattle.store.proofs.Goodness.{readable}
+
+pub by-checks : {A : Type 0} (disc : List ℕ) (P : A → Type 0) (refuse : Refusal → A) (rest : A)
+    → (isDiscLength (length disc) ≡ false → P (refuse WrongLength))
+    → (goodDisc disc ≡ false → P (refuse BadDisc))
+    → (isDiscLength (length disc) ≡ true → goodDisc disc ≡ true → P rest)
+    → P (ifUsable (checked disc) refuse rest)
+unfolding checked
+by-checks disc P refuse rest p q r = go (isDiscLength (length disc)) refl (goodDisc disc) refl
+  where
+    go : (a : Bool) → isDiscLength (length disc) ≡ a → (b : Bool) → goodDisc disc ≡ b → P (ifUsable (unless a (Unusable WrongLength) (unless b (Unusable BadDisc) Usable)) refuse rest)
+    go false e b f = p e
+    go true e false f = q f
+    go true e true f = r e f
+
+pub is-usable : (disc : List ℕ) → isDiscLength (length disc) ≡ true → goodDisc disc ≡ true → checked disc ≡ Usable
+unfolding checked
+is-usable disc l g = rw (l, g)
+
+-- a disc that may be used
+pub record Fit (disc : List ℕ) : Type 0 where
+  pub right : isDiscLength (length disc) ≡ true
+  pub sound : goodDisc disc ≡ true
+  pub ready : Readable disc
+
+pub usable : (disc : List ℕ) → checked disc ≡ Usable → Fit disc
+unfolding checked
+usable disc e = go (isDiscLength (length disc)) refl (goodDisc disc) refl e
+  where
+    go : (a : Bool) → isDiscLength (length disc) ≡ a → (b : Bool) → goodDisc disc ≡ b → unless a (Unusable WrongLength) (unless b (Unusable BadDisc) Usable) ≡ Usable → Fit disc
+    go false l b g h = absurd (let z : _≡_ {A = ℕ} 0 1 = cc in omega arith)
+    go true l false g h = absurd (let z : _≡_ {A = ℕ} 0 1 = cc in omega arith)
+    go true l true g h = record { right = l; sound = g; ready = readable disc l g }

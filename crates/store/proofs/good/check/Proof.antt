@@ -1,0 +1,39 @@
+use Prim.Native.Nat.{_≤_}
+use mathlib.Core.Path.{_≡_, sym, _∙_}
+use mathlib.Core.Bool.{true}
+use borrow.Author.Tests.{eqb-true, not-true, not-false}
+use lib.ListN.{length}
+use Rattle.store.specs.Answer.{checked}
+use Rattle.store.specs.Directory.{isDiscLength}
+use native.Mathlib.Omega.{arith}
+use borrow.Author.Needs.{needs}
+use Rattle.store.proofs.good.check.Statement.{statement}
+use Rattle.store.proofs.good.check.Tie as tie
+
+right : (c : tie.Else1) → isDiscLength (length (c .before .before .before .args .disc .now)) ≡ true
+right c = sym (c .before .is-disc-length .ensures) ∙ not-false _ (c .if1 .left)
+
+long : (c : tie.Else1) → 161 ≤ length (c .before .before .before .args .disc .now)
+long c = let e : length (c .before .before .before .args .disc .now) ≡ 1024 = eqb-true _ _ (right c) in omega arith
+
+is-disc-length-requires : tie.Need-is-disc-length-requires
+is-disc-length-requires c κs = search needs
+
+returns : tie.Need-returns
+unfolding checked
+returns c = rw (sym (c .before .is-disc-length .ensures) ∙ not-true _ (c .if1 .taken))
+
+is-good-disc-requires : tie.Need-is-good-disc-requires
+is-good-disc-requires c κs = long c
+
+returns-2 : tie.Need-returns-2
+unfolding checked
+returns-2 c = rw (right (c .before .before), sym (c .before .is-good-disc .ensures) ∙ not-true _ (c .if2 .taken))
+
+returns-3 : tie.Need-returns-3
+unfolding checked
+returns-3 c = rw (right (c .before .before), sym (c .before .is-good-disc .ensures) ∙ not-false _ (c .if2 .left))
+
+pub check-spec : {M : Type 1} → statement M
+check-spec =
+    tie.close (tie.spec is-disc-length-requires returns is-good-disc-requires returns-2 returns-3)
