@@ -1,0 +1,3 @@
+pub mod Representation
+pub mod Modular
+pub mod Division

@@ -1,0 +1,8 @@
+pub mod Bench
+pub mod Encoding
+pub mod Magnitude
+pub mod OneOperand
+pub mod Operands
+pub mod Sizes
+pub mod Table
+pub mod Texts

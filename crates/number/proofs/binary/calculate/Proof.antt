@@ -1,0 +1,29 @@
+-- By the operands' type.
+use mathlib.Core.Path.{_∙_}
+use borrow.Author.Needs.{needs}
+use mir.Syntax.{w8, w16}
+use Rattle.integer.proofs.Division.{on-operands}
+use Rattle.number.specs.Arithmetic.{whole}
+use Rattle.number.specs.declared.Number.the-variants.{Char, Int}
+use Rattle.number.proofs.binary.calculate.Statement.{statement}
+use Rattle.number.proofs.binary.calculate.Tie as tie
+
+pub calculate-spec : {M : Type 1} → statement M
+calculate-spec =
+    tie.close
+    (tie.spec
+    (λ c. search needs)
+    (λ c κs. search needs)
+    (λ c. search needs)
+    (λ c κs. search needs)
+    (λ c. search needs)
+    (λ c κs. search needs)
+    (λ c.
+    let g = c .before .before .pair .given in
+    rw (g .1) (c .calculate8 .ensures ∙ on-operands w8 (g .0 .0) (g .0 .1 .0) (search needs) (search needs)
+    (whole w8 Char (c .before .before .before .before .args .operator))))
+    (λ c.
+    let g = c .before .before .pair2 .given in
+    rw (g .1) (c .calculate16 .ensures ∙ on-operands w16 (g .0 .0) (g .0 .1 .0) (search needs) (search needs)
+    (whole w16 Int (c .before .before .before .before .args .operator))))
+    (λ c. rw (c .before .before .pair3 .given .1) (c .calculate-floats .ensures)))

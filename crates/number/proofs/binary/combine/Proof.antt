@@ -1,0 +1,27 @@
+-- By the operands' type.
+use borrow.Author.Needs.{needs}
+use mir.Syntax.{w8, w16}
+use Rattle.number.specs.Binary.{wholeBits}
+use Rattle.number.specs.declared.Number.the-variants.{Char, Int}
+use Rattle.number.proofs.Operands.{combined}
+use Rattle.number.proofs.binary.combine.Statement.{statement}
+use Rattle.number.proofs.binary.combine.Tie as tie
+
+pub combine-spec : {M : Type 1} → statement M
+combine-spec =
+    tie.close
+    (tie.spec
+    (λ c. search needs)
+    (λ c κs. search needs)
+    (λ c. search needs)
+    (λ c κs. search needs)
+    (λ c. search needs)
+    (λ c.
+    let g = c .before .before .pair .given in
+    rw (g .1) (combined w8 Char (g .0 .0) (g .0 .1 .0) (search needs) (search needs) (wholeBits w8 (c .before .before .before .before .args .operator))
+    (c .combine8 .result) (search needs) (c .combine8 .ensures)))
+    (λ c.
+    let g = c .before .before .pair2 .given in
+    rw (g .1) (combined w16 Int (g .0 .0) (g .0 .1 .0) (search needs) (search needs) (wholeBits w16 (c .before .before .before .before .args .operator))
+    (c .combine16 .result) (search needs) (c .combine16 .ensures)))
+    (λ c. search needs))

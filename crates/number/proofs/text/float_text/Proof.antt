@@ -1,0 +1,41 @@
+-- By what is printed.
+use mathlib.Core.Path.{sym, _∙_}
+use native.Mathlib.Omega.{arith}
+use borrow.Author.Needs.{needs}
+use Rattle.float.proofs.Hundredths.{hundredths-bound}
+use Rattle.number.proofs.text.float_text.Statement.{statement}
+use Rattle.number.proofs.text.float_text.Tie as tie
+
+pub float-text-spec : {M : Type 1} → statement M
+float-text-spec =
+    tie.close
+    (tie.spec
+    (λ c κs. search needs)
+    (λ c. search needs)
+    (λ c. search needs)
+    (λ c. search needs)
+    (λ c κs. search needs)
+    (λ c. search needs)
+    (λ c. search needs)
+    (λ c. search needs)
+    (λ c κs. search needs)
+    (λ c. search needs)
+    (λ c. search needs)
+    (λ c. search needs)
+    (λ c κs. search needs)
+    (λ c. search needs)
+    (λ c κs.
+    omega (
+      arith,
+      hundredths-bound (c .before .before .before .before .args .x)
+          (sym (c .before .negative3 .given .1) ∙ c .before .before .before .to-printed .ensures),
+    ))
+    (λ c.
+    rw (sym (c .before .before .before .before .before .to-printed .ensures) ∙ c .before .before .before .enum-told .given .1) (c .signed .ensures))
+    (λ c.
+    rw (sym (c .before .before .before .before .before .before .to-printed .ensures) ∙ c .before .before .before .before .negative .given .1)
+    (c .signed2 .ensures))
+    (λ c.
+    rw (sym (c .before .before .before .before .before .before .to-printed .ensures) ∙ c .before .before .before .before .negative2 .given .1)
+    (c .signed3 .ensures))
+    (λ c. rw (sym (c .before .before .before .before .to-printed .ensures) ∙ c .before .before .negative3 .given .1) (c .hundredths-text .ensures)))

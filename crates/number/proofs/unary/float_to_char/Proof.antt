@@ -1,0 +1,27 @@
+-- The law of the range at 8 bits.
+use native.Mathlib.Omega.{arith}
+use borrow.Author.Needs.{needs}
+use mir.Syntax.{w8}
+use Rattle.float.specs.declared.whole.Rounding.the-variants.{TowardZero}
+use Rattle.number.specs.declared.Number.the-variants.{Char}
+use Rattle.number.proofs.OneOperand.{narrows, narrowed, beyond}
+use Rattle.number.proofs.unary.float_to_char.Statement.{statement}
+use Rattle.number.proofs.unary.float_to_char.Tie as tie
+
+pub float-to-char-spec : {M : Type 1} → statement M
+float-to-char-spec =
+    tie.close
+    (tie.spec
+    (λ c κs. search needs)
+    (λ c. search needs)
+    (λ c.
+    let g = c .before .z .given in
+    narrows w8 (omega arith) TowardZero (c .before .before .before .before .args .x) (c .before .before .before .to-whole .ensures) (g .0 .0) (g .1)
+    (search needs))
+    (λ c. search needs)
+    (λ c.
+    let g = c .before .z .given in
+    narrowed w8 (omega arith) TowardZero (c .before .before .before .before .args .x) (c .before .before .before .to-whole .ensures) (g .0 .0) (g .1)
+    (search needs) Char)
+    (λ c.
+    beyond w8 (omega arith) TowardZero (c .before .before .before .args .x) (c .before .before .to-whole .ensures) (c .enum-told .given .1) Char))

@@ -1,0 +1,27 @@
+-- The law of the range at 16 bits.
+use native.Mathlib.Omega.{arith}
+use borrow.Author.Needs.{needs}
+use mir.Syntax.{w16}
+use Rattle.number.specs.declared.Number.the-variants.{Int}
+use Rattle.number.proofs.OneOperand.{narrows, narrowed, beyond}
+use Rattle.number.proofs.unary.float_to_int.Statement.{statement}
+use Rattle.number.proofs.unary.float_to_int.Tie as tie
+
+pub float-to-int-spec : {M : Type 1} → statement M
+float-to-int-spec =
+    tie.close
+    (tie.spec
+    (λ c κs. search needs)
+    (λ c. search needs)
+    (λ c.
+    let g = c .before .z .given in
+    let s = c .before .before .before .before in
+    narrows w16 (omega arith) (s .args .rounding) (s .args .x) (c .before .before .before .to-whole .ensures) (g .0 .0) (g .1) (search needs))
+    (λ c. search needs)
+    (λ c.
+    let g = c .before .z .given in
+    let s = c .before .before .before .before in
+    narrowed w16 (omega arith) (s .args .rounding) (s .args .x) (c .before .before .before .to-whole .ensures) (g .0 .0) (g .1) (search needs) Int)
+    (λ c.
+    let s = c .before .before .before in
+    beyond w16 (omega arith) (s .args .rounding) (s .args .x) (c .before .before .to-whole .ensures) (c .enum-told .given .1) Int))

@@ -1,0 +1,39 @@
+-- By the type and the sign.
+use borrow.Author.Needs.{needs}
+use mir.Syntax.{w8, w16}
+use Rattle.number.specs.declared.Number.the-variants.{Char, Int}
+use Rattle.number.proofs.OneOperand.{root-negative, root-fits, root-reads}
+use Rattle.number.proofs.unary.root_of.Statement.{statement}
+use Rattle.number.proofs.unary.root_of.Tie as tie
+
+pub root-of-spec : {M : Type 1} → statement M
+root-of-spec =
+    tie.close
+    (tie.spec
+    (λ c. search needs)
+    (λ c κs. search needs)
+    (λ c. search needs)
+    (λ c κs. search needs)
+    (λ c.
+    root-fits w8 Char (c .before .before .before .before .a .given .0 .0) (search needs) (c .before .before .if1 .left) (c .whole-root .result)
+    (c .before .bits8 .ensures) (c .whole-root .ensures))
+    (λ c. search needs)
+    (λ c κs. search needs)
+    (λ c. search needs)
+    (λ c κs. search needs)
+    (λ c.
+    root-fits w16 Int (c .before .before .before .before .a2 .given .0 .0) (search needs) (c .before .before .if2 .left) (c .whole-root2 .result)
+    (c .before .bits16 .ensures) (c .whole-root2 .ensures))
+    (λ c. search needs)
+    (λ c κs. search needs)
+    (λ c. rw (c .before .before .a .given .1) (root-negative w8 Char (c .before .before .a .given .0 .0) (search needs) (c .if1 .taken)))
+    (λ c.
+    let g = c .before .before .before .before .a .given in
+    rw (g .1) (root-reads w8 Char (g .0 .0) (search needs) (c .before .before .if1 .left) (c .whole-root .result) (c .before .bits8 .ensures)
+    (c .whole-root .ensures)))
+    (λ c. rw (c .before .before .a2 .given .1) (root-negative w16 Int (c .before .before .a2 .given .0 .0) (search needs) (c .if2 .taken)))
+    (λ c.
+    let g = c .before .before .before .before .a2 .given in
+    rw (g .1) (root-reads w16 Int (g .0 .0) (search needs) (c .before .before .if2 .left) (c .whole-root2 .result) (c .before .bits16 .ensures)
+    (c .whole-root2 .ensures)))
+    (λ c. rw (c .before .before .a3 .given .1) (cc)))

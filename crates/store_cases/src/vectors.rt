@@ -1,0 +1,87 @@
+// The outside vectors: calls and answers of another implementation, from data/vectors, which tools/disc_vectors.py writes.
+use crate::discs;
+use crate::print;
+ghost use Rattle.io.specs.Counts.{Counts};
+
+// Reads the next buffer of a vector, its length in two bytes and then its bytes, and answers the length. One that has no room counts as empty.
+fn read_part(fd: i32, buf: &mut [u8]) -> usize
+    ensures { λ r. ⌜ Counts r (now (buf .exit)) ⌝ }
+{
+    let mut size = [0u8; 2];
+    io::read_full(fd, &mut size);
+    let len = buffer::bytes::word(size[0], size[1]) as usize;
+    if buf.len() < len {
+        return 0;
+    }
+    io::read_full(fd, &mut buf[..len])
+}
+
+// Differs for buffers that differ in one byte or in their length.
+fn checksum(bytes: &[u8]) -> u64 {
+    let mut sum: u64 = 1;
+    let mut i: usize = 0;
+    while i < bytes.len() {
+        sum = (sum * 257 + bytes[i] as u64) % 4294967291;
+        i += 1;
+    }
+    sum
+}
+
+// The operation of a vector, told by its first letter; free space has 'u', for unused.
+fn perform(operation: u8, disc: &mut [u8], name: &[u8], bytes: &[u8], out: &mut [u8]) -> i32 {
+    match operation {
+        b's' => discs::store(disc, name, bytes),
+        b'r' => discs::retrieve(disc, name, out),
+        b'f' => discs::files(disc, out),
+        _ => discs::free_space(disc),
+    }
+}
+
+// A vector's line: its letter, the number, checksums of disc and output after the call.
+fn run(operation: u8, disc: &mut [u8], name: &[u8], bytes: &[u8], out: &mut [u8]) {
+    let number = perform(operation, disc, name, bytes, out);
+    print::text(&[operation, b' ']);
+    print::number(number);
+    print::checksum(checksum(disc));
+    print::checksum(checksum(out));
+    print::text(b"\n");
+}
+
+// Runs one vector, and answers whether there was one.
+fn run_next(fd: i32) -> bool {
+    let mut operation = [0u8; 1];
+    if io::read_full(fd, &mut operation) == 0 {
+        return false;
+    }
+    let mut disc = [0u8; 1056];
+    let disc_len = read_part(fd, &mut disc);
+    let mut name = [0u8; 16];
+    let name_len = read_part(fd, &mut name);
+    let mut bytes = [0u8; 1056];
+    let len = read_part(fd, &mut bytes);
+    let mut out = [0u8; 320];
+    let out_len = read_part(fd, &mut out);
+    run(
+        operation[0],
+        &mut disc[..disc_len],
+        &name[..name_len],
+        &bytes[..len],
+        &mut out[..out_len],
+    );
+    true
+}
+
+// A proved loop ends; this one at the latest after so many vectors.
+pub fn run_all() {
+    let fd = os::open_read(b"vectors");
+    if fd < 0 {
+        os::fail(b"vectors");
+        return;
+    }
+    print::text(b"outside vectors\n");
+    let mut left: u64 = 100000;
+    while left > 0 && run_next(fd) {
+        left -= 1;
+    }
+    libc::close(fd);
+}

@@ -1,0 +1,51 @@
+-- The counted entries: as a table of their places, and what a search among them found.
+use Prim.Native.Nat.{ℕ, zero, suc, _≤_, _<_}
+use mathlib.Core.Path.{_≡_, refl, ap, subst, _∙_}
+use mathlib.Core.Bool.{true, not}
+use mathlib.Core.List.{List, [], _∷_, _++_}
+use native.Mathlib.Omega.{arith}
+use lib.Dec.{eqb}
+use lib.ListN.{length, getD, take}
+use lib.Seq.{getD-take, take-suc}
+use borrow.Author.Tests.{eqb-true}
+use Rattle.buffer.specs.Lists.{all, tab}
+use Rattle.buffer.specs.declared.Found.the-variants.{At, Nowhere}
+use Rattle.buffer.proofs.Bools.{and-left, and-right, not-is-true}
+use Rattle.buffer.proofs.Lists.{all-each}
+use Rattle.buffer.proofs.Tables.{index-at, index-none}
+use Rattle.variable.specs.Table.{counted, find, isOf, noVariable}
+use Rattle.variable.specs.declared.Variable.{Variable}
+use Rattle.variable.specs.declared.Variables.{Variables}
+
+pub take-tab : {A : Type 0} (l : List A) (d : A) (n : ℕ) → n ≤ length l → take n l ≡ tab (λ i. getD l i d) n
+unfolding tab
+take-tab l d zero h = refl
+take-tab {A} l d (suc n) h = take-suc l n d h ∙ ap (λ (m : List A). m ++ (getD l n d ∷ [])) (take-tab l d n (omega arith))
+
+pub take-bound : {A : Type 0} (n : ℕ) (l : List A) → length (take n l) ≤ n
+take-bound zero l = omega arith
+take-bound (suc n) [] = omega arith
+take-bound (suc n) (x ∷ l) = let h = take-bound n l in omega arith
+
+-- ---- lookup
+pub record IsOf (n id : ℕ) (e : Variable) : Type 0 where
+  pub name : e .name ≡ n
+  pub owner : e .owner ≡ id
+
+pub isOf-is : (name id : ℕ) (e : Variable) → isOf name id e ≡ true → IsOf name id e
+isOf-is name id e h = record { name = eqb-true _ _ (and-left (eqb (e .name) name) (eqb (e .owner) id) h); owner = eqb-true _ _ (and-right (eqb (e .name) name) (eqb (e .owner) id) h) }
+
+module _ (v : Variables) (name id : ℕ) where
+  -- what is found is counted and has that name and owner
+  pub find-found : (i : ℕ) → find v name id ≡ At i → (i < v .count) × IsOf name id (getD (v .entries) i noVariable)
+  unfolding find
+  find-found i e =
+      let f = index-at (isOf name id) noVariable (counted v) i e in
+      let b = take-bound (v .count) (v .entries) in
+      let h : i < v .count = omega (arith, f .inside) in
+      (h, isOf-is name id (getD (v .entries) i noVariable) (subst (λ (d : Variable). isOf name id d ≡ true) (getD-take (v .count) (v .entries) i noVariable h) (f .holds)))
+
+  -- none found: none has them
+  pub find-none : find v name id ≡ Nowhere → all (λ e. not (isOf name id e)) (counted v) ≡ true
+  unfolding find
+  find-none e = all-each (λ d. not (isOf name id d)) (counted v) noVariable (λ i h. not-is-true (index-none (isOf name id) noVariable (counted v) e i h))

@@ -1,0 +1,96 @@
+-- The loop: the first i entries are good and beside each other.
+use Prim.Native.Nat.{_≤_, _-_}
+use mathlib.Core.Path.{_≡_, refl, sym, _∙_}
+use mathlib.Core.Bool.{true, and-false}
+use borrow.Author.Tests.{not-true, not-false}
+use lib.ListN.{length, getD}
+use Rattle.buffer.specs.Lists.{all, pairs, tab}
+use Rattle.buffer.proofs.Lists.{all-tab-next, all-tab-stop, pairs-tab-next, pairs-tab-stop}
+use Rattle.variable.specs.Good.{beside, goodVariable}
+use Rattle.variable.specs.Table.{noVariable}
+use Rattle.variable.proofs.Views.{take-tab}
+use native.Mathlib.Omega.{arith}
+use borrow.Author.Needs.{needs}
+use Rattle.variable.proofs.good.is_good_table.Statement.{statement}
+use Rattle.variable.proofs.good.is_good_table.Tie as tie
+
+abbrev Inv-loop : tie.InvT-loop
+Inv-loop live count entries i₀ i = (i ≤ count) × (all (goodVariable live) (tab (λ k. getD entries k noVariable) i) ≡ true) × (pairs beside (tab (λ k. getD entries k noVariable) i) ≡ true)
+
+abbrev μ-loop : tie.MeasureT-loop
+μ-loop live count entries i₀ i = count - i
+
+sizes : (s : tie.Start Inv-loop μ-loop) → length (s .args .t2) ≡ 25
+sizes s = search needs
+
+loop-holds : tie.Need-loop-holds Inv-loop μ-loop
+unfolding all pairs tab
+loop-holds c = (omega arith, refl, refl)
+
+mul-e : tie.Need-mul-e Inv-loop μ-loop
+mul-e c = omega arith
+
+array-copy-out-e : tie.Need-array-copy-out-e Inv-loop μ-loop
+array-copy-out-e c = omega arith
+
+is-good-variable-requires : tie.Need-is-good-variable-requires Inv-loop μ-loop
+is-good-variable-requires c κs = search needs
+
+returns : tie.Need-returns Inv-loop μ-loop
+returns c =
+    let l = c .before .before .before .before in
+    let a = l .before .before .args in
+    let n = sizes (l .before .before) in
+    let e = sym (c .before .is-good-variable .ensures) ∙ not-true _ (c .if1 .taken) in
+    rw (take-tab (a .t2) noVariable (a .count) (omega arith), all-tab-stop (λ k. getD (a .t2) k noVariable) (goodVariable (a .live .now)) (l .loop .i) (a .count) (omega arith) e)
+
+is-beside-earlier-requires : tie.Need-is-beside-earlier-requires Inv-loop μ-loop
+is-beside-earlier-requires c κs = omega arith
+
+returns-2 : tie.Need-returns-2 Inv-loop μ-loop
+returns-2 c =
+    let l = c .before .before .before .before .before .before in
+    let a = l .before .before .args in
+    let n = sizes (l .before .before) in
+    let e = rw (take-tab (a .t2) noVariable (l .loop .i) (omega arith)) at (sym (c .before .is-beside-earlier .ensures) ∙ not-true _ (c .if2 .taken)) in
+    rw (take-tab (a .t2) noVariable (a .count) (omega arith), pairs-tab-stop (λ k. getD (a .t2) k noVariable) beside (l .loop .i) (a .count) (omega arith) e) (sym (and-false (all (goodVariable (a .live .now)) (tab (λ k. getD (a .t2) k noVariable) (a .count)))))
+
+add-i : tie.Need-add-i Inv-loop μ-loop
+add-i c = omega arith
+
+loop-less : tie.Need-loop-less Inv-loop μ-loop
+loop-less c = omega arith
+
+loop-again : tie.Need-loop-again Inv-loop μ-loop
+loop-again c =
+    let l = c .before .before .before .before .before .before in
+    let a = l .before .before .args in
+    let n = sizes (l .before .before) in
+    let e = rw (take-tab (a .t2) noVariable (l .loop .i) (omega arith)) at (sym (c .before .is-beside-earlier .ensures) ∙ not-false _ (c .if2 .left)) in
+    (omega arith, all-tab-next (λ k. getD (a .t2) k noVariable) (goodVariable (a .live .now)) (l .loop .i) (l .loop .inv .1) (sym (c .before .before .before .is-good-variable .ensures) ∙ not-false _ (c .before .before .if1 .left)), pairs-tab-next (λ k. getD (a .t2) k noVariable) beside (l .loop .i) (l .loop .inv .2) e)
+
+returns-3 : tie.Need-returns-3 Inv-loop μ-loop
+returns-3 c =
+    let l = c .before in
+    let a = l .before .before .args in
+    let n = sizes (l .before .before) in
+    let q : l .loop .i ≡ a .count = omega arith in
+    rw (take-tab (a .t2) noVariable (a .count) (omega arith), ← q, l .loop .inv .1, l .loop .inv .2)
+
+pub is-good-table-spec : {M : Type 1} → statement M
+is-good-table-spec =
+    tie.close
+    (tie.spec
+    Inv-loop
+    μ-loop
+    loop-holds
+    mul-e
+    array-copy-out-e
+    is-good-variable-requires
+    returns
+    is-beside-earlier-requires
+    returns-2
+    add-i
+    loop-less
+    loop-again
+    returns-3)

@@ -1,0 +1,127 @@
+-- The loop: the first i entries are closed up, and those behind are the old ones.
+use Prim.Native.Nat.{ℕ, _≤_, _+_, _-_}
+use mathlib.Core.Path.{_≡_, refl, sym, ap, _∙_}
+use mathlib.Core.Bool.{true, false, not}
+use borrow.Author.Tests.{not-true, not-false}
+use lib.ListN.{length, getD, take}
+use Rattle.buffer.specs.Lists.{keep}
+use Rattle.variable.specs.Table.{freed, isGone, noVariable}
+use Rattle.variable.proofs.Closing.{closed, closed-gone, closed-more, kept-count, kept-gone, stays}
+use native.Mathlib.Omega.{arith}
+use borrow.Author.Needs.{needs}
+use Rattle.variable.proofs.table.close_up.Statement.{statement}
+use Rattle.variable.proofs.table.close_up.Tie as tie
+
+abbrev Inv-loop : tie.InvT-loop
+Inv-loop memory count every name owner old end entries₀ kept₀ i₀ entries kept i = (i ≤ end) × (kept ≤ i) × (kept ≡ length (keep (stays every name owner) (take i old))) × (entries ≡ closed (stays every name owner) noVariable i old)
+
+abbrev μ-loop : tie.MeasureT-loop
+μ-loop memory count every name owner old end entries₀ kept₀ i₀ entries kept i = end - i
+
+sizes : (s : tie.Start Inv-loop μ-loop) → length (s .args .t2) ≡ 25
+sizes s = search needs
+
+loop-holds : tie.Need-loop-holds Inv-loop μ-loop
+unfolding keep
+loop-holds c = (omega arith, omega arith, refl, refl)
+
+mul-e : tie.Need-mul-e Inv-loop μ-loop
+mul-e c = omega arith
+
+array-copy-out-e : tie.Need-array-copy-out-e Inv-loop μ-loop
+array-copy-out-e c = omega arith
+
+no-variable-requires : tie.Need-no-variable-requires Inv-loop μ-loop
+no-variable-requires c κs = search needs
+
+mul-entries : tie.Need-mul-entries Inv-loop μ-loop
+mul-entries c = omega arith
+
+array-set-from-entries : tie.Need-array-set-from-entries Inv-loop μ-loop
+array-set-from-entries c = omega arith
+
+add-i : tie.Need-add-i Inv-loop μ-loop
+add-i c = omega arith
+
+is-gone-requires : tie.Need-is-gone-requires Inv-loop μ-loop
+is-gone-requires c κs = search needs
+
+mul-entries-2 : tie.Need-mul-entries-2 Inv-loop μ-loop
+mul-entries-2 c = omega arith
+
+array-set-from-entries-2 : tie.Need-array-set-from-entries-2 Inv-loop μ-loop
+array-set-from-entries-2 c = omega arith
+
+add-kept : tie.Need-add-kept Inv-loop μ-loop
+add-kept c = omega arith
+
+loop-less : tie.Need-loop-less Inv-loop μ-loop
+loop-less c = omega arith
+
+loop-again : tie.Need-loop-again Inv-loop μ-loop
+loop-again c =
+    let l = c .before .before .before .before .before in
+    let a = l .before .args in
+    let n = sizes (l .before) in
+    let e : isGone (a .every) (a .name) (a .owner) (getD (a .t2) (l .loop .i) noVariable) ≡ false = sym (c .before .is-gone .ensures) ∙ not-true _ (c .if1 .taken) in
+    let s : stays (a .every) (a .name) (a .owner) (getD (a .t2) (l .loop .i) noVariable) ≡ true = ap not e in
+    let k = kept-count (stays (a .every) (a .name) (a .owner)) noVariable (a .t2) (l .loop .i) (omega arith) s in (
+      omega arith,
+      omega arith,
+      ap (λ (m : ℕ). m + 1) (l .loop .inv .2) ∙ sym k,
+      closed-more (stays (a .every) (a .name) (a .owner)) noVariable (a .t2) (l .loop .i) (omega arith) (l .loop .entries) (c .before .before .no-variable .result) (l .loop .kept) (l .loop .inv .3) (c .before .before .no-variable .ensures) (l .loop .inv .2) s,
+    )
+
+loop-less-2 : tie.Need-loop-less-2 Inv-loop μ-loop
+loop-less-2 c = omega arith
+
+loop-again-2 : tie.Need-loop-again-2 Inv-loop μ-loop
+loop-again-2 c =
+    let l = c .before .before .before .before .before in
+    let a = l .before .args in
+    let n = sizes (l .before) in
+    let e : isGone (a .every) (a .name) (a .owner) (getD (a .t2) (l .loop .i) noVariable) ≡ true = sym (c .before .is-gone .ensures) ∙ not-false _ (c .if1 .left) in
+    let s : stays (a .every) (a .name) (a .owner) (getD (a .t2) (l .loop .i) noVariable) ≡ false = ap not e in
+    let k = ap length (kept-gone (stays (a .every) (a .name) (a .owner)) noVariable (a .t2) (l .loop .i) (omega arith) s) in (
+      omega arith,
+      omega arith,
+      l .loop .inv .2 ∙ sym k,
+      closed-gone (stays (a .every) (a .name) (a .owner)) noVariable (a .t2) (l .loop .i) (omega arith) (l .loop .entries) (c .before .before .no-variable .result) (l .loop .inv .3) (c .before .before .no-variable .ensures) s,
+    )
+
+cast-t25 : tie.Need-cast-t25 Inv-loop μ-loop
+cast-t25 c = omega arith
+
+returns : tie.Need-returns Inv-loop μ-loop
+unfolding freed
+returns c =
+    let l = c .before in
+    let a = l .before .args in
+    let q : l .loop .i ≡ a .count = omega arith in
+    let k : l .loop .kept ≡ length (keep (stays (a .every) (a .name) (a .owner)) (take (a .count) (a .t2))) = rw q at (l .loop .inv .2) in
+    let e : l .loop .entries ≡ closed (stays (a .every) (a .name) (a .owner)) noVariable (a .count) (a .t2) = rw q at (l .loop .inv .3) in
+    λ t. record { memory = a .memory; entries = e t; count = k t }
+
+pub close-up-spec : {M : Type 1} → statement M
+close-up-spec =
+    tie.close
+    (tie.spec
+    Inv-loop
+    μ-loop
+    loop-holds
+    mul-e
+    array-copy-out-e
+    no-variable-requires
+    mul-entries
+    array-set-from-entries
+    add-i
+    is-gone-requires
+    mul-entries-2
+    array-set-from-entries-2
+    add-kept
+    loop-less
+    loop-again
+    loop-less-2
+    loop-again-2
+    cast-t25
+    returns)

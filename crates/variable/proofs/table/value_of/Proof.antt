@@ -1,0 +1,60 @@
+use Prim.Native.Nat.{ℕ, _+_, _≤_}
+use mathlib.Core.Path.{_≡_, refl, sym, ap, subst, _∙_}
+use mathlib.Core.List.{List}
+use lib.ListN.{length, take, drop, replicate}
+use lib.Seq.{length-take-le, take-at}
+use Rattle.buffer.specs.Buffer.{part}
+use native.Mathlib.Omega.{arith}
+use borrow.Author.Needs.{needs}
+use Rattle.variable.proofs.table.value_of.Statement.{statement}
+use Rattle.variable.proofs.table.value_of.Tie as tie
+
+sizes : (s : tie.Start) → length (s .args .v .memory) ≡ 256
+sizes s = search needs
+
+abbrev zeros : List ℕ
+zeros = replicate 32 0
+
+lent : (s : tie.Start) → length (take (s .args .entry .size) zeros) ≡ s .args .entry .size
+lent s = length-take-le (s .args .entry .size) zeros (omega arith)
+
+cast-at : tie.Need-cast-at
+cast-at c = search needs
+
+cast-n : tie.Need-cast-n
+cast-n c = search needs
+
+array-borrow-prefix-bytes : tie.Need-array-borrow-prefix-bytes
+array-borrow-prefix-bytes c = search needs
+
+slice-aggregate-copy-part : tie.Need-slice-aggregate-copy-part
+slice-aggregate-copy-part c = sym (lent (c .before .before .before .before))
+
+slice-aggregate-copy-part-2 : tie.Need-slice-aggregate-copy-part-2
+slice-aggregate-copy-part-2 c = search needs
+
+copy-part-requires : tie.Need-copy-part-requires
+copy-part-requires c κs =
+    let s = c .before .before .before .before .before in
+    let n = sizes s in
+    subst (λ (k : ℕ). s .args .entry .address + k ≤ length (s .args .v .memory)) (sym (lent s)) (omega arith)
+
+returns : tie.Need-returns
+returns c =
+    let s = c .before .before .before .before .before .before .before in
+    let a = s .args in
+    let r = c .before .copy-part in
+    let e : r .last .0 ≡ part (a .v .memory) (a .entry .address) (a .entry .size) = r .ensures ∙ ap (λ (k : ℕ). part (a .v .memory) (a .entry .address) k) (lent s) in
+    (refl, refl, take-at (r .last .0) (drop (a .entry .size) zeros) (a .entry .size) (r .kept .0 ∙ lent s) ∙ e)
+
+pub value-of-spec : {M : Type 1} → statement M
+value-of-spec =
+    tie.close
+    (tie.spec
+    cast-at
+    cast-n
+    array-borrow-prefix-bytes
+    slice-aggregate-copy-part
+    slice-aggregate-copy-part-2
+    copy-part-requires
+    returns)

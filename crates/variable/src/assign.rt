@@ -1,0 +1,122 @@
+// SET: a place for the new value, the entry and its bytes.
+use crate::Assigned;
+use crate::Placing;
+use crate::Value;
+use crate::Variable;
+use crate::Variables;
+use buffer::Found;
+use place::Run;
+ghost use mathlib.Core.Path.{_≡_};
+ghost use mathlib.Core.List.{map};
+ghost use Prim.Native.Nat.{_+_, _≤_, _<_};
+ghost use lib.ListN.{set, take};
+ghost use Rattle.variable.specs.Assign.{added, assigned, entryLimit, highEnd, lowEnd, placing, valueBytes};
+ghost use Rattle.variable.specs.Table.{runOf};
+
+// All variables share one memory and one table.
+const LOW_END: usize = 0;
+
+const HIGH_END: usize = 256;
+
+const ENTRY_LIMIT: usize = 25;
+
+pub fn run_of(e: Variable) -> Run
+    ensures { λ r. ⌜ r ≡ runOf e ⌝ }
+{
+    Run {
+        start: e.address as u16,
+        len: e.size as u16,
+    }
+}
+
+// The runs that variables take: the first count of the result.
+fn taken_runs(entries: [Variable; 25], count: usize) -> [Run; 36]
+    requires { ⌜ count ≤ 25 ⌝ }
+    ensures { λ r. ⌜ take count r ≡ map runOf (take count entries) ⌝ }
+{
+    let mut runs = place::no_runs();
+    let mut i: usize = 0;
+    while i < count {
+        let run = run_of(entries[i]);
+        runs[i] = run;
+        i += 1;
+    }
+    runs
+}
+
+// Document 01, fault 10: "no variable entry or run"
+fn place_for(runs: [Run; 36], used: usize, n: usize) -> Placing
+    ensures { λ r. ⌜ r ≡ placing (take used runs) lowEnd highEnd used entryLimit n ⌝ }
+{
+    if ENTRY_LIMIT <= used {
+        return Placing::NoEntry;
+    }
+    match place::find_place(runs, used, LOW_END, HIGH_END, n) {
+        Found::At(a) => Placing::Address(a),
+        Found::Nowhere => Placing::NoRun,
+    }
+}
+
+fn with_entry(entries: [Variable; 25], i: usize, e: Variable) -> [Variable; 25]
+    requires { ⌜ i < 25 ⌝ }
+    ensures { λ r. ⌜ r ≡ set entries i e ⌝ }
+{
+    let mut next = entries;
+    next[i] = e;
+    next
+}
+
+// The new entry last, the value's bytes in memory.
+fn add(v: Variables, e: Variable, x: Value) -> Variables
+    requires { ⌜ (v .count < 25) × (e .address + x .size ≤ 256) × (x .size ≤ 32) ⌝ }
+    ensures { λ r. ⌜ r ≡ added v e (valueBytes x) ⌝ }
+{
+    let at = e.address as usize;
+    let n = x.size as usize;
+    let bytes = x.bytes;
+    let mut memory = v.memory;
+    buffer::bytes::overwrite_at(&mut memory, at, &bytes[..n]);
+    let entries = v.entries;
+    let next = with_entry(entries, v.count as usize, e);
+    Variables {
+        memory: memory,
+        entries: next,
+        count: v.count + 1,
+    }
+}
+
+// Document 01: "SET first frees the old variable, then takes the lowest fitting address."
+pub fn assign(v: Variables, name: u8, owner: u16, x: Value) -> Assigned
+    requires { ⌜ (v .count ≤ 25) × (1 ≤ x .size) × (x .size ≤ 32) ⌝ }
+    ensures { λ r. ⌜ r ≡ assigned v name owner x ⌝ }
+{
+    let rest = crate::table::free_variable(v, name, owner);
+    let entries = rest.entries;
+    let used = rest.count as usize;
+    let runs = taken_runs(entries, used);
+    let placing = place_for(runs, used, x.size as usize);
+    match placing {
+        Placing::Address(a) => {
+            let e = Variable {
+                name: name,
+                kind: x.kind,
+                address: a as u8,
+                size: x.size,
+                owner: owner,
+            };
+            let next = add(rest, e, x);
+            Assigned {
+                placing: placing,
+                variables: next,
+            }
+        }
+        Placing::NoEntry => Assigned {
+            placing: placing,
+            variables: v,
+        },
+        Placing::NoRun => Assigned {
+            placing: placing,
+            variables: v,
+        },
+    }
+}

@@ -1,0 +1,40 @@
+// Variable memory: 256 bytes and 25 entries that all processes share, by value.
+pub mod assign;
+pub mod good;
+pub mod table;
+
+// Document 01: "25 variable entries of name 1, type 1, address 1, size 1, process ID 2."
+pub struct Variable {
+    pub name: u8,
+    pub kind: u8,
+    pub address: u8,
+    pub size: u8,
+    pub owner: u16,
+}
+
+// The first count entries are variables; the others are not read and keep their bytes.
+pub struct Variables {
+    pub memory: [u8; 256],
+    pub entries: [Variable; 25],
+    pub count: u8,
+}
+
+// A typed value: its first size bytes, as they lie on the stack without length and type.
+pub struct Value {
+    pub kind: u8,
+    pub size: u8,
+    pub bytes: [u8; 32],
+}
+
+// Where a new variable goes, or why it does not: both refusals are document 01's fault 10.
+pub enum Placing {
+    Address(usize),
+    NoEntry,
+    NoRun,
+}
+
+// What a SET leaves.
+pub struct Assigned {
+    pub placing: Placing,
+    pub variables: Variables,
+}
