@@ -1,16 +1,16 @@
 -- The loop that closes up: one turn of it, of any list.
 use Prim.Native.Nat.{ℕ, suc, _+_, _-_, _≤_, _<_}
-use mathlib.Core.Path.{_≡_, sym, ap, _∙_}
+use mathlib.Core.Path.{_≡_, refl, sym, ap, _∙_}
 use mathlib.Core.Bool.{Bool, true, false, not}
 use mathlib.Core.List.{List, [], _∷_, _++_, append-assoc, append-nil}
 use native.Mathlib.Numerals.{add-one}
 use native.Mathlib.Omega.{arith}
 use lib.ListN.{length, getD, take, drop, set, replicate, length-append, length-replicate, replicate-append-replicate}
-use lib.Seq.{append-snoc, drop-cons, length-take-le, set-append-seam, set-at}
+use lib.Seq.{append-snoc, drop-cons, set-append-seam, set-at}
 use Rattle.buffer.specs.Lists.{keep}
 use Rattle.variable.specs.Table.{isGone}
 use Rattle.variable.specs.declared.Variable.{Variable}
-use Rattle.buffer.proofs.Kept.{keep-length, keep-take-next}
+use Rattle.buffer.proofs.Kept.{keep-take-next}
 
 -- the elements of k stay, d takes the places behind
 module _ {A : Type 0} (d : A) where
@@ -41,30 +41,33 @@ module _ {A : Type 0} (d : A) where
 abbrev pub stays : Bool → ℕ → ℕ → Variable → Bool
 stays every name id e = not (isGone every name id e)
 
--- the first n elements closed up: what p holds of stays
-abbrev pub closed : {A : Type 0} → (A → Bool) → A → ℕ → List A → List A
-closed p d n l = keep p (take n l) ++ replicate (n - length (keep p (take n l))) d ++ drop n l
+-- after n turns over l: the list m, of which the first k are what stayed
+pub record Closed {A : Type 0} (p : A → Bool) (d : A) (n : ℕ) (l m : List A) (k : ℕ) : Type 0 where
+  pub bound : k ≤ n
+  pub count : k ≡ length (keep p (take n l))
+  pub list : m ≡ keep p (take n l) ++ replicate (n - length (keep p (take n l))) d ++ drop n l
 
-module _ {A : Type 0} (p : A → Bool) (d : A) (l : List A) (n : ℕ) (b : n < length l) where
-  kept-bound : length (keep p (take n l)) ≤ n
-  kept-bound =
-      let m : length (take n l) ≡ n = length-take-le n l (omega arith) in
-      let k = keep-length p (take n l) in
-      omega arith
+module _ {A : Type 0} (p : A → Bool) (d : A) (l : List A) where
+  pub closed-none : Closed p d 0 l l 0
+  unfolding keep
+  closed-none = record { bound = omega arith; count = refl; list = refl }
 
-  pub kept-gone : p (getD l n d) ≡ false → keep p (take (n + 1) l) ≡ keep p (take n l)
-  kept-gone e = keep-take-next p l n d b ∙ rw e (append-nil (keep p (take n l)))
+  module _ (n k : ℕ) (m : List A) (z : A) (b : n < length l) (f : Closed p d n l m k) (w : z ≡ d) where
+    bounded : length (keep p (take n l)) ≤ n
+    bounded = omega (arith, f .bound, f .count)
 
-  kept-more : p (getD l n d) ≡ true → keep p (take (n + 1) l) ≡ keep p (take n l) ++ (getD l n d ∷ [])
-  kept-more e = keep-take-next p l n d b ∙ rw e
+    -- the element goes
+    pub closed-gone : p (getD l n d) ≡ false → Closed p d (n + 1) l (set m n z) k
+    closed-gone e =
+        let q : keep p (take (n + 1) l) ≡ keep p (take n l) = keep-take-next p l n d b ∙ rw e (append-nil (keep p (take n l))) in
+        record { bound = omega (arith, f .bound); count = rw q (f .count); list = rw (q, f .list, w) (blanked d (keep p (take n l)) l n bounded b) }
 
-  pub kept-count : p (getD l n d) ≡ true → length (keep p (take (n + 1) l)) ≡ length (keep p (take n l)) + 1
-  kept-count e = ap length (kept-more e) ∙ length-append (keep p (take n l)) (getD l n d ∷ [])
-
-  pub closed-gone : (m : List A) (z : A) → m ≡ closed p d n l → z ≡ d → p (getD l n d) ≡ false → set m n z ≡ closed p d (n + 1) l
-  closed-gone m z q w e = rw (q, w, kept-gone e) (blanked d (keep p (take n l)) l n kept-bound b)
-
-  pub closed-more : (m : List A) (z : A) (k : ℕ) → m ≡ closed p d n l → z ≡ d → k ≡ length (keep p (take n l)) → p (getD l n d) ≡ true → set (set m n z) k (getD l n d) ≡ closed p d (n + 1) l
-  closed-more m z k q w v e =
-      rw (q, w, v, kept-more e, blanked d (keep p (take n l)) l n kept-bound b)
-      (extended d (keep p (take n l)) (drop (n + 1) l) n (getD l n d) kept-bound)
+    -- it stays
+    pub closed-more : p (getD l n d) ≡ true → Closed p d (n + 1) l (set (set m n z) k (getD l n d)) (k + 1)
+    closed-more e =
+        let q : keep p (take (n + 1) l) ≡ keep p (take n l) ++ (getD l n d ∷ []) = keep-take-next p l n d b ∙ rw e in
+        record {
+          bound = omega (arith, f .bound);
+          count = rw q (ap (λ (j : ℕ). j + 1) (f .count) ∙ sym (length-append (keep p (take n l)) (getD l n d ∷ [])));
+          list = rw (q, f .list, w, f .count, blanked d (keep p (take n l)) l n bounded b) (extended d (keep p (take n l)) (drop (n + 1) l) n (getD l n d) bounded);
+        }

@@ -79,4 +79,4 @@ module _ (v : Variables) (name id : ℕ) where
     where
       go : (h : Found) → Agree (ownedBy id) (cellOf (v .memory)) named noVariable (owned v id) (counted v) Nowhere h → h ≡ Nowhere
       go (At k) a = absurd a
-      go Nowhere a = ?
+      go Nowhere a = refl

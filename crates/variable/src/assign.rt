@@ -10,7 +10,7 @@ ghost use mathlib.Core.Path.{_≡_};
 ghost use mathlib.Core.List.{map};
 ghost use Prim.Native.Nat.{_+_, _≤_, _<_};
 ghost use lib.ListN.{set, take};
-ghost use Rattle.variable.specs.Assign.{added, assigned, entryLimit, highEnd, lowEnd, placing, valueBytes};
+ghost use Rattle.variable.specs.Assign.{added, assigned, entryLimit, highEnd, lowEnd, placing, placingFault, valueBytes};
 ghost use Rattle.variable.specs.Table.{runOf};
 
 // All variables share one memory and one table.
@@ -20,15 +20,6 @@ const HIGH_END: usize = 256;
 
 const ENTRY_LIMIT: usize = 25;
 
-pub fn run_of(e: Variable) -> Run
-    ensures { λ r. ⌜ r ≡ runOf e ⌝ }
-{
-    Run {
-        start: e.address as u16,
-        len: e.size as u16,
-    }
-}
-
 // The runs that variables take: the first count of the result.
 fn taken_runs(entries: [Variable; 25], count: usize) -> [Run; 36]
     requires { ⌜ count ≤ 25 ⌝ }
@@ -37,7 +28,7 @@ fn taken_runs(entries: [Variable; 25], count: usize) -> [Run; 36]
     let mut runs = place::no_runs();
     let mut i: usize = 0;
     while i < count {
-        let run = run_of(entries[i]);
+        let run = crate::table::run_of(entries[i]);
         runs[i] = run;
         i += 1;
     }
@@ -54,6 +45,17 @@ fn place_for(runs: [Run; 36], used: usize, n: usize) -> Placing
     match place::find_place(runs, used, LOW_END, HIGH_END, n) {
         Found::At(a) => Placing::Address(a),
         Found::Nowhere => Placing::NoRun,
+    }
+}
+
+// Document 01's fault number of a placing, 0 where there is none.
+pub fn placing_fault(p: Placing) -> u8
+    ensures { λ r. ⌜ r ≡ placingFault p ⌝ }
+{
+    match p {
+        Placing::Address(_) => 0,
+        Placing::NoEntry => 10,
+        Placing::NoRun => 10,
     }
 }
 

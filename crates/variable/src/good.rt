@@ -51,11 +51,7 @@ fn is_good_variable(live: &[u16], e: Variable) -> bool
 fn is_beside(d: Variable, e: Variable) -> bool
     ensures { λ r. ⌜ r ≡ beside d e ⌝ }
 {
-    if !place::is_apart(
-        d.address as usize,
-        d.size as usize,
-        crate::assign::run_of(e),
-    ) {
+    if !place::is_apart(d.address as usize, d.size as usize, crate::table::run_of(e)) {
         return false;
     }
     !crate::table::is_of(d, e.name, e.owner)

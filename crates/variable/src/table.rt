@@ -3,13 +3,14 @@ use crate::Value;
 use crate::Variable;
 use crate::Variables;
 use buffer::Found;
+use place::Run;
 ghost use mathlib.Core.Path.{_≡_};
 ghost use Prim.Native.Nat.{_+_, _≤_};
 ghost use lib.ListN.{take};
 ghost use Rattle.buffer.specs.Buffer.{part};
 ghost use Rattle.buffer.specs.Lists.{index};
 ghost use Rattle.variable.specs.Assign.{valueBytes};
-ghost use Rattle.variable.specs.Table.{find, freed, freedAll, isGone, isOf, noVariable};
+ghost use Rattle.variable.specs.Table.{find, freed, freedAll, isGone, isOf, noVariable, runOf};
 
 pub fn is_of(e: Variable, name: u8, owner: u16) -> bool
     ensures { λ r. ⌜ r ≡ isOf name owner e ⌝ }
@@ -42,6 +43,15 @@ pub fn find_variable(v: Variables, name: u8, owner: u16) -> Found
     let entries = v.entries;
     let count = v.count as usize;
     find_entry(entries, count, name, owner)
+}
+
+pub fn run_of(e: Variable) -> Run
+    ensures { λ r. ⌜ r ≡ runOf e ⌝ }
+{
+    Run {
+        start: e.address as u16,
+        len: e.size as u16,
+    }
 }
 
 pub fn value_of(v: Variables, entry: Variable) -> Value

@@ -1,19 +1,18 @@
 -- The loop: the first i entries are closed up, and those behind are the old ones.
-use Prim.Native.Nat.{ℕ, _≤_, _+_, _-_}
-use mathlib.Core.Path.{_≡_, refl, sym, ap, _∙_}
-use mathlib.Core.Bool.{true, false, not}
+use Prim.Native.Nat.{_≤_, _-_}
+use mathlib.Core.Path.{_≡_, sym, ap, _∙_}
+use mathlib.Core.Bool.{not}
 use borrow.Author.Tests.{not-true, not-false}
-use lib.ListN.{length, getD, take}
-use Rattle.buffer.specs.Lists.{keep}
-use Rattle.variable.specs.Table.{freed, isGone, noVariable}
-use Rattle.variable.proofs.Closing.{closed, closed-gone, closed-more, kept-count, kept-gone, stays}
+use lib.ListN.{length}
+use Rattle.variable.specs.Table.{freed, noVariable}
+use Rattle.variable.proofs.Closing.{Closed, closed-gone, closed-more, closed-none, stays}
 use native.Mathlib.Omega.{arith}
 use borrow.Author.Needs.{needs}
 use Rattle.variable.proofs.table.close_up.Statement.{statement}
 use Rattle.variable.proofs.table.close_up.Tie as tie
 
 abbrev Inv-loop : tie.InvT-loop
-Inv-loop memory count every name owner old end entries₀ kept₀ i₀ entries kept i = (i ≤ end) × (kept ≤ i) × (kept ≡ length (keep (stays every name owner) (take i old))) × (entries ≡ closed (stays every name owner) noVariable i old)
+Inv-loop memory count every name owner old end entries₀ kept₀ i₀ entries kept i = (i ≤ end) × Closed (stays every name owner) noVariable i old entries kept
 
 abbrev μ-loop : tie.MeasureT-loop
 μ-loop memory count every name owner old end entries₀ kept₀ i₀ entries kept i = end - i
@@ -22,8 +21,7 @@ sizes : (s : tie.Start Inv-loop μ-loop) → length (s .args .t2) ≡ 25
 sizes s = search needs
 
 loop-holds : tie.Need-loop-holds Inv-loop μ-loop
-unfolding keep
-loop-holds c = (omega arith, omega arith, refl, refl)
+loop-holds c = (omega arith, closed-none (stays (c .args .every) (c .args .name) (c .args .owner)) noVariable (c .args .t2))
 
 mul-e : tie.Need-mul-e Inv-loop μ-loop
 mul-e c = omega arith
@@ -63,14 +61,8 @@ loop-again c =
     let l = c .before .before .before .before .before in
     let a = l .before .args in
     let n = sizes (l .before) in
-    let e : isGone (a .every) (a .name) (a .owner) (getD (a .t2) (l .loop .i) noVariable) ≡ false = sym (c .before .is-gone .ensures) ∙ not-true _ (c .if1 .taken) in
-    let s : stays (a .every) (a .name) (a .owner) (getD (a .t2) (l .loop .i) noVariable) ≡ true = ap not e in
-    let k = kept-count (stays (a .every) (a .name) (a .owner)) noVariable (a .t2) (l .loop .i) (omega arith) s in (
-      omega arith,
-      omega arith,
-      ap (λ (m : ℕ). m + 1) (l .loop .inv .2) ∙ sym k,
-      closed-more (stays (a .every) (a .name) (a .owner)) noVariable (a .t2) (l .loop .i) (omega arith) (l .loop .entries) (c .before .before .no-variable .result) (l .loop .kept) (l .loop .inv .3) (c .before .before .no-variable .ensures) (l .loop .inv .2) s,
-    )
+    let z = c .before .before .no-variable in
+    (omega arith, closed-more (stays (a .every) (a .name) (a .owner)) noVariable (a .t2) (l .loop .i) (l .loop .kept) (l .loop .entries) (z .result) (omega arith) (l .loop .inv .1) (z .ensures) (ap not (sym (c .before .is-gone .ensures) ∙ not-true _ (c .if1 .taken))))
 
 loop-less-2 : tie.Need-loop-less-2 Inv-loop μ-loop
 loop-less-2 c = omega arith
@@ -80,14 +72,8 @@ loop-again-2 c =
     let l = c .before .before .before .before .before in
     let a = l .before .args in
     let n = sizes (l .before) in
-    let e : isGone (a .every) (a .name) (a .owner) (getD (a .t2) (l .loop .i) noVariable) ≡ true = sym (c .before .is-gone .ensures) ∙ not-false _ (c .if1 .left) in
-    let s : stays (a .every) (a .name) (a .owner) (getD (a .t2) (l .loop .i) noVariable) ≡ false = ap not e in
-    let k = ap length (kept-gone (stays (a .every) (a .name) (a .owner)) noVariable (a .t2) (l .loop .i) (omega arith) s) in (
-      omega arith,
-      omega arith,
-      l .loop .inv .2 ∙ sym k,
-      closed-gone (stays (a .every) (a .name) (a .owner)) noVariable (a .t2) (l .loop .i) (omega arith) (l .loop .entries) (c .before .before .no-variable .result) (l .loop .inv .3) (c .before .before .no-variable .ensures) s,
-    )
+    let z = c .before .before .no-variable in
+    (omega arith, closed-gone (stays (a .every) (a .name) (a .owner)) noVariable (a .t2) (l .loop .i) (l .loop .kept) (l .loop .entries) (z .result) (omega arith) (l .loop .inv .1) (z .ensures) (ap not (sym (c .before .is-gone .ensures) ∙ not-false _ (c .if1 .left))))
 
 cast-t25 : tie.Need-cast-t25 Inv-loop μ-loop
 cast-t25 c = omega arith
@@ -98,9 +84,8 @@ returns c =
     let l = c .before in
     let a = l .before .args in
     let q : l .loop .i ≡ a .count = omega arith in
-    let k : l .loop .kept ≡ length (keep (stays (a .every) (a .name) (a .owner)) (take (a .count) (a .t2))) = rw q at (l .loop .inv .2) in
-    let e : l .loop .entries ≡ closed (stays (a .every) (a .name) (a .owner)) noVariable (a .count) (a .t2) = rw q at (l .loop .inv .3) in
-    λ t. record { memory = a .memory; entries = e t; count = k t }
+    let f : Closed (stays (a .every) (a .name) (a .owner)) noVariable (a .count) (a .t2) (l .loop .entries) (l .loop .kept) = rw q at (l .loop .inv .1) in
+    λ t. record { memory = a .memory; entries = f .list t; count = f .count t }
 
 pub close-up-spec : {M : Type 1} → statement M
 close-up-spec =
