@@ -1,0 +1,52 @@
+-- The bench cases and the misreadings hold: by computing the definitions.
+use mathlib.Core.Path.{refl}
+use lib.Count.{trailingZeros}
+use lib.Ieee.{ofBits, ofFields}
+use Rattle.buffer.specs.Lists.{all, any, index, keep, pairs, same, tab}
+use Rattle.decimal.specs.Decimal.{lastDigits}
+use Rattle.float.specs.Print.{printedOf}
+use Rattle.float.specs.Whole.{wholeOf}
+use Rattle.integer.specs.Modular.{wrapped}
+use Rattle.number.specs.Arithmetic.{whole}
+use Rattle.number.specs.Binary.{binary, wholeBits}
+use Rattle.number.specs.Conversion.{convertedFloat}
+use Rattle.number.specs.Instruction.{lookup as lookupOperator, operatorOf, takenBy}
+use Rattle.number.specs.Text.{textOf}
+use Rattle.number.specs.Unary.{unary}
+use Rattle.number.specs.Value.{numberOf}
+use Rattle.place.specs.Place.{apart, fits, lowest, place}
+use Rattle.store.specs.Answer.{checked, storeAnswer}
+use Rattle.store.specs.Directory.{beside, entryAt, goodDisc, goodEntry, goodFiles, lookup}
+use Rattle.store.specs.File.{admission, entered, erased, placeOf, writtenAt}
+use Rattle.store.specs.Name.{goodField, goodName, trimmed}
+use Rattle.variable.specs.Assign.{added, assigned, placeFor, placing}
+use Rattle.variable.specs.Good.{goodVariables}
+use Rattle.variable.specs.Table.{freed, owned}
+use Rattle.machine.specs.Answer.{answer, formatAnswer, goodArea}
+use Rattle.machine.specs.Area.{kernelOf}
+use Rattle.machine.specs.Bench.{Every, after, turns}
+use Rattle.machine.specs.Cases.{Bench, Misreadings, cases, misreadings}
+use Rattle.machine.specs.Effect.{operates, settle}
+use Rattle.machine.specs.Exec.{exec}
+use Rattle.machine.specs.GoodArea.{goodHeader, goodKernel, goodProcess, otherId}
+use Rattle.machine.specs.Instruction.{instructionOf}
+use Rattle.machine.specs.Operations.{inUse}
+use Rattle.machine.specs.Single.{single}
+use Rattle.machine.specs.Stack.{pop, wellFormed}
+use Rattle.machine.specs.State.{ended}
+use Rattle.machine.specs.Turn.{turned}
+
+rows-hold : Every cases × Every misreadings
+unfolding turns after single exec instructionOf operatorOf lookupOperator takenBy operates settle pop wellFormed trimmed same unary binary whole wrapped wholeBits convertedFloat numberOf textOf printedOf wholeOf lastDigits ofBits ofFields trailingZeros answer formatAnswer storeAnswer checked lookup index entryAt tab goodDisc goodFiles goodEntry goodField goodName beside all pairs apart fits lowest place placeOf admission entered erased writtenAt goodArea goodKernel goodHeader goodProcess otherId goodVariables kernelOf inUse any keep ended turned owned freed assigned placeFor placing added
+rows-hold = (
+  ((refl, refl), ((refl, refl), ((refl, refl), ((refl, refl), ((refl, refl), ((refl, refl), ((refl, refl), ((refl, refl), ((refl, refl), ((refl, refl), ((refl, refl), ((refl, refl), ((refl, refl), (refl, (refl, tt))))))))))))))),
+  ((refl, refl), ((refl, refl), ((refl, refl), ((refl, refl), ((refl, refl), ((refl, refl), ((refl, refl), tt))))))),
+)
+
+pub bench-holds : Bench
+unfolding Bench
+bench-holds = rows-hold .0
+
+pub misreadings-hold : Misreadings
+unfolding Misreadings
+misreadings-hold = rows-hold .1

@@ -1,0 +1,12 @@
+pub mod Area
+pub mod BenchCases
+pub mod Disjunctions
+pub mod FixedWidth
+pub mod GoodLaws
+pub mod GoodRecords
+pub mod Openings
+pub mod Places
+pub mod Records
+pub mod Refused
+pub mod Rounds
+pub mod Sizes

@@ -1,0 +1,95 @@
+-- The lengths of the arrays in the kernel's state. Every area of 1,056 bytes gives them, and every step keeps them.
+use Prim.Native.Nat.{ℕ, _+_, _*_, _≤_, _<_}
+use mathlib.Core.Path.{_≡_, refl, _∙_}
+use mathlib.Core.Bool.{Bool, true, false}
+use mathlib.Core.List.{List}
+use native.Mathlib.Omega.{arith}
+use lib.Dec.{eqb}
+use lib.ListN.{length, getD, set, length-append, length-replicate, length-set}
+use lib.Seq.{getD-set-other, getD-set-same, length-take-le}
+use borrow.Author.Tests.{eqb-false, eqb-true}
+use Rattle.buffer.specs.Buffer.{part}
+use Rattle.buffer.proofs.Lists.{tab-at, tab-length}
+use Rattle.buffer.proofs.Parts.{part-length}
+use Rattle.store.specs.declared.Entry.{Entry}
+use Rattle.variable.specs.Table.{Shaped, freedAll}
+use Rattle.variable.specs.declared.Variables.{Variables}
+use Rattle.machine.specs.Area.{kernelOf, processOf, variablesOf}
+use Rattle.machine.specs.Start.{started, startedProcess}
+use Rattle.machine.specs.State.{Local, ended, endedProcess, noProcess, processAt, withFile, withLocal, withProcess, withState, withVariables}
+use Rattle.machine.specs.declared.Kernel.{Kernel}
+use Rattle.machine.specs.declared.OpenFile.{OpenFile}
+use Rattle.machine.specs.declared.Process.{Process}
+
+pub record SizedProcess (p : Process) : Type 0 where
+  pub name : length (p .name) ≡ 12
+  pub stack : length (p .stack) ≡ 32
+
+pub record Sized (k : Kernel) : Type 0 where
+  pub variables : Shaped (k .variables)
+  pub zeros : length (k .zeros) ≡ 7
+  pub processes : length (k .processes) ≡ 10
+  pub each : (i : ℕ) → i < 10 → SizedProcess (processAt k i)
+
+-- ---- what an area says
+pub decoded-process-sized : (l : List ℕ) → length l ≡ 64 → SizedProcess (processOf l)
+decoded-process-sized l h = record { name = length-take-le 12 l (omega arith); stack = part-length l 32 32 (omega arith) }
+
+pub decoded-sized : (area : List ℕ) → length area ≡ 1056 → Sized (kernelOf area)
+unfolding kernelOf variablesOf
+decoded-sized area h =
+    record {
+      variables = record { memory = length-take-le 256 area (omega arith); entries = simp tab-length };
+      zeros = part-length area 409 7 (omega arith);
+      processes = simp tab-length;
+      each = λ i m. rw (tab-at recordAt 10 i noProcess m) (decoded-process-sized (part area (416 + i * 64) 64) (part-length area (416 + i * 64) 64 (omega arith)));
+    }
+  where
+    recordAt : ℕ → Process
+    recordAt i = processOf (part area (416 + i * 64) 64)
+
+-- ---- steps of one process
+module _ (p : Process) (sized : SizedProcess p) where
+  pub with-local-sized : (l : Local) → length (l .stack) ≤ 32 → SizedProcess (withLocal p l)
+  with-local-sized l h = record { name = sized .name; stack = simp (length-append, length-replicate) (omega arith) }
+
+  pub with-file-sized : (f : OpenFile) → SizedProcess (withFile p f)
+  with-file-sized f = record { name = sized .name; stack = sized .stack }
+
+  pub with-state-sized : (state : ℕ) → SizedProcess (withState p state)
+  with-state-sized state = record { name = sized .name; stack = sized .stack }
+
+  pub ended-process-sized : (fault : ℕ) → SizedProcess (endedProcess p fault)
+  ended-process-sized fault = record { name = sized .name; stack = refl }
+
+pub started-process-sized : (e : Entry) (id : ℕ) → length (e .name) ≡ 12 → SizedProcess (startedProcess e id)
+started-process-sized e id h = record { name = h; stack = refl }
+
+-- ---- steps of the kernel
+module _ (k : Kernel) (sized : Sized k) where
+  -- a slot above 9 changes nothing
+  pub with-process-sized : (slot : ℕ) (p : Process) → (slot < 10 → SizedProcess p) → Sized (withProcess k slot p)
+  with-process-sized slot p h = record { variables = sized .variables; zeros = sized .zeros; processes = length-set (k .processes) slot p ∙ sized .processes; each = λ i m. at i m (eqb i slot) refl }
+    where
+      at : (i : ℕ) → i < 10 → (t : Bool) → eqb i slot ≡ t → SizedProcess (getD (set (k .processes) slot p) i noProcess)
+      at i m true e =
+          let q : i ≡ slot = eqb-true i slot e in
+          rw (q, getD-set-same (k .processes) slot p noProcess (omega (arith, sized .processes))) (h (omega arith))
+      at i m false e = rw (getD-set-other (k .processes) slot i p noProcess (eqb-false i slot e)) (sized .each i m)
+
+  pub with-variables-sized : (v : Variables) → Shaped v → Sized (withVariables k v)
+  with-variables-sized v h = record { variables = h; zeros = sized .zeros; processes = sized .processes; each = sized .each }
+
+  pub started-sized : (slot : ℕ) (e : Entry) → length (e .name) ≡ 12 → Sized (started k slot e)
+  started-sized slot e h =
+      let s = with-process-sized slot (startedProcess e (k .next)) (λ m. started-process-sized e (k .next) h) in
+      record { variables = s .variables; zeros = s .zeros; processes = s .processes; each = s .each }
+
+-- ending keeps the lengths where freeing does
+pub ended-sized : (k : Kernel) → Sized k → (slot fault : ℕ) → Shaped (freedAll (k .variables) (processAt k slot .id)) → Sized (ended k slot fault)
+unfolding ended
+ended-sized k sized slot fault h =
+    with-variables-sized (withProcess k slot (endedProcess (processAt k slot) fault))
+    (with-process-sized k sized slot (endedProcess (processAt k slot) fault) (λ m. ended-process-sized (processAt k slot) (sized .each slot m) fault))
+    (freedAll (k .variables) (processAt k slot .id))
+    h

@@ -1,0 +1,10 @@
+-- `machine::misreadings` meets its contract, which is the table of misreadings.
+use Rattle.machine.proofs.BenchCases.{misreadings-hold}
+use Rattle.machine.proofs.misreadings.Statement.{statement}
+use Rattle.machine.proofs.misreadings.Tie as tie
+
+returns : tie.Need-returns
+returns c = misreadings-hold
+
+pub misreadings-spec : {M : Type 1} → statement M
+misreadings-spec = tie.close (tie.spec returns)

@@ -1,0 +1,109 @@
+-- Document 01's bench cases K1 to K12: one table with one statement. What a program leaves is seen twice: of the single process, and of the
+-- kernel's turns.
+use Prim.Native.Nat.{ℕ, zero, suc}
+use mathlib.Core.Path.{_≡_}
+use mathlib.Core.Bool.{cond}
+use mathlib.Core.List.{List, [], _∷_, _++_}
+use lib.ListN.{length, replicate}
+use Rattle.buffer.specs.declared.Found.{Found}
+use Rattle.buffer.specs.declared.Found.the-variants.{At, Nowhere}
+use Rattle.store.specs.Directory.{entryAt, lookup}
+use Rattle.machine.specs.Answer.{Answer, Buffers, Call, answer, booted, formatAnswer, store}
+use Rattle.machine.specs.Area.{kernelOf}
+use Rattle.machine.specs.Single.{Single, Response, refusedBy, did, fresh, single, tick}
+use Rattle.machine.specs.Start.{started}
+use Rattle.machine.specs.State.{isRunning, localOf, processAt}
+use Rattle.machine.specs.Turn.{Turned, turned}
+use Rattle.machine.specs.declared.Process.{Process}
+
+-- ---- turns one after another, each from a state to a state
+-- all that they print and the state after the last, or that one was refused
+pub data Progress (S : Type 0) : Type 0 where
+  reached : (text : List ℕ) → S → Progress S
+  stopped : Progress S
+
+module _ {S : Type 0} where
+  abbrev pub behind : List ℕ → Progress S → Progress S
+  behind text (reached more s) = reached (text ++ more) s
+  behind text stopped = stopped
+
+  abbrev pub oneMore : (S → Progress S) → Progress S → Progress S
+  oneMore step (reached text s) = behind text (step s)
+  oneMore step stopped = stopped
+
+  unfoldable pub turns : (S → Progress S) → S → ℕ → Progress S
+  turns step s zero = reached [] s
+  turns step s (suc n) = oneMore step (turns step s n)
+
+-- what is seen then: the stack, bottom first, the fault and what was printed
+pub data Seen : Type 0 where
+  shows : (stack : List ℕ) (fault : ℕ) (text : List ℕ) → Seen
+  refused : Seen
+
+-- ---- of the single process
+abbrev pub responded : Response → Progress Single
+responded (refusedBy n) = stopped
+responded (did text s) = reached text s
+
+abbrev pub seenAlone : Progress Single → Seen
+seenAlone (reached text s) = shows (s .loc .stack) (s .fault) text
+seenAlone stopped = refused
+
+abbrev pub alone : List ℕ → ℕ → Seen
+alone program n = seenAlone (turns (λ s. responded (single program s (tick 0))) fresh n)
+
+-- ---- of the kernel: started in slot 0, on a disc that holds the program from 0 on
+abbrev pub loaded : List ℕ → Turned
+loaded program = record { kernel = started (kernelOf booted) 0 (record { name = []; start = 0; len = length program }); disc = program; out = [] }
+
+abbrev pub turnOfFirst : Turned → Progress Turned
+turnOfFirst t = let u = turned (t .kernel) 0 0 (t .disc) in cond (isRunning (processAt (t .kernel) 0)) (reached (u .out) u) stopped
+
+abbrev pub shown : Process → List ℕ → Seen
+shown p text = shows (localOf p .stack) (p .fault) text
+
+abbrev pub seenInKernel : Progress Turned → Seen
+seenInKernel (reached text t) = shown (processAt (t .kernel) 0) text
+seenInKernel stopped = refused
+
+abbrev pub inKernel : List ℕ → ℕ → Seen
+inKernel program n = seenInKernel (turns turnOfFirst (loaded program) n)
+
+-- ---- calls one after another
+abbrev pub buffersOf : Answer → Buffers
+buffersOf a = record { disc = a .disc; area = a .area; out = a .out }
+
+unfoldable pub after : List Call → Buffers → Buffers
+after [] b = b
+after (c ∷ cs) b = after cs (buffersOf (answer c b))
+
+abbrev pub formatted : Buffers
+formatted = buffersOf (formatAnswer (record { disc = replicate 1024 0; area = replicate 1056 0; out = [] }))
+
+-- n bytes under a name of one letter
+abbrev pub storing : ℕ → ℕ → Call
+storing letter n = store (letter ∷ []) (replicate n 0)
+
+-- ---- where a file goes
+abbrev pub startAt : List ℕ → Found → Found
+startAt disc (At i) = At (entryAt disc i .start)
+startAt disc Nowhere = Nowhere
+
+-- the start of the file of that one-letter name
+abbrev pub startOf : List ℕ → ℕ → Found
+startOf disc letter = startAt disc (lookup disc (letter ∷ []))
+
+-- ---- a row, and when it holds
+pub data Row : Type 0 where
+  -- a program, how many turns it takes, and what is seen after them
+  runs : (program : List ℕ) (n : ℕ) → Seen → Row
+  -- calls on formatted buffers; n bytes stored after them go to that start
+  stores : (calls : List Call) (n start : ℕ) → Row
+
+abbrev pub Holds : Row → Type 0
+Holds (runs program n seen) = (alone program n ≡ seen) × (inKernel program n ≡ seen)
+Holds (stores calls n start) = startOf (after (storing 110 n ∷ []) (after calls formatted) .disc) 110 ≡ At start
+
+abbrev pub Every : List Row → Type 0
+Every [] = Unit
+Every (row ∷ rows) = Holds row × Every rows

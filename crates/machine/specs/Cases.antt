@@ -1,0 +1,71 @@
+-- The rows: document 01's bench cases K1 to K12, and its misreadings of the guide.
+use Prim.Native.Nat.{ℕ}
+use mathlib.Core.List.{List, [], _∷_, _++_}
+use lib.ListN.{replicate}
+use Rattle.machine.specs.Answer.{Call, erase}
+use Rattle.machine.specs.Bench.{Every, Row, runs, shows, stores, storing}
+
+abbrev pub letters : ℕ → List ℕ
+letters n = replicate n 97
+
+-- "files of 100, 100, 100, the second erased"
+abbrev pub gap : List Call
+gap = storing 97 100 ∷ storing 98 100 ∷ storing 99 100 ∷ erase (98 ∷ []) ∷ []
+
+-- Document 01, 'Bench cases': "Proved together, in one table with one statement (stack bottom first)"
+abbrev pub cases : List Row
+cases =
+    -- K1 INT 1 44
+    runs (2 ∷ 1 ∷ 44 ∷ []) 1 (shows (1 ∷ 44 ∷ 2 ∷ []) 0 []) ∷
+    -- K2 INT 127 255, INCREMENT
+    runs (2 ∷ 127 ∷ 255 ∷ 7 ∷ []) 2 (shows (128 ∷ 0 ∷ 2 ∷ []) 0 []) ∷
+    -- K3 CHAR 128, ABS
+    runs (1 ∷ 128 ∷ 37 ∷ []) 2 (shows (128 ∷ 1 ∷ []) 0 []) ∷
+    -- K4 −7 DIVIDEDBY 2 in INT
+    runs (2 ∷ 255 ∷ 249 ∷ 2 ∷ 0 ∷ 2 ∷ 12 ∷ []) 3 (shows (255 ∷ 253 ∷ 2 ∷ []) 0 []) ∷
+    -- K5 its MODULUS
+    runs (2 ∷ 255 ∷ 249 ∷ 2 ∷ 0 ∷ 2 ∷ 13 ∷ []) 3 (shows (255 ∷ 255 ∷ 2 ∷ []) 0 []) ∷
+    -- K6 −32768 by −1
+    runs (2 ∷ 128 ∷ 0 ∷ 2 ∷ 255 ∷ 255 ∷ 12 ∷ []) 3 (shows (128 ∷ 0 ∷ 2 ∷ []) 0 []) ∷
+    -- K7 FLOAT 66 246 230 102 prints 123.45
+    runs (4 ∷ 66 ∷ 246 ∷ 230 ∷ 102 ∷ 51 ∷ []) 2 (shows [] 0 (49 ∷ 50 ∷ 51 ∷ 46 ∷ 52 ∷ 53 ∷ [])) ∷
+    -- K8 CHAR 1, WHILE 6 8
+    runs (1 ∷ 1 ∷ 63 ∷ 6 ∷ 8 ∷ []) 2 (shows (18 ∷ []) 0 []) ∷
+    -- K9 FLOAT 191 0 0 0, ROUND
+    runs (4 ∷ 191 ∷ 0 ∷ 0 ∷ 0 ∷ 32 ∷ []) 2 (shows (255 ∷ 255 ∷ 2 ∷ []) 0 []) ∷
+    -- K10 FLOAT 71 0 0 0, TOINT: fault 8; 70 255 254 0 gives 127 255 2
+    runs (4 ∷ 71 ∷ 0 ∷ 0 ∷ 0 ∷ 30 ∷ []) 2 (shows [] 8 []) ∷
+    runs (4 ∷ 70 ∷ 255 ∷ 254 ∷ 0 ∷ 30 ∷ []) 2 (shows (127 ∷ 255 ∷ 2 ∷ []) 0 []) ∷
+    -- K11 29 letters and zero fill the stack; 30 fault 4
+    runs (3 ∷ letters 29 ++ (0 ∷ [])) 1 (shows (letters 29 ++ (0 ∷ 30 ∷ 3 ∷ [])) 0 []) ∷
+    runs (3 ∷ letters 30 ++ (0 ∷ [])) 1 (shows [] 4 []) ∷
+    -- K12 files of 100, 100, 100, the second erased: 100 bytes go to 261, 101 to 461
+    stores gap 100 261 ∷
+    stores gap 101 461 ∷ []
+
+-- Document 01, 'Bench cases', the program `down`, 29 turns
+abbrev pub down : List ℕ
+down = 2 ∷ 0 ∷ 3 ∷ 5 ∷ 110 ∷ 6 ∷ 110 ∷ 63 ∷ 2 ∷ 8 ∷ 6 ∷ 110 ∷ 52 ∷ 6 ∷ 110 ∷ 8 ∷ 5 ∷ 110 ∷ 64 ∷ 67 ∷ []
+
+-- Document 01, 'Misreadings of the guide'
+abbrev pub misreadings : List Row
+misreadings =
+    -- "INCREMENT adds 1", so DECREMENT subtracts it
+    runs (1 ∷ 5 ∷ 7 ∷ []) 2 (shows (6 ∷ 1 ∷ []) 0 []) ∷
+    runs (1 ∷ 5 ∷ 8 ∷ []) 2 (shows (4 ∷ 1 ∷ []) 0 []) ∷
+    -- "appendix C skips by the first byte": WHILE 1 2 on zero skips CHAR 9 and ENDWHILE
+    runs (1 ∷ 0 ∷ 63 ∷ 1 ∷ 2 ∷ 1 ∷ 9 ∷ 64 ∷ 1 ∷ 7 ∷ []) 3 (shows (7 ∷ 1 ∷ []) 0 []) ∷
+    -- "A.3.4 adds the condition length twice": ENDWHILE goes back to the condition
+    runs down 29 (shows [] 0 (51 ∷ 10 ∷ 50 ∷ 10 ∷ 49 ∷ 10 ∷ [])) ∷
+    -- "A jump measured from the instruction byte and not past its arguments": IF 2 on zero skips CHAR 9; it leaves what it looks at
+    runs (1 ∷ 0 ∷ 60 ∷ 2 ∷ 1 ∷ 9 ∷ 1 ∷ 7 ∷ []) 3 (shows (0 ∷ 1 ∷ 7 ∷ 1 ∷ []) 0 []) ∷
+    runs (1 ∷ 1 ∷ 61 ∷ 2 ∷ 1 ∷ 9 ∷ 1 ∷ 7 ∷ []) 3 (shows (1 ∷ 1 ∷ 7 ∷ 1 ∷ []) 0 []) ∷
+    -- "Appendix C gives BITWISENOT two operands; it pops one"
+    runs (1 ∷ 4 ∷ 1 ∷ 5 ∷ 28 ∷ []) 3 (shows (4 ∷ 1 ∷ 250 ∷ 1 ∷ []) 0 []) ∷ []
+
+-- every row holds of the definitions
+unfoldable pub Bench : Type 0
+Bench = Every cases
+
+unfoldable pub Misreadings : Type 0
+Misreadings = Every misreadings

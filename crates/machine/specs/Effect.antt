@@ -1,0 +1,109 @@
+-- What an instruction does: its effect on the process, or what it asks of the world beyond it.
+use Prim.Native.Nat.{ℕ, _-_, _%_}
+use mathlib.Core.Bool.{Bool, true, false, cond}
+use mathlib.Core.List.{List, [], _∷_}
+use lib.Dec.{eqb, leb}
+use lib.IntN.{ℤ}
+use lib.ListN.{length, getD}
+use mir.Syntax.{w16}
+use mir.Val.{toZ}
+use Rattle.buffer.specs.declared.Found.{Found}
+use Rattle.buffer.specs.declared.Found.the-variants.{At, Nowhere}
+use Rattle.number.specs.Binary.{binary}
+use Rattle.number.specs.Instruction.{takenBy}
+use Rattle.number.specs.Outcome.{faultOf}
+use Rattle.number.specs.Text.{textOf}
+use Rattle.number.specs.Unary.{unary}
+use Rattle.number.specs.Value.{numberOf, typeOf, valueBytes}
+use Rattle.number.specs.declared.Number.{Number}
+use Rattle.number.specs.declared.Outcome.{Outcome}
+use Rattle.number.specs.declared.Outcome.the-variants.{Value, DivisionByZero, OutOfRange}
+use Rattle.number.specs.declared.operators.Operator.{Operator}
+use Rattle.number.specs.declared.operators.Operator.the-variants.{OfOne, OfTwo, NotAnOperator}
+use Rattle.store.specs.Name.{trimmed}
+use Rattle.variable.specs.Table.{Cell}
+use Rattle.machine.specs.Stack.{Item, Popped, popped, cannot, pop, push, stringKind}
+use Rattle.machine.specs.State.{Local}
+
+-- what an instruction asks of the world beyond the process, with the state it goes on in: operands popped, PC behind it
+pub data Request : Type 0 where
+  opens : (name : List ℕ) (size : Number) → Local → Request
+  closes : Local → Request
+  writes : (bytes : List ℕ) → Local → Request
+  reads : (kind : ℕ) → Local → Request
+  readsString : Local → Request
+  forks : (name : List ℕ) → Local → Request
+  -- stays in the first state while a live process has that ID, else goes on in the second
+  awaits : (id : Number) → Local → Local → Request
+
+pub data Effect : Type 0 where
+  goes : Local → (out : List ℕ) → Effect
+  assigns : (name kind : ℕ) (bytes : List ℕ) → Local → Effect
+  stops : Effect
+  faults : ℕ → Effect
+  asks : Request → Effect
+
+abbrev pub unlessFaults : Bool → ℕ → Effect → Effect
+unlessFaults true fault rest = rest
+unlessFaults false fault rest = faults fault
+
+-- ---- the end of an instruction
+-- Document 01, tried last: "4 stack above 32; 3 jump outside 0 to the code length, or ENDLOOP with no loop"
+abbrev pub land : List ℕ → Found → List ℕ → ℕ → List ℕ → Effect
+land prog Nowhere stack loopstart out = faults 3
+land prog (At pc) stack loopstart out = unlessFaults (leb pc (length prog)) 3 (goes (record { stack = stack; pc = pc; loopstart = loopstart }) out)
+
+unfoldable pub settle : List ℕ → Found → List ℕ → ℕ → List ℕ → Effect
+settle prog target stack loopstart out = unlessFaults (leb (length stack) 32) 4 (land prog target stack loopstart out)
+
+-- ---- popping
+abbrev pub withPopped : Popped → (Item → List ℕ → Effect) → Effect
+withPopped (popped item rest) next = next item rest
+withPopped (cannot fault) next = faults fault
+
+abbrev pub number : Item → Number
+number item = numberOf (item .kind) (item .bytes)
+
+-- ---- operators
+abbrev pub withOutcome : Outcome → (Number → Effect) → Effect
+withOutcome (Value a) next = next a
+withOutcome DivisionByZero next = faults (faultOf DivisionByZero)
+withOutcome OutOfRange next = faults (faultOf OutOfRange)
+
+unfoldable pub operates : Operator → List ℕ → (List ℕ → Effect) → Effect
+operates (OfOne o) stack next =
+    withPopped (pop (takenBy (OfOne o)) stack) λ x rest.
+    withOutcome (unary o (number x)) λ a. next (push rest (typeOf a) (valueBytes a))
+operates (OfTwo o) stack next =
+    withPopped (pop (takenBy (OfTwo o)) stack) λ y rest.
+    withPopped (pop (takenBy (OfTwo o)) rest) λ x rest.
+    withOutcome (binary o (number x) (number y)) λ a. next (push rest (typeOf a) (valueBytes a))
+operates NotAnOperator stack next = faults 1
+
+-- ---- printing
+-- Document 01: "PRINT: CHAR one byte; INT decimal; STRING without its zero; FLOAT to the nearest hundredth"
+abbrev pub printed : Item → List ℕ
+printed item = cond (eqb (item .kind) stringKind) (trimmed (item .bytes)) (textOf (number item))
+
+abbrev pub newline : Bool → List ℕ
+newline true = 10 ∷ []
+newline false = []
+
+-- ---- the clock
+-- Document 01: "the clock's low 16 bits taken as INT"
+abbrev pub clockInt : ℕ → ℤ
+clockInt clock = toZ w16 (clock % 65536)
+
+-- ---- variables
+abbrev pub withCell : Found → List Cell → (Cell → Effect) → Effect
+withCell Nowhere own next = faults 9
+withCell (At i) own next = next (getD own i (record { name = 0; kind = 0; bytes = [] }))
+
+-- ---- jumps
+abbrev pub back : Bool → ℕ → ℕ → Found
+back true pc n = At (pc - n)
+back false pc n = Nowhere
+
+abbrev pub loopTarget : Bool → ℕ → Found
+loopTarget true loopstart = Nowhere
+loopTarget false loopstart = At loopstart

@@ -1,0 +1,15 @@
+pub mod State
+pub mod Area
+pub mod GoodArea
+pub mod Stack
+pub mod Instruction
+pub mod Effect
+pub mod Exec
+pub mod Start
+pub mod Beyond
+pub mod Turn
+pub mod Operations
+pub mod Answer
+pub mod Single
+pub mod Bench
+pub mod Cases

@@ -1,0 +1,66 @@
+-- A turn: the instruction of one process, on the kernel's state and the disc.
+use Prim.Native.Nat.{ℕ, _-_}
+use mathlib.Core.List.{List, [], _++_}
+use lib.ListN.{length, replicate}
+use Rattle.store.specs.Directory.{contents}
+use Rattle.variable.specs.Assign.{assigned}
+use Rattle.variable.specs.Table.{owned}
+use Rattle.variable.specs.declared.Placing.{Placing}
+use Rattle.variable.specs.declared.Placing.the-variants.{Address, NoEntry, NoRun}
+use Rattle.variable.specs.declared.Value.{Value}
+use Rattle.variable.specs.declared.Variables.{Variables}
+use Rattle.machine.specs.Beyond.{Answered, carriesOn, breaks, answered}
+use Rattle.machine.specs.Effect.{Effect, goes, assigns, stops, faults, asks}
+use Rattle.machine.specs.Exec.{exec}
+use Rattle.machine.specs.State.{Local, ended, processAt, withLocal, localOf, withProcess, withVariables}
+use Rattle.machine.specs.declared.Kernel.{Kernel}
+use Rattle.machine.specs.declared.Process.{Process}
+
+-- what a turn leaves, and what it prints
+pub record Turned : Type 0 where
+  pub kernel : Kernel
+  pub disc : List ℕ
+  pub out : List ℕ
+
+-- a value of SET, its bytes zero-filled
+abbrev pub valueOf : ℕ → List ℕ → Value
+valueOf kind bytes = record { kind = kind; size = length bytes; bytes = bytes ++ replicate (32 - length bytes) 0 }
+
+module _ (k : Kernel) (slot : ℕ) (disc : List ℕ) where
+  -- Document 01: "A faulting instruction changes nothing but the ending."
+  abbrev pub finished : ℕ → Turned
+  finished fault = record { kernel = ended k slot fault; disc = disc; out = [] }
+
+  abbrev pub moved : Process → List ℕ → List ℕ → Turned
+  moved p after out = record { kernel = withProcess k slot p; disc = after; out = out }
+
+  -- Document 01, fault 10: "no variable entry or run"
+  abbrev pub setting : Placing → Variables → Local → Turned
+  setting (Address a) v l = record { kernel = withVariables (withProcess k slot (withLocal (processAt k slot) l)) v; disc = disc; out = [] }
+  setting NoEntry v l = finished 10
+  setting NoRun v l = finished 10
+
+  abbrev pub answering : Answered → Turned
+  answering (carriesOn kernel after) = record { kernel = kernel; disc = after; out = [] }
+  answering (breaks fault) = finished fault
+
+  -- the kernel's reading of what an instruction does
+  unfoldable pub carriedOut : Effect → Turned
+  carriedOut (goes l out) = moved (withLocal (processAt k slot) l) disc out
+  carriedOut (assigns name kind bytes l) =
+      let a = assigned (k .variables) name (processAt k slot .id) (valueOf kind bytes) in
+      setting (a .placing) (a .variables) l
+  carriedOut stops = finished 0
+  carriedOut (faults n) = finished n
+  carriedOut (asks r) = answering (answered k slot disc r)
+
+-- the bytes of a process's program: the part of the disc that its record names
+abbrev pub programOf : List ℕ → Process → List ℕ
+programOf disc p = contents disc (p .code)
+
+-- Document 01: "Turn, one instruction of one slot"
+unfoldable pub turned : Kernel → ℕ → ℕ → List ℕ → Turned
+unfolding carriedOut
+turned k slot clock disc =
+    let p = processAt k slot in
+    carriedOut k slot disc (exec (programOf disc p) clock (localOf p) (owned (k .variables) (p .id)))
