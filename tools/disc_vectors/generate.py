@@ -1,7 +1,7 @@
 #!/usr/bin/env python3
-"""disc_vectors: turns the outside vectors of the disc's operations into what the program store_cases reads and must print.
+"""generate: turns the outside vectors of the disc's operations into what the program store_cases reads and must print.
 
-usage: tools/disc_vectors.py VECTORS        (VECTORS: base.txt.gz, whose README gives the form of its lines)
+usage: tools/disc_vectors/generate.py VECTORS        (VECTORS: base.txt.gz, whose README gives the form of its lines)
 
 Takes the lines of store, retrieve, files and free (free space). Writes, below crates/store_cases:
   data/vectors   for each vector a letter (s, r, f, u), then disc, name, data and output as lent, each as its length (two bytes, low byte first) and its bytes
@@ -12,7 +12,7 @@ import gzip
 import os
 import sys
 
-CRATE = os.path.join(os.path.dirname(os.path.abspath(__file__)), "..", "crates", "store_cases")
+CRATE = os.path.join(os.path.dirname(os.path.abspath(__file__)), "..", "..", "crates", "store_cases")
 MARK = "outside vectors\n"
 LETTER = {"store": b"s", "retrieve": b"r", "files": b"f", "free": b"u"}
 
