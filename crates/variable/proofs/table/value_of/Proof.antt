@@ -1,5 +1,5 @@
-use Prim.Native.Nat.{ℕ, _+_, _≤_}
-use mathlib.Core.Path.{_≡_, refl, sym, ap, subst, _∙_}
+use Prim.Native.Nat.{ℕ}
+use mathlib.Core.Path.{_≡_, refl, sym, _∙_}
 use mathlib.Core.List.{List}
 use lib.ListN.{length, take, drop, replicate}
 use lib.Seq.{length-take-le, take-at}
@@ -37,14 +37,14 @@ copy-part-requires : tie.Need-copy-part-requires
 copy-part-requires c κs =
     let s = c .before .before .before .before .before in
     let n = sizes s in
-    subst (λ (k : ℕ). s .args .entry .address + k ≤ length (s .args .v .memory)) (sym (lent s)) (omega arith)
+    rw (lent s) (omega arith)
 
 returns : tie.Need-returns
 returns c =
     let s = c .before .before .before .before .before .before .before in
     let a = s .args in
     let r = c .before .copy-part in
-    let e : r .last .0 ≡ part (a .v .memory) (a .entry .address) (a .entry .size) = r .ensures ∙ ap (λ (k : ℕ). part (a .v .memory) (a .entry .address) k) (lent s) in
+    let e : r .last .0 ≡ part (a .v .memory) (a .entry .address) (a .entry .size) = rw (lent s) at (r .ensures) in
     (refl, refl, take-at (r .last .0) (drop (a .entry .size) zeros) (a .entry .size) (r .kept .0 ∙ lent s) ∙ e)
 
 pub value-of-spec : {M : Type 1} → statement M
