@@ -1,5 +1,6 @@
 pub mod Area
 pub mod BenchCases
+pub mod Change
 pub mod Disjunctions
 pub mod FixedWidth
 pub mod GoodLaws
@@ -10,3 +11,4 @@ pub mod Records
 pub mod Refused
 pub mod Rounds
 pub mod Sizes
+pub mod Sound
