@@ -37,6 +37,8 @@ use Rattle.machine.specs.State.{Local, isRunning, localOf, noProcess, pr
 use Rattle.machine.specs.Turn.{answering, carriedOut, programOf, setting, turned, valueOf}
 use Rattle.machine.specs.declared.Kernel.{Kernel}
 use Rattle.machine.specs.declared.Process.{Process}
+use Rattle.machine.proofs.LiveRecords.{running-live}
+use Rattle.machine.proofs.Slots.{live-inside}
 use Rattle.machine.proofs.Openings.{NewFileRefused, NoneFits, open-cases}
 
 -- ---- store
@@ -83,17 +85,10 @@ set-lacking v name id x h = placing-lacking (takenRuns w) lowEnd highEnd (w .cou
     same NoFreeRun = refl
 
 -- ---- the same of a turn: a SET or an OPEN that ends its process found no place
-live-inside : (k : Kernel) (slot : ℕ) → isRunning (processAt k slot) ≡ true → slot < length (k .processes)
-live-inside k slot h = go (ltb slot (length (k .processes))) refl
-  where
-    go : (b : Bool) → ltb slot (length (k .processes)) ≡ b → slot < length (k .processes)
-    go true e = ltb-true slot (length (k .processes)) e
-    go false e = absurd (true-not-false h (ap isRunning (List·getD-eq-default (k .processes) noProcess (ltb-false slot (length (k .processes)) e))))
-
 module _ (k : Kernel) (slot : ℕ) (h : isRunning (processAt k slot) ≡ true) where
   -- what is put into the slot is there
   still-running : (p : Process) → isRunning p ≡ true → isRunning (processAt (withProcess k slot p) slot) ≡ true
-  still-running p r = ap isRunning (getD-set-same (k .processes) slot p noProcess (live-inside k slot h)) ∙ r
+  still-running p r = ap isRunning (getD-set-same (k .processes) slot p noProcess (live-inside k slot (running-live (processAt k slot) h))) ∙ r
 
   module _ (clock : ℕ) (disc : List ℕ) where
     abbrev effect : Effect

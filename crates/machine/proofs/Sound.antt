@@ -6,10 +6,9 @@ use mathlib.Core.Bool.{true}
 use mathlib.Core.List.{List, []}
 use mathlib.Core.Logic.{_⊎_}
 use lib.ListN.{length, getD}
-use Rattle.store.specs.Name.{trimmed}
 use Rattle.variable.specs.Good.{goodSize}
 use Rattle.machine.specs.Effect.{Effect, goes, assigns, stops, faults, asks, Request, opens, closes, writes, reads, readsString, forks, awaits}
-use Rattle.machine.specs.Stack.{Popped, popped, cannot, aString, pop}
+use Rattle.machine.specs.Stack.{topString}
 use Rattle.machine.specs.State.{Local, noLoop}
 
 -- n is the program's length
@@ -18,14 +17,6 @@ pub record Within (n : ℕ) (l : Local) : Type 0 where
   pub pc : l .pc ≤ n
   pub loop : (l .loopstart ≡ noLoop) ⊎ (l .loopstart ≤ n)
 
--- the string that FORK pops, less its zero
-abbrev pub stringOf : Popped → List ℕ
-stringOf (popped item rest) = trimmed (item .bytes)
-stringOf (cannot fault) = []
-
-abbrev pub topString : Local → List ℕ
-topString l = stringOf (pop aString (l .stack))
-
 -- what is asked, from a program and the state it is asked in: the byte at PC, and the states to go on in
 unfoldable pub Asked : List ℕ → Local → Request → Type 0
 Asked prog l (opens name size m) = (getD prog (l .pc) 0 ≡ 53) × Within (length prog) m
@@ -33,7 +24,7 @@ Asked prog l (closes m) = (getD prog (l .pc) 0 ≡ 54) × Within (length prog) m
 Asked prog l (writes bytes m) = (getD prog (l .pc) 0 ≡ 55) × Within (length prog) m
 Asked prog l (reads kind m) = ((getD prog (l .pc) 0 ≡ 56) ⊎ ((getD prog (l .pc) 0 ≡ 57) ⊎ (getD prog (l .pc) 0 ≡ 58))) × Within (length prog) m
 Asked prog l (readsString m) = (getD prog (l .pc) 0 ≡ 59) × Within (length prog) m
-Asked prog l (forks name m) = (getD prog (l .pc) 0 ≡ 68) × (name ≡ topString l) × (length (m .stack) + 3 ≤ 32) × Within (length prog) m
+Asked prog l (forks name m) = (getD prog (l .pc) 0 ≡ 68) × (name ≡ topString (l .stack)) × (length (m .stack) + 3 ≤ 32) × Within (length prog) m
 Asked prog l (awaits id stay go) = (getD prog (l .pc) 0 ≡ 69) × (stay ≡ l) × Within (length prog) go
 
 unfoldable pub Sound : List ℕ → Local → Effect → Type 0
@@ -43,5 +34,3 @@ Sound prog l (assigns name kind bytes m) = Within (length prog) m × (goodSize k
 Sound prog l stops = Unit {0}
 Sound prog l (faults n) = (1 ≤ n) × (n ≤ 13)
 Sound prog l (asks r) = Asked prog l r
-
--- exec-sound : (prog : List ℕ) (clock : ℕ) (l : Local) (own : List Cell) → Within (length prog) l → Sound prog l (exec prog clock l own)

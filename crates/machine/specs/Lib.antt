@@ -11,5 +11,8 @@ pub mod Turn
 pub mod Operations
 pub mod Answer
 pub mod Single
+pub mod Trace
+pub mod Observation
+pub mod Isolation
 pub mod Bench
 pub mod Cases

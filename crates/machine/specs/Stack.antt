@@ -65,6 +65,14 @@ aString kind = eqb kind stringKind
 abbrev pub aValue : ℕ → Bool
 aValue kind = aString kind || aNumber kind
 
+-- the string on top, less its zero; nothing where there is none
+abbrev pub textOf : Popped → List ℕ
+textOf (popped item rest) = trimmed (item .bytes)
+textOf (cannot fault) = []
+
+abbrev pub topString : List ℕ → List ℕ
+topString stack = textOf (pop aString stack)
+
 -- ---- pushing
 abbrev pub push : List ℕ → ℕ → List ℕ → List ℕ
 push stack kind bytes = stack ++ bytes ++ (kind ∷ [])

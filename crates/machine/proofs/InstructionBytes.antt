@@ -1,0 +1,72 @@
+-- Which bytes of a program ask something of the world beyond the process.
+use Prim.Native.Nat.{ℕ}
+use mathlib.Core.Path.{_≡_, refl, subst⁻¹}
+use mathlib.Core.Bool.{Bool, true, false, _&&_, _||_, cond}
+use mathlib.Core.List.{List, [], _∷_}
+use mathlib.Core.Logic.{_⊎_, inl, inr, ⊎-elim}
+use lib.Dec.{eqb, leb}
+use borrow.Author.Tests.{eqb-true}
+use Rattle.buffer.specs.Lists.{all}
+use Rattle.buffer.proofs.Bools.{and-left, and-right}
+use Rattle.number.specs.Instruction.{operatorOf}
+use Rattle.number.specs.declared.operators.Operator.{Operator}
+use Rattle.number.specs.declared.operators.Operator.the-variants.{OfOne, OfTwo, NotAnOperator}
+use Rattle.machine.specs.Instruction.{Instruction, Reach, literal, stringLiteral, setVariable, getVariable, operate, delayUntil, millis, print, jumpIf, endIf, while, endWhile, loop, endLoop, stop, reach, unknown, openFile, closeFile, writeFile, readString, fork, waitUntilDone, readNumber, find, instructionOf, operatorOr, others}
+use Rattle.machine.proofs.Disjunctions.{or-cases}
+
+-- Document 01, appendix C: 53 OPEN to 59 READSTRING, 68 FORK, 69 WAITUNTILDONE
+abbrev pub reaching : ℕ → Bool
+reaching b = (leb 53 b && leb b 59) || (eqb b 68 || eqb b 69)
+
+abbrev pub isByteOf : ℕ → Reach → Bool
+isByteOf b openFile = eqb b 53
+isByteOf b closeFile = eqb b 54
+isByteOf b writeFile = eqb b 55
+isByteOf b (readNumber kind) = eqb b 56 || (eqb b 57 || eqb b 58)
+isByteOf b readString = eqb b 59
+isByteOf b fork = eqb b 68
+isByteOf b waitUntilDone = eqb b 69
+
+-- READINT, READCHAR, READFLOAT
+pub reads-by : (b : ℕ) → eqb b 56 || (eqb b 57 || eqb b 58) ≡ true → (b ≡ 56) ⊎ ((b ≡ 57) ⊎ (b ≡ 58))
+reads-by b h =
+    ⊎-elim (λ e. inl (eqb-true b 56 e)) (λ o. inr (⊎-elim (λ e. inl (eqb-true b 57 e)) (λ e. inr (eqb-true b 58 e)) (or-cases (eqb b 57) (eqb b 58) o))) (or-cases (eqb b 56) (eqb b 57 || eqb b 58) h)
+
+-- the byte of an instruction that asks; every other instruction asks nothing
+abbrev pub asksBy : ℕ → Instruction → Bool
+asksBy b (literal kind) = true
+asksBy b stringLiteral = true
+asksBy b setVariable = true
+asksBy b getVariable = true
+asksBy b (operate o) = true
+asksBy b delayUntil = true
+asksBy b millis = true
+asksBy b (print ends) = true
+asksBy b (jumpIf zero) = true
+asksBy b endIf = true
+asksBy b while = true
+asksBy b endWhile = true
+asksBy b loop = true
+asksBy b endLoop = true
+asksBy b stop = true
+asksBy b (reach r) = reaching b && isByteOf b r
+asksBy b unknown = true
+
+-- what a test says of every row of a table and of no row, it says of what is found there
+find-all : (test : ℕ → Instruction → Bool) (n : ℕ) (table : List (ℕ × Instruction)) → test n unknown ≡ true → all (λ row. test (row .0) (row .1)) table ≡ true → test n (find n table) ≡ true
+unfolding find all
+find-all test n [] u h = u
+find-all test n (row ∷ table) u h = go (eqb n (row .0)) refl (find-all test n table u (and-right (test (row .0) (row .1)) (all (λ r. test (r .0) (r .1)) table) h))
+  where
+    go : (b : Bool) → eqb n (row .0) ≡ b → test n (find n table) ≡ true → test n (cond b (row .1) (find n table)) ≡ true
+    go true e rest = subst⁻¹ (λ (k : ℕ). test k (row .1) ≡ true) (eqb-true n (row .0) e) (and-left (test (row .0) (row .1)) (all (λ r. test (r .0) (r .1)) table) h)
+    go false e rest = rest
+
+pub instruction-asks-by : (b : ℕ) → asksBy b (instructionOf b) ≡ true
+unfolding instructionOf all
+instruction-asks-by b = go (operatorOf b) (find-all asksBy b others refl refl)
+  where
+    go : (o : Operator) → asksBy b (find b others) ≡ true → asksBy b (operatorOr o (find b others)) ≡ true
+    go (OfOne o) h = refl
+    go (OfTwo o) h = refl
+    go NotAnOperator h = h

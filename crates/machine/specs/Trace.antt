@@ -1,0 +1,88 @@
+-- A run: any list of calls from any two buffers, and the events that it comes to.
+use Prim.Native.Nat.{ℕ}
+use mathlib.Core.Bool.{Bool, true, false}
+use mathlib.Core.List.{List, [], _∷_, _++_}
+use lib.Dec.{leb}
+use lib.IntN.{ℤ, pos, negsuc}
+use lib.ListN.{length, drop, replicate, take}
+use Rattle.buffer.specs.Lists.{consIf}
+use Rattle.machine.specs.Answer.{Answer, Buffers, Call, store, retrieve, erase, run, files, freeSpace, list, command, turn, round, answer}
+use Rattle.machine.specs.Area.{kernelOf}
+use Rattle.machine.specs.Operations.{slots}
+use Rattle.machine.specs.State.{isRunning, processAt}
+
+-- the two buffers between calls
+pub record Storage : Type 0 where
+  pub disc : List ℕ
+  pub area : List ℕ
+
+-- a call, and the output lent for it
+pub record Invocation : Type 0 where
+  pub call : Call
+  pub out : List ℕ
+
+abbrev pub lending : Storage → List ℕ → Buffers
+lending s out = record { disc = s .disc; area = s .area; out = out }
+
+abbrev pub storageOf : Answer → Storage
+storageOf a = record { disc = a .disc; area = a .area }
+
+abbrev pub answerOf : Invocation → Storage → Answer
+answerOf i s = answer (i .call) (lending s (i .out))
+
+-- ---- events
+-- one call, or one turn of a round: the two buffers before and after it, the number it returns, and the bytes of the lent output that the number
+-- counts, as they stand there
+pub record Event : Type 0 where
+  pub call : Call
+  pub before : Storage
+  pub after : Storage
+  pub number : ℤ
+  pub text : List ℕ
+
+abbrev pub event : Call → Storage → Answer → List ℕ → Event
+event c s a text = record { call = c; before = s; after = storageOf a; number = a .number; text = text }
+
+-- how many bytes the number counts; a refused call wrote none
+abbrev pub counts : ℤ → ℕ
+counts (pos n) = n
+counts (negsuc n) = 0
+
+abbrev pub textOf : Answer → List ℕ
+textOf a = take (counts (a .number)) (a .out)
+
+-- Document 01: "A done round stands for its turns in order, each printing its part of the output." A turn of a round is the call `turn` on the
+-- buffers as they are when its slot is reached; text is what the round printed from this turn on.
+unfoldable pub turnEvents : List ℕ → ℕ → Storage → List ℕ → List Event
+turnEvents [] clock s text = []
+turnEvents (slot ∷ slots) clock s text =
+    let a = answer (turn slot clock) (lending s (replicate 32 0)) in
+    let n = counts (a .number) in
+    consIf (isRunning (processAt (kernelOf (s .area)) slot)) (event (turn slot clock) s a (take n text)) (turnEvents slots clock (storageOf a) (drop n text))
+
+-- a refused round has no turn
+abbrev pub roundEvents : ℤ → ℕ → Storage → List ℕ → List Event
+roundEvents (pos n) clock s text = turnEvents slots clock s text
+roundEvents (negsuc n) clock s text = []
+
+-- "calls lent too little output aside": a turn needs 32 bytes
+abbrev pub onlyIf : Bool → Event → List Event
+onlyIf enough e = consIf enough e []
+
+abbrev pub eventsBy : Call → List ℕ → Storage → Answer → List Event
+eventsBy (store name bytes) out s a = event (store name bytes) s a [] ∷ []
+eventsBy (retrieve name) out s a = event (retrieve name) s a (textOf a) ∷ []
+eventsBy (erase name) out s a = event (erase name) s a [] ∷ []
+eventsBy (run name) out s a = event (run name) s a [] ∷ []
+eventsBy files out s a = event files s a (textOf a) ∷ []
+eventsBy freeSpace out s a = event freeSpace s a [] ∷ []
+eventsBy list out s a = event list s a (textOf a) ∷ []
+eventsBy (command c id) out s a = event (command c id) s a [] ∷ []
+eventsBy (turn slot clock) out s a = onlyIf (leb 32 (length out)) (event (turn slot clock) s a (textOf a))
+eventsBy (round clock) out s a = roundEvents (a .number) clock s (textOf a)
+
+-- Demand 3: "each any list of the calls [..], refused ones included, from any disc and work area. Each call gets what it takes of these two as the
+-- calls before left it"
+unfoldable pub events : List Invocation → Storage → List Event
+events [] s = []
+events (i ∷ is) s = eventsBy (i .call) (i .out) s (answerOf i s) ++ events is (storageOf (answerOf i s))
