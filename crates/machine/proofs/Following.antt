@@ -16,8 +16,8 @@ use Rattle.variable.specs.declared.Placing.the-variants.{Address, NoEntry, NoRu
 use Rattle.machine.specs.Effect.{Effect, goes, assigns}
 use Rattle.machine.specs.Exec.{exec}
 use Rattle.machine.specs.Observation.{Observation, seen, next, observedOf, seenIn, seenOf}
-use Rattle.machine.specs.Single.{Response, did, Single, advancedTo, assignedCells, over, singleEffect}
-use Rattle.machine.specs.State.{Local, ended, endedProcess, isLive, localOf, processAt, withLocal, withProcess}
+use Rattle.machine.specs.Single.{Response, did, Single, advancedTo, assignedCells, inState, over, singleEffect}
+use Rattle.machine.specs.State.{Local, ended, endedProcess, isLive, localOf, processAt, withLocal, withProcess, withState}
 use Rattle.machine.specs.Turn.{Turned, carriedOut, finished, programOf, setting, turned, valueOf}
 use Rattle.machine.specs.declared.Kernel.{Kernel}
 use Rattle.machine.specs.declared.Process.{Process}
@@ -85,6 +85,9 @@ module _ (i : ℕ) (prog : List ℕ) (k : Kernel) (disc : List ℕ) (s : Single)
   own-cells = ap (owned (k .variables)) (x .named) ∙ x .holds .cells
 
   -- the instruction is the single process's: same bytes, same state, same variables
+  pub own-exec : (clock : ℕ) → exec (programOf disc p) clock (localOf p) (owned (k .variables) i) ≡ exec prog clock (s .loc) (s .cells)
+  own-exec clock = λ t. exec (x .runs t) clock (held-local (x .holds) t) (x .holds .cells t)
+
   pub own-effect : (clock : ℕ) → turned k (x .slot) clock disc ≡ carriedOut k (x .slot) disc (exec prog clock (s .loc) (s .cells))
   unfolding turned
   own-effect clock = ap (carriedOut k (x .slot) disc) (λ t. exec (x .runs t) clock (held-local (x .holds) t) (own-cells t))
@@ -160,3 +163,29 @@ module _ (i : ℕ) (prog : List ℕ) (k : Kernel) (disc : List ℕ) (s : Single)
     own-sets a e =
         subst⁻¹ (λ (q : Placing). Agrees i prog (x .slot) s (setting k (x .slot) disc q (assigned (k .variables) name (p .id) (valueOf kind bytes) .variables) l) (singleEffect s (assigns name kind bytes l)))
         e (moved-agrees _ l (assignedCells (s .cells) name kind bytes) [] (put-at k (x .slot) (withLocal p l) (x .live)) (set-cells a e))
+
+  -- ---- suspend and resume
+  pub own-state : (state : ℕ) → isLive (withState p state) ≡ true
+      → Agrees i prog (x .slot) s (record { kernel = withProcess k (x .slot) (withState p state); disc = disc; out = [] }) (inState s state)
+  own-state state live =
+      let f = held in
+      record {
+        observed = ap seen (held-seen f []);
+        tracked = on
+            (record {
+              slot = x .slot;
+              live = ap isLive put ∙ live;
+              named = ap (λ (r : Process). r .id) put ∙ x .named;
+              runs = ap (programOf disc) put ∙ x .runs;
+              holds = f;
+            });
+      }
+    where
+      put : processAt (withProcess k (x .slot) (withState p state)) (x .slot) ≡ withState p state
+      put = put-at k (x .slot) (withState p state) (x .live)
+
+      held : Holds (processAt (withProcess k (x .slot) (withState p state)) (x .slot)) (owned (k .variables) i) (record { state = state; fault = s .fault; loc = s .loc; cells = s .cells })
+      held =
+          let h = x .holds in
+          subst⁻¹ (λ (r : Process). Holds r (owned (k .variables) i) (record { state = state; fault = s .fault; loc = s .loc; cells = s .cells })) put
+          (record { sp = h .sp; stack = h .stack; pc = h .pc; loop = h .loop; state = refl; fault = h .fault; cells = h .cells })

@@ -30,6 +30,7 @@ pub mod Openings
 pub mod OutsideKept
 pub mod OutsideSpares
 pub mod OwnEnd
+pub mod OwnInputs
 pub mod OwnKept
 pub mod OwnSpared
 pub mod Places
@@ -37,6 +38,7 @@ pub mod Popping
 pub mod Records
 pub mod Refused
 pub mod Replaced
+pub mod Room
 pub mod Rounds
 pub mod Sizes
 pub mod Slots

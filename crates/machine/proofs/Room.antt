@@ -1,0 +1,52 @@
+-- "A SET lacks space where fault 10 is defined for it": where it does not, the kernel finds a place.
+use Prim.Native.Nat.{ℕ, _+_, _≤_, _<_}
+use mathlib.Core.Path.{_≡_, refl, sym, ap, subst, subst⁻¹, _∙_}
+use mathlib.Core.Bool.{Bool, true, false, _||_, not}
+use mathlib.Core.List.{List, [], _∷_, map}
+use native.Mathlib.Omega.{arith}
+use lib.Dec.{leb}
+use lib.ListN.{length}
+use borrow.Author.Tests.{le-leb}
+use Rattle.buffer.specs.Lists.{any, keep, tab}
+use Rattle.buffer.proofs.Bools.{not-is-true, not-true-is-false, true-not-false}
+use Rattle.place.specs.Place.{fits}
+use Rattle.variable.specs.Assign.{assigned}
+use Rattle.variable.specs.Table.{counted, freed, isOf, runOf}
+use Rattle.variable.specs.declared.Placing.{Placing}
+use Rattle.variable.specs.declared.Placing.the-variants.{Address, NoEntry, NoRun}
+use Rattle.variable.specs.declared.Value.{Value}
+use Rattle.variable.specs.declared.Variable.{Variable}
+use Rattle.variable.specs.declared.Variables.{Variables}
+use Rattle.variable.proofs.Freeing.{freed-counted}
+use Rattle.variable.proofs.Setting.{assigned-no-entry, assigned-no-run}
+use Rattle.machine.specs.Isolation.{lacksSpace}
+use Rattle.machine.proofs.Disjunctions.{or-first, or-second}
+
+-- no element, no place
+none-any : {A : Type 0} (p : A → Bool) (l : List A) → ((x : A) → p x ≡ false) → any p l ≡ false
+unfolding any
+none-any p [] h = refl
+none-any p (x ∷ l) h = rw (h x) (none-any p l h)
+
+module _ (v : Variables) (name i : ℕ) (x : Value) where
+  others : List Variable
+  others = keep (λ e. not (isOf name i e)) (counted v)
+
+  freed-count-is : freed v (isOf name i) .count ≡ length others
+  unfolding others freed
+  freed-count-is = refl
+
+  pub room-found : lacksSpace v name i (x .size) ≡ false → (a : ℕ) × (assigned v name i x .placing ≡ Address a)
+  unfolding lacksSpace others
+  room-found h = go (assigned v name i x .placing) refl
+    where
+      go : (q : Placing) → assigned v name i x .placing ≡ q → (a : ℕ) × (assigned v name i x .placing ≡ Address a)
+      go (Address a) e = (a, e)
+      go NoEntry e =
+          let full : leb 25 (length others) ≡ true = le-leb 25 (length others) (subst (λ (n : ℕ). 25 ≤ n) freed-count-is (assigned-no-entry v name i x e)) in
+          absurd (true-not-false (or-first _ full) h)
+      go NoRun e =
+          let runs : freed v (isOf name i) .count ≡ length others = freed-count-is in
+          let none : (a : ℕ) → fits (map runOf others) 0 256 (x .size) a ≡ false = λ a.
+          subst (λ (l : List Variable). fits (map runOf l) 0 256 (x .size) a ≡ false) (freed-counted v (isOf name i)) (assigned-no-run v name i x e a) in
+          absurd (true-not-false (or-second (leb 25 (length others)) (not-is-true (none-any (fits (map runOf others) 0 256 (x .size)) (tab (λ a. a) 257) none))) h)
