@@ -148,7 +148,7 @@ module _ (s : Storage) (out : List ℕ) (passes : Passes (s .disc) (s .area)) wh
 -- no call of the process in slot own itself, and no WRITE of another into its program
 abbrev pub Apart : Call → ℕ → Storage → Kernel → Kernel → Type 0
 Apart (command c id) own s k j = slotOf k id ≡ At own → ⊥
-Apart (turn slot clock) own s k j = (own ≡ slot → ⊥) × NoWriteInto own slot k (s .disc) j
+Apart (turn slot clock) own s k j = (own ≡ slot → ⊥) × (isRunning (processAt k slot) ≡ true → NoWriteInto own slot k (s .disc) j)
 Apart (store name bytes) own s k j = Unit {0}
 Apart (retrieve name) own s k j = Unit {0}
 Apart (erase name) own s k j = Unit {0}
@@ -189,4 +189,4 @@ module _ {s : Storage} {k j : Kernel} {after : List ℕ} (g : GoodState k (s .di
       }
   effects-spare own live (turn slot clock) away (takes r x) =
       let u = change-untouched _ slot k (s .disc) j after g own live (away .0) x in
-      record { process = u .process; variables = u .variables; program = change-program _ slot k (s .disc) j after g own live (away .1) x }
+      record { process = u .process; variables = u .variables; program = change-program _ slot k (s .disc) j after g own live (away .1 r) x }

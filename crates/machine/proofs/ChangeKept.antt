@@ -45,7 +45,7 @@ own-of-write x = moves (x .process) (x .goes) (x .kernel)
 pub gone-after : {w : ℕ} {k j : Kernel} {disc : List ℕ} (i : ℕ) → Gone i k → Own w k disc j → Gone i j
 gone-after i g x = let r = own-gone i (g .given) (g .none) x in record { given = r .0; none = r .1 }
 
-no-place : {s : ℕ} → At s ≡ Nowhere → ⊥
+pub no-place : {s : ℕ} → At s ≡ Nowhere → ⊥
 no-place e = let z : _≡_ {A = ℕ} 0 1 = cc in omega arith
 
 module _ (name : List ℕ) (w : ℕ) (k : Kernel) (disc : List ℕ) (j : Kernel) (after : List ℕ) (good : GoodState k disc) where

@@ -82,7 +82,7 @@ turn-if-running-good k slot clock disc g = go (isRunning (processAt k slot)) ref
     go true e = turn-good k slot clock disc g e
     go false e = g
 
-turns-good : (l : List ℕ) (k : Kernel) (clock : ℕ) (disc : List ℕ) → GoodState k disc → GoodState (turnsOf l k clock disc .kernel) (turnsOf l k clock disc .disc)
+pub turns-good : (l : List ℕ) (k : Kernel) (clock : ℕ) (disc : List ℕ) → GoodState k disc → GoodState (turnsOf l k clock disc .kernel) (turnsOf l k clock disc .disc)
 unfolding turnsOf
 turns-good [] k clock disc g = g
 turns-good (slot ∷ l) k clock disc g =

@@ -5,6 +5,7 @@ pub mod Begun
 pub mod BenchCases
 pub mod CallEffects
 pub mod Carrying
+pub mod Chains
 pub mod Change
 pub mod ChangeKept
 pub mod Commanding
@@ -23,6 +24,7 @@ pub mod GoodCalls
 pub mod GoodLaws
 pub mod GoodRecords
 pub mod InstructionBytes
+pub mod Isolated
 pub mod Lasting
 pub mod LiveIds
 pub mod LiveRecords
@@ -45,5 +47,6 @@ pub mod Slots
 pub mod Sound
 pub mod Spared
 pub mod StartKept
+pub mod Stepping
 pub mod Turning
 pub mod WritesKept
