@@ -145,4 +145,4 @@ Isolation =
     → Undisturbed i₂ rest₂
     → inputs (done (watch i₁ rest₁)) ≡ inputs (done (watch i₂ rest₂))
     → (observations (done (watch i₁ rest₁)) ≡ observations (done (watch i₂ rest₂)))
-        × AsSingle prog (done (watch i₁ rest₁)) × AsSingle prog (watch i₁ rest₁) × AsSingle prog (watch i₂ rest₂)
+    × AsSingle prog (done (watch i₁ rest₁)) × AsSingle prog (watch i₁ rest₁) × AsSingle prog (watch i₂ rest₂)

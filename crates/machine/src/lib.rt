@@ -2,6 +2,7 @@
 use place::Run;
 use variable::Variables;
 ghost use Rattle.machine.specs.Cases.{Bench, Misreadings};
+ghost use Rattle.machine.specs.Isolation.{Isolation};
 
 // The file that a process has open, and how far it has read or written. Length 0: none.
 pub struct OpenFile {
@@ -41,4 +42,9 @@ pub fn bench()
 // Document 01: the 'Misreadings of the guide', each ruled out by a program that shows it.
 pub fn misreadings()
     ensures { λ _. ⌜ Misreadings ⌝ }
+{}
+
+// Demand 3 in one piece: no neighbour, no order of turns and no call shifts a process's stack, variables, place, output or end.
+pub fn isolation()
+    ensures { λ _. ⌜ Isolation ⌝ }
 {}
