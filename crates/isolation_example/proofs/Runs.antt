@@ -1,0 +1,106 @@
+-- The example's runs meet what demand 3 supposes: by computing them. What is observed is then alike, by the theorem.
+use Prim.Native.Nat.{ℕ, suc, _<_}
+use mathlib.Core.Path.{_≡_, refl, sym, ap, _∙_}
+use mathlib.Core.Bool.{true}
+use mathlib.Core.List.{List, [], _∷_, _++_, append-nil}
+use mathlib.Core.Option.{some}
+use lib.Dec.{ltb}
+use lib.ListN.{drop, getD, length, take}
+use lib.Seq.{split-at}
+use lib.Count.{trailingZeros}
+use lib.IntN.{negsuc, pos}
+use lib.Ieee.{ofBits, ofFields}
+use borrow.Author.Tests.{ltb-true}
+use Rattle.buffer.specs.Lists.{all, any, flat, index, keep, pairs, same, tab}
+use Rattle.decimal.specs.Decimal.{lastDigits}
+use Rattle.float.specs.Print.{printedOf}
+use Rattle.float.specs.Whole.{wholeOf}
+use Rattle.integer.specs.Modular.{wrapped}
+use Rattle.number.specs.Arithmetic.{whole}
+use Rattle.number.specs.Binary.{binary, wholeBits}
+use Rattle.number.specs.Conversion.{convertedFloat}
+use Rattle.number.specs.Instruction.{lookup as lookupOperator, operatorOf, takenBy}
+use Rattle.number.specs.Text.{textOf}
+use Rattle.number.specs.Unary.{unary}
+use Rattle.number.specs.Value.{numberOf}
+use Rattle.place.specs.Place.{apart, fits, lowest, place}
+use Rattle.store.specs.Answer.{checked, storeAnswer}
+use Rattle.store.specs.Directory.{beside as besideEntry, entryAt, goodDisc, goodEntry, goodFiles, lookup}
+use Rattle.store.specs.File.{admission, entered, erased, placeOf, readAt, writtenAt}
+use Rattle.store.specs.Name.{goodField, goodName, trimmed}
+use Rattle.variable.specs.Assign.{added, assigned, placeFor, placing}
+use Rattle.variable.specs.Good.{beside as besideVariable, goodSize, goodVariable, goodVariables}
+use Rattle.variable.specs.Table.{freed, owned}
+use Rattle.machine.specs.Answer.{answer, booted, files, goodArea}
+use Rattle.machine.specs.Area.{kernelBytes, kernelOf, variablesOf}
+use Rattle.machine.specs.Beyond.{answered}
+use Rattle.machine.specs.Effect.{operates, settle}
+use Rattle.isolation_example.specs.Example.{Example, alone, beside, empty, fed, hours, printed, restAlone, restBeside}
+use Rattle.machine.specs.Exec.{exec, performs}
+use Rattle.machine.specs.GoodArea.{goodFile, goodHeader, goodKernel, goodLive, goodProcess, goodRegisters, isProgram, otherId}
+use Rattle.machine.specs.Instruction.{find, instructionOf}
+use Rattle.machine.specs.Isolation.{Isolation, Started, Undisturbed, contentsAt, givesOut, lacksSpace, startName, turnDisturbs, writeLands}
+use Rattle.machine.specs.Observation.{Observation, declined, done, inputs, observations, watch}
+use Rattle.machine.specs.Operations.{commanded, inUse, turnIfRunning, turnsOf}
+use Rattle.machine.specs.Single.{single}
+use Rattle.machine.specs.Stack.{pop, popNumber, popString, wellFormed}
+use Rattle.machine.specs.Start.{starting}
+use Rattle.machine.specs.State.{ended, endedSlot, slotOf}
+use Rattle.machine.specs.Trace.{Event, Invocation, Storage, event, events, turnEvents}
+use Rattle.machine.specs.Turn.{carriedOut, turned}
+use Rattle.machine.proofs.Isolated.{isolated}
+
+-- ---- what is computed of a run: the n-th event starts the process i
+none : Event
+none = event files empty (record { number = negsuc 0; disc = []; area = []; out = [] }) []
+
+record Computed (i n : ℕ) (calls : List Invocation) (rest : List Event) : Type 0 where
+  rest-is : rest ≡ drop (suc n) (events calls empty)
+  inside : ltb n (length (events calls empty)) ≡ true
+  given : givesOut i (getD (events calls empty) n none) ≡ true
+  program : contentsAt (lookup (getD (events calls empty) n none .before .disc) (startName (getD (events calls empty) n none .call) (getD (events calls empty) n none .before))) (getD (events calls empty) n none .before .disc)
+      ≡ some hours
+  undisturbed : Undisturbed i rest
+  inputs-are : inputs (done (watch i rest)) ≡ fed
+
+started : (i n : ℕ) (calls : List Invocation) (rest : List Event) → Computed i n calls rest → Started i hours (events calls empty) rest
+started i n calls rest c =
+    let es : List Event = events calls empty in
+    record {
+      earlier = take n es;
+      start = getD es n none;
+      later = [];
+      splits = split-at es n none (ltb-true n (length es) (c .inside)) ∙ ap (λ (l : List Event). take n es ++ (getD es n none ∷ l)) (sym (c .rest-is) ∙ sym (append-nil rest));
+      given = c .given;
+      program = c .program;
+    }
+
+runs : Computed 1 1 alone restAlone × Computed 3 5 beside restBeside × (length (watch 1 restAlone) ≡ 11) × (getD (observations (done (watch 1 restAlone))) 7 (declined (pos 0)) ≡ printed)
+unfolding none restAlone restBeside givesOut lacksSpace turnDisturbs writeLands events turnEvents watch answer storeAnswer checked lookup index entryAt tab goodDisc goodFiles goodEntry goodField goodName besideEntry all pairs apart fits lowest place placeOf admission entered erased writtenAt readAt goodArea goodKernel goodHeader goodProcess goodLive goodRegisters goodFile isProgram otherId goodVariables goodVariable goodSize besideVariable kernelOf kernelBytes variablesOf flat inUse any keep ended turned carriedOut answered owned freed assigned placeFor placing added exec performs find instructionOf operatorOf lookupOperator takenBy operates settle pop popNumber popString wellFormed trimmed same unary binary whole wrapped wholeBits convertedFloat numberOf textOf printedOf wholeOf lastDigits ofBits ofFields trailingZeros commanded turnIfRunning turnsOf single starting endedSlot slotOf
+runs = (
+  record { rest-is = refl; inside = refl; given = refl; program = refl; undisturbed = refl; inputs-are = refl },
+  record { rest-is = refl; inside = refl; given = refl; program = refl; undisturbed = refl; inputs-are = refl },
+  refl,
+  refl,
+)
+
+-- so the two are alike in all that is observed, by the theorem
+alike : observations (done (watch 1 restAlone)) ≡ observations (done (watch 3 restBeside))
+unfolding Isolation
+alike =
+    isolated empty empty alone beside 1 3 hours restAlone restBeside (started 1 1 alone restAlone (runs .0)) (started 3 5 beside restBeside (runs .1)) (runs .0 .undisturbed) (runs .1 .undisturbed)
+    (runs .0 .inputs-are ∙ sym (runs .1 .inputs-are)) .0
+
+pub example-holds : Example
+unfolding Example
+example-holds = (
+  started 1 1 alone restAlone (runs .0),
+  started 3 5 beside restBeside (runs .1),
+  runs .0 .undisturbed,
+  runs .1 .undisturbed,
+  runs .0 .inputs-are,
+  runs .1 .inputs-are,
+  alike,
+  runs .2,
+  ap (λ (l : List Observation). getD l 7 (declined (pos 0))) (sym alike) ∙ runs .3,
+)

@@ -1,0 +1,84 @@
+-- Two runs in which all that demand 3 supposes holds, so that the claim is not empty: one process alone, and the same program under another name, ID
+-- and slot beside neighbours that use its variable's name, print, fork and write a file.
+use Prim.Native.Nat.{ℕ}
+use mathlib.Core.Path.{_≡_}
+use mathlib.Core.List.{List, [], _∷_}
+use lib.IntN.{pos}
+use lib.ListN.{drop, getD, length, replicate}
+use Rattle.machine.specs.Answer.{Call, store, run, command, turn, round, booted}
+use Rattle.machine.specs.Isolation.{Started, Undisturbed}
+use Rattle.machine.specs.Observation.{Observation, declined, seen, done, inputs, observations, watch}
+use Rattle.machine.specs.Operations.{suspend, resume, kill}
+use Rattle.machine.specs.Single.{Input, tick, given}
+use Rattle.machine.specs.Trace.{Event, Invocation, Storage, events}
+
+-- INT 7, SET a, MILLIS, GET a, PLUS, PRINTLN, STOP
+abbrev pub hours : List ℕ
+hours = 2 ∷ 0 ∷ 7 ∷ 5 ∷ 97 ∷ 45 ∷ 6 ∷ 97 ∷ 9 ∷ 52 ∷ 67 ∷ []
+
+-- LOOP, MILLIS, SET a, GET a, PRINT, ENDLOOP
+abbrev pub lamp : List ℕ
+lamp = 65 ∷ 45 ∷ 5 ∷ 97 ∷ 6 ∷ 97 ∷ 51 ∷ 66 ∷ []
+
+-- STRING "l", FORK, STRING "l", INT 1, OPEN, CHAR 45, WRITE: a child, then a write over the lamp's program
+abbrev pub meddler : List ℕ
+meddler = 3 ∷ 108 ∷ 0 ∷ 68 ∷ 3 ∷ 108 ∷ 0 ∷ 2 ∷ 0 ∷ 1 ∷ 53 ∷ 1 ∷ 45 ∷ 55 ∷ []
+
+abbrev pub empty : Storage
+empty = record { disc = replicate 1024 0; area = booted }
+
+abbrev pub lend : Call → Invocation
+lend c = record { call = c; out = replicate 320 0 }
+
+-- ID 1 in slot 0, turn by turn; a second suspend and a kill after the end are refused
+abbrev pub alone : List Invocation
+alone =
+    lend (store (104 ∷ []) hours) ∷ lend (run (104 ∷ [])) ∷
+    lend (turn 0 1) ∷ lend (command suspend 1) ∷ lend (command suspend 1) ∷ lend (command resume 1) ∷
+    lend (turn 0 2) ∷ lend (turn 0 3) ∷ lend (turn 0 4) ∷ lend (turn 0 5) ∷ lend (turn 0 6) ∷ lend (turn 0 7) ∷ lend (command kill 1) ∷ []
+
+-- ID 3 in slot 2, by rounds
+abbrev pub beside : List Invocation
+beside =
+    lend (store (108 ∷ []) lamp) ∷ lend (store (109 ∷ []) meddler) ∷ lend (store (99 ∷ []) hours) ∷ lend (run (108 ∷ [])) ∷ lend (run (109 ∷ [])) ∷ lend (run (99 ∷ [])) ∷
+    lend (round 1) ∷ lend (command suspend 3) ∷ lend (round 99) ∷ lend (command resume 3) ∷
+    lend (round 2) ∷ lend (round 3) ∷ lend (round 4) ∷ lend (round 5) ∷ lend (round 6) ∷ lend (round 7) ∷ []
+
+-- what follows the start
+unfoldable pub restAlone : List Event
+restAlone = drop 2 (events alone empty)
+
+unfoldable pub restBeside : List Event
+restBeside = drop 6 (events beside empty)
+
+-- what both are fed and do not refuse
+abbrev pub fed : List Input
+fed = tick 1 ∷ given suspend ∷ given resume ∷ tick 2 ∷ tick 3 ∷ tick 4 ∷ tick 5 ∷ tick 6 ∷ tick 7 ∷ []
+
+-- tick 6: PRINTLN of 7 and the clock of tick 3; nothing is on the stack, a is 7, PC is at STOP
+abbrev pub printed : Observation
+printed =
+    seen
+    (record {
+      sp = 0;
+      stack = replicate 32 0;
+      variables = record { name = 97; kind = 2; bytes = 0 ∷ 7 ∷ [] } ∷ [];
+      pc = 10;
+      loopstart = 65535;
+      state = 114;
+      fault = 0;
+      text = 49 ∷ 48 ∷ 10 ∷ [];
+      number = pos 3;
+    })
+
+unfoldable pub Example : Type 0
+Example =
+    Started 1 hours (events alone empty) restAlone
+    × Started 3 hours (events beside empty) restBeside
+    × Undisturbed 1 restAlone
+    × Undisturbed 3 restBeside
+    × (inputs (done (watch 1 restAlone)) ≡ fed)
+    × (inputs (done (watch 3 restBeside)) ≡ fed)
+    × (observations (done (watch 1 restAlone)) ≡ observations (done (watch 3 restBeside)))
+    × (length (watch 1 restAlone) ≡ 11)
+    × (getD (observations (done (watch 3 restBeside))) 7 (declined (pos 0)) ≡ printed)
