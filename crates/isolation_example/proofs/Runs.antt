@@ -39,7 +39,8 @@ use Rattle.isolation_example.specs.Example.{Example, alone, beside, empt
 use Rattle.machine.specs.Exec.{exec, performs}
 use Rattle.machine.specs.GoodArea.{goodFile, goodHeader, goodKernel, goodLive, goodProcess, goodRegisters, isProgram, otherId}
 use Rattle.machine.specs.Instruction.{find, instructionOf}
-use Rattle.machine.specs.Isolation.{Isolation, Started, Undisturbed, contentsAt, givesOut, lacksSpace, startName, turnDisturbs, writeLands}
+use Rattle.machine.specs.Isolation.{Isolation, Started, contentsAt, givesOut, startName}
+use Rattle.machine.specs.Suppositions.{Undisturbed, lacksSpace, turnDisturbs, writeLands}
 use Rattle.machine.specs.Observation.{Observation, declined, done, inputs, observations, watch}
 use Rattle.machine.specs.Operations.{commanded, inUse, turnIfRunning, turnsOf}
 use Rattle.machine.specs.Single.{single}

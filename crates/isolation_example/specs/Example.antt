@@ -6,7 +6,8 @@ use mathlib.Core.List.{List, [], _∷_}
 use lib.IntN.{pos}
 use lib.ListN.{drop, getD, length, replicate}
 use Rattle.machine.specs.Answer.{Call, store, run, command, turn, round, booted}
-use Rattle.machine.specs.Isolation.{Started, Undisturbed}
+use Rattle.machine.specs.Isolation.{Started}
+use Rattle.machine.specs.Suppositions.{Undisturbed}
 use Rattle.machine.specs.Observation.{Observation, declined, seen, done, inputs, observations, watch}
 use Rattle.machine.specs.Operations.{suspend, resume, kill}
 use Rattle.machine.specs.Single.{Input, tick, given}

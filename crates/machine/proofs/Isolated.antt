@@ -18,7 +18,8 @@ use Rattle.store.specs.Directory.{contents, entryAt, goodDisc, isDiscLength, lo
 use Rattle.store.specs.File.{unless}
 use Rattle.machine.specs.Answer.{Answer, Buffers, Call, store, retrieve, erase, run, files, freeSpace, list, command, turn, round, answer, goodArea, onGood, refused}
 use Rattle.machine.specs.Area.{isAreaLength, kernelOf}
-use Rattle.machine.specs.Isolation.{AsSingle, Isolation, Started, Undisturbed, contentsAt, disturbedBy, givesOut, isLiveIn, startName}
+use Rattle.machine.specs.Isolation.{AsSingle, Isolation, Started, contentsAt, givesOut, isLiveIn, startName}
+use Rattle.machine.specs.Suppositions.{Undisturbed, disturbedBy}
 use Rattle.machine.specs.Observation.{Observation, declined, seen, Watched, done, inputOf, inputs, isDone, next, observations, observedBy, observedOf, placeIn, singleRun, watch, watchedIf}
 use Rattle.machine.specs.Operations.{Command, suspend, resume, kill}
 use Rattle.machine.specs.Single.{Input, tick, given, Response, did, refusedBy, Single, fresh, single}

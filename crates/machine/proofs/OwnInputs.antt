@@ -24,7 +24,7 @@ use Rattle.machine.specs.Answer.{Answer, Buffers, Call, command, turn, a
 use Rattle.machine.specs.Area.{kernelBytes, kernelOf}
 use Rattle.machine.specs.Effect.{Effect, goes, assigns, stops, faults, asks}
 use Rattle.machine.specs.Exec.{exec}
-use Rattle.machine.specs.Isolation.{executedBy, isBarred, isLacking, lacksSpace, setLacks}
+use Rattle.machine.specs.Suppositions.{executedBy, isBarred, isLacking, lacksSpace, setLacks}
 use Rattle.machine.specs.Observation.{Observation, declined, seen, next, observedBy, observedOf, placeIn, seenIn, slotIn}
 use Rattle.machine.specs.Operations.{Command, suspend, resume, kill, Commanded, becomes, refused as denied, changed, commandAt, commanded}
 use Rattle.machine.specs.Single.{Input, tick, given, Response, did, refusedBy, Single, inState, over, single, singleCommand, singleEffect}

@@ -19,7 +19,7 @@ use Rattle.variable.specs.declared.Variable.{Variable}
 use Rattle.variable.specs.declared.Variables.{Variables}
 use Rattle.variable.proofs.Freeing.{freed-counted}
 use Rattle.variable.proofs.Setting.{assigned-no-entry, assigned-no-run}
-use Rattle.machine.specs.Isolation.{lacksSpace}
+use Rattle.machine.specs.Suppositions.{lacksSpace}
 use Rattle.machine.proofs.Disjunctions.{or-first, or-second}
 
 -- no element, no place

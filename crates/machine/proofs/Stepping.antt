@@ -15,7 +15,7 @@ use Rattle.buffer.proofs.Bools.{and-both, not-true-is-false, true-not-false}
 use Rattle.variable.specs.Table.{Cell, owned}
 use Rattle.machine.specs.Answer.{Answer, Buffers, Call, store, retrieve, erase, run, files, freeSpace, list, command, turn, round, answer, turnedAnswer}
 use Rattle.machine.specs.Area.{kernelOf}
-use Rattle.machine.specs.Isolation.{disturbedBy, executedBy, isBarred, isDoneBy, processIn, setLacks, turnDisturbs, turnDisturbsAt, writeLands}
+use Rattle.machine.specs.Suppositions.{disturbedBy, executedBy, isBarred, isDoneBy, processIn, setLacks, turnDisturbs, turnDisturbsAt, writeLands}
 use Rattle.machine.specs.Observation.{Observation, inputIf, inputOf, isAt, next, observedBy, observedOf, placeIn}
 use Rattle.machine.specs.Operations.{Command}
 use Rattle.machine.specs.Single.{Input, tick, given, Single, single}

@@ -13,6 +13,7 @@ pub mod Answer
 pub mod Single
 pub mod Trace
 pub mod Observation
+pub mod Suppositions
 pub mod Isolation
 pub mod Bench
 pub mod Cases
