@@ -1,14 +1,14 @@
 -- The events of a run: from the first good buffers on, each finds good buffers as the one before left them. A done round is its turns.
-use Prim.Native.Nat.{ℕ}
+use Prim.Native.Nat.{ℕ, _+_}
 use mathlib.Core.Path.{_≡_, refl, sym, ap, subst, subst⁻¹, _∙_}
 use mathlib.Core.Bool.{Bool, true, false, _&&_, cond}
 use mathlib.Core.List.{List, [], _∷_, _++_}
 use mathlib.Core.Logic.{_⊎_, inl, inr}
 use lib.Dec.{leb, ltb}
 use lib.IntN.{ℤ, pos, negsuc}
-use lib.ListN.{drop, length, replicate, take}
+use lib.ListN.{drop, length, replicate, take, length-append}
 use lib.Seq.{drop-at, take-at}
-use Rattle.buffer.specs.Lists.{all, consIf}
+use Rattle.buffer.specs.Lists.{all, consIf, flat}
 use Rattle.buffer.proofs.Bools.{and-left, and-right}
 use Rattle.store.specs.Directory.{goodDisc, isDiscLength}
 use Rattle.store.specs.File.{unless}
@@ -16,7 +16,7 @@ use Rattle.machine.specs.Answer.{Answer, Buffers, Call, store, retrieve,
 use Rattle.machine.specs.Area.{isAreaLength, kernelBytes, kernelOf}
 use Rattle.machine.specs.Operations.{slots, turnIfRunning, turnsOf}
 use Rattle.machine.specs.State.{isRunning, processAt}
-use Rattle.machine.specs.Trace.{Event, Invocation, Storage, answerOf, counts, event, events, eventsBy, lending, onlyIf, roundEvents, storageOf, textOf, turnEvents}
+use Rattle.machine.specs.Trace.{Event, Invocation, PrintsItsPart, Storage, answerOf, counts, event, events, eventsBy, lastStorage, lending, onlyIf, roundEvents, storageOf, textOf, total, turnEvents}
 use Rattle.machine.specs.Turn.{Turned, turned}
 use Rattle.machine.specs.declared.Kernel.{Kernel}
 use Rattle.machine.specs.declared.Process.{Process}
@@ -116,17 +116,45 @@ taken s slot clock low passes = go (isRunning (processAt k slot)) refl
         subst⁻¹ (λ (a : Answer). Taken s slot clock a (record { kernel = k; disc = s .disc; out = [] })) (turn-not-running (lent32 s) slot clock passes refl low h)
         (record { kernel = refl; disc = refl; count = refl; text = refl })
 
--- text is what these turns print, joined
-turns-lead : (l : List ℕ) (clock : ℕ) (s : Storage) (text : List ℕ) → all (λ slot. ltb slot 10) l ≡ true → Passes (s .disc) (s .area)
-    → text ≡ turnsOf l (kernelOf (s .area)) clock (s .disc) .out
-    → Leads (kernelOf (s .area)) (s .disc) (turnEvents l clock s text) (turnsOf l (kernelOf (s .area)) clock (s .disc) .kernel) (turnsOf l (kernelOf (s .area)) clock (s .disc) .disc)
-unfolding turnEvents turnsOf Leads all
-turns-lead [] clock s text low passes e = (refl, refl)
-turns-lead (slot ∷ l) clock s text low passes e =
-    go (isRunning (processAt k slot)) refl (turns-lead l clock (storageOf a) (drop (counts (a .number)) text) (and-right (ltb slot 10) _ low) (good-kept (lent32 s) passes (turn slot clock)) printed)
+-- the area's bytes are those of what it says
+abbrev pub Whole : List ℕ → Type 0
+Whole area = kernelBytes (kernelOf area) ≡ area
+
+whole-kept : (s : Storage) (slot clock : ℕ) → ltb slot 10 ≡ true → Passes (s .disc) (s .area) → Whole (s .area) → Whole (answer (turn slot clock) (lent32 s) .area)
+whole-kept s slot clock low passes whole = go (isRunning (processAt k slot)) refl
   where
     k : Kernel
     k = kernelOf (s .area)
+
+    go : (f : Bool) → isRunning (processAt k slot) ≡ f → Whole (answer (turn slot clock) (lent32 s) .area)
+    go true h =
+        let t : Turned = turned k slot clock (s .disc) in
+        subst⁻¹ (λ (a : Answer). Whole (a .area)) (turn-running (lent32 s) slot clock passes refl low h)
+        (ap kernelBytes (good-back (t .kernel) (t .disc) (turn-good k slot clock (s .disc) (passes-good (s .disc) (s .area) passes) h)))
+    go false h = subst⁻¹ (λ (a : Answer). Whole (a .area)) (turn-not-running (lent32 s) slot clock passes refl low h) whole
+
+-- what the events of these turns come to
+pub record Parts (s : Storage) (es : List Event) (u : Turned) : Type 0 where
+  pub leads : Leads (kernelOf (s .area)) (s .disc) es (u .kernel) (u .disc)
+  pub texts : flat (λ e. e .text) es ≡ u .out
+  pub sum : total es ≡ length (u .out)
+  pub parts : PrintsItsPart es
+  pub disc : lastStorage s es .disc ≡ u .disc
+  pub area : Whole (s .area) → lastStorage s es .area ≡ kernelBytes (u .kernel)
+
+-- text is what these turns print, joined
+pub turn-parts : (l : List ℕ) (clock : ℕ) (s : Storage) (text : List ℕ) → all (λ slot. ltb slot 10) l ≡ true → Passes (s .disc) (s .area)
+    → text ≡ turnsOf l (kernelOf (s .area)) clock (s .disc) .out → Parts s (turnEvents l clock s text) (turnsOf l (kernelOf (s .area)) clock (s .disc))
+unfolding turnEvents turnsOf Leads all flat total lastStorage PrintsItsPart
+turn-parts [] clock s text low passes e = record { leads = (refl, refl); texts = refl; sum = refl; parts = tt; disc = refl; area = λ whole. sym whole }
+turn-parts (slot ∷ l) clock s text low passes e =
+    go (isRunning (processAt k slot)) refl (turn-parts l clock (storageOf a) (drop (counts (a .number)) text) (and-right (ltb slot 10) _ low) (good-kept (lent32 s) passes (turn slot clock)) printed)
+  where
+    k : Kernel
+    k = kernelOf (s .area)
+
+    here : ltb slot 10 ≡ true
+    here = and-left (ltb slot 10) _ low
 
     a : Answer
     a = answer (turn slot clock) (lent32 s)
@@ -138,7 +166,7 @@ turns-lead (slot ∷ l) clock s text low passes e =
     rest = turnsOf l (t .kernel) clock (t .disc)
 
     facts : Taken s slot clock a t
-    facts = taken s slot clock (and-left (ltb slot 10) _ low) passes
+    facts = taken s slot clock here passes
 
     onward : turnsOf l (kernelOf (a .area)) clock (a .disc) ≡ rest
     onward = λ z. turnsOf l (facts .kernel z) clock (facts .disc z)
@@ -146,20 +174,38 @@ turns-lead (slot ∷ l) clock s text low passes e =
     printed : drop (counts (a .number)) text ≡ turnsOf l (kernelOf (a .area)) clock (a .disc) .out
     printed = (λ z. drop (facts .count z) (e z)) ∙ drop-at (t .out) (rest .out) (length (t .out)) refl ∙ sym (ap (λ (u : Turned). u .out) onward)
 
-    part : take (counts (a .number)) text ≡ textOf a
-    part = (λ z. take (facts .count z) (e z)) ∙ take-at (t .out) (rest .out) (length (t .out)) refl ∙ sym (facts .text)
+    part : take (counts (a .number)) text ≡ t .out
+    part = (λ z. take (facts .count z) (e z)) ∙ take-at (t .out) (rest .out) (length (t .out)) refl
 
     later : List Event
     later = turnEvents l clock (storageOf a) (drop (counts (a .number)) text)
 
-    go : (f : Bool) → isRunning (processAt k slot) ≡ f → Leads (kernelOf (a .area)) (a .disc) later (turnsOf l (kernelOf (a .area)) clock (a .disc) .kernel) (turnsOf l (kernelOf (a .area)) clock (a .disc) .disc)
-        → Leads k (s .disc) (consIf f (event (turn slot clock) s a (take (counts (a .number)) text)) later) (rest .kernel) (rest .disc)
-    go true h r =
-        (refl, refl, passes, record { out = replicate 32 0; same = refl; reports = (refl, part) }, subst (λ (u : Turned). Leads (kernelOf (a .area)) (a .disc) later (u .kernel) (u .disc)) onward r)
-    go false h r =
-        let refuses : a ≡ refused 16 (lent32 s) = turn-not-running (lent32 s) slot clock passes refl (and-left (ltb slot 10) _ low) h in
-        subst (λ (b : Answer). Leads (kernelOf (b .area)) (b .disc) later (rest .kernel) (rest .disc)) refuses
-        (subst (λ (u : Turned). Leads (kernelOf (a .area)) (a .disc) later (u .kernel) (u .disc)) onward r)
+    go : (f : Bool) → isRunning (processAt k slot) ≡ f → Parts (storageOf a) later (turnsOf l (kernelOf (a .area)) clock (a .disc))
+        → Parts s (consIf f (event (turn slot clock) s a (take (counts (a .number)) text)) later) (record { kernel = rest .kernel; disc = rest .disc; out = t .out ++ rest .out })
+    go true h p =
+        let r : Parts (storageOf a) later rest = subst (λ (u : Turned). Parts (storageOf a) later u) onward p in
+        let own : take (counts (a .number)) text ≡ textOf a = part ∙ sym (facts .text) in
+        record {
+          leads = (refl, refl, passes, record { out = replicate 32 0; same = refl; reports = (refl, own) }, r .leads);
+          texts = λ z. part z ++ r .texts z;
+          sum = (λ z. facts .count z + r .sum z) ∙ sym (length-append (t .out) (rest .out));
+          parts = (own, r .parts);
+          disc = r .disc;
+          area = λ whole. r .area (whole-kept s slot clock here passes whole);
+        }
+    go false h p =
+        let r : Parts (storageOf a) later rest = subst (λ (u : Turned). Parts (storageOf a) later u) onward p in
+        let refuses : a ≡ refused 16 (lent32 s) = turn-not-running (lent32 s) slot clock passes refl here h in
+        let silent : t .out ≡ [] = sym (facts .text) ∙ ap textOf refuses in
+        let same : storageOf a ≡ s = ap storageOf refuses in
+        record {
+          leads = subst (λ (x : Storage). Leads (kernelOf (x .area)) (x .disc) later (rest .kernel) (rest .disc)) same (r .leads);
+          texts = r .texts ∙ sym (ap (λ (o : List ℕ). o ++ rest .out) silent);
+          sum = r .sum ∙ sym (ap (λ (o : List ℕ). length (o ++ rest .out)) silent);
+          parts = r .parts;
+          disc = ap (λ (x : Storage). lastStorage x later .disc) (sym same) ∙ r .disc;
+          area = λ whole. ap (λ (x : Storage). lastStorage x later .area) (sym same) ∙ r .area (whole-kept s slot clock here passes whole);
+        }
 
 module _ (s : Storage) (out : List ℕ) (passes : Passes (s .disc) (s .area)) where
   -- "A done round stands for its turns in order, each printing its part of the output."
@@ -185,7 +231,7 @@ module _ (s : Storage) (out : List ℕ) (passes : Passes (s .disc) (s .area)) wh
       go true h =
           subst⁻¹ Right (round-done b clock passes h)
           (subst⁻¹ (λ (j : Kernel). Leads k (s .disc) (turnEvents slots clock s (textOf (turnedAnswer u b))) j (u .disc)) (good-back (u .kernel) (u .disc) (turns-good slots k clock (s .disc) (passes-good (s .disc) (s .area) passes)))
-          (turns-lead slots clock s (textOf (turnedAnswer u b)) refl passes (take-at (u .out) _ (length (u .out)) refl)))
+          (turn-parts slots clock s (textOf (turnedAnswer u b)) refl passes (take-at (u .out) _ (length (u .out)) refl) .leads))
       go false h = subst⁻¹ Right (short-round s out passes clock h) (refl, refl)
 
   call-leads : (c : Call) → Leads (kernelOf (s .area)) (s .disc) (eventsBy c out s (answer c (lending s out))) (kernelOf (answer c (lending s out) .area)) (answer c (lending s out) .disc)

@@ -38,7 +38,7 @@ use Rattle.machine.proofs.Sizes.{decoded-sized}
 use Rattle.machine.specs.Stack.{topString}
 
 -- ---- good buffers and good states
-area-length : {disc area : List ℕ} → Passes disc area → isAreaLength (length area) ≡ true
+pub area-length : {disc area : List ℕ} → Passes disc area → isAreaLength (length area) ≡ true
 area-length {disc} p = and-right (isDiscLength (length disc)) _ (p .sizes)
 
 pub passes-good : (disc area : List ℕ) → Passes disc area → GoodState (kernelOf area) disc

@@ -41,6 +41,7 @@ pub mod Records
 pub mod Refused
 pub mod Replaced
 pub mod Room
+pub mod RoundEvents
 pub mod Rounds
 pub mod Sizes
 pub mod Slots

@@ -1,11 +1,13 @@
 -- A run: any list of calls from any two buffers, and the events that it comes to.
-use Prim.Native.Nat.{ℕ}
+use Prim.Native.Nat.{ℕ, _+_}
+use mathlib.Core.Path.{_≡_}
 use mathlib.Core.Bool.{Bool, true, false}
 use mathlib.Core.List.{List, [], _∷_, _++_}
 use lib.Dec.{leb}
 use lib.IntN.{ℤ, pos, negsuc}
 use lib.ListN.{length, drop, replicate, take}
-use Rattle.buffer.specs.Lists.{consIf}
+use Rattle.buffer.specs.Buffer.{overwrite}
+use Rattle.buffer.specs.Lists.{consIf, flat}
 use Rattle.machine.specs.Answer.{Answer, Buffers, Call, store, retrieve, erase, run, files, freeSpace, list, command, turn, round, answer}
 use Rattle.machine.specs.Area.{kernelOf}
 use Rattle.machine.specs.Operations.{slots}
@@ -86,3 +88,25 @@ eventsBy (round clock) out s a = roundEvents (a .number) clock s (textOf a)
 unfoldable pub events : List Invocation → Storage → List Event
 events [] s = []
 events (i ∷ is) s = eventsBy (i .call) (i .out) s (answerOf i s) ++ events is (storageOf (answerOf i s))
+
+-- ---- the events of a round and `answer` say the same
+unfoldable pub lastStorage : Storage → List Event → Storage
+lastStorage s [] = s
+lastStorage s (e ∷ es) = lastStorage (e .after) es
+
+unfoldable pub total : List Event → ℕ
+total [] = 0
+total (e ∷ es) = counts (e .number) + total es
+
+-- each turn's part of the round's output is what that turn alone would print
+unfoldable pub PrintsItsPart : List Event → Type 0
+PrintsItsPart [] = Unit {0}
+PrintsItsPart (e ∷ es) = (e .text ≡ textOf (answer (e .call) (lending (e .before) (replicate 32 0)))) × PrintsItsPart es
+
+-- a done round leaves what its last turn leaves, returns the sum of what they return, and writes their bytes one behind the other and nothing else
+abbrev pub IsItsEvents : Storage → List ℕ → Answer → List Event → Type 0
+IsItsEvents s out a es =
+    (storageOf a ≡ lastStorage s es)
+    × (a .number ≡ pos (total es))
+    × (a .out ≡ overwrite out 0 (flat (λ e. e .text) es))
+    × PrintsItsPart es
