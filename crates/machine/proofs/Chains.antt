@@ -1,28 +1,23 @@
 -- The events of a run: from the first good buffers on, each finds good buffers as the one before left them. A done round is its turns.
 use Prim.Native.Nat.{ℕ}
 use mathlib.Core.Path.{_≡_, refl, sym, ap, subst, subst⁻¹, _∙_}
-use mathlib.Core.Bool.{Bool, true, false, _&&_, cond}
+use mathlib.Core.Bool.{Bool, true, false, cond}
 use mathlib.Core.List.{List, [], _∷_, _++_}
-use mathlib.Core.Logic.{_⊎_, inl, inr}
 use lib.Dec.{leb, ltb}
-use lib.IntN.{ℤ, pos, negsuc}
 use lib.ListN.{drop, length, replicate, take}
 use lib.Seq.{drop-at, take-at}
 use Rattle.buffer.specs.Lists.{all, consIf}
 use Rattle.buffer.proofs.Bools.{and-left, and-right}
-use Rattle.store.specs.Directory.{goodDisc, isDiscLength}
-use Rattle.store.specs.File.{unless}
-use Rattle.machine.specs.Answer.{Answer, Buffers, Call, store, retrieve, erase, run, files, freeSpace, list, command, turn, round, answer, goodArea, onGood, refused, turnedAnswer}
-use Rattle.machine.specs.Area.{isAreaLength, kernelBytes, kernelOf}
+use Rattle.machine.specs.Answer.{Answer, Buffers, Call, store, retrieve, erase, run, files, freeSpace, list, command, turn, round, answer, refused, turnedAnswer}
+use Rattle.machine.specs.Area.{kernelOf}
 use Rattle.machine.specs.Operations.{slots, turnIfRunning, turnsOf}
+use Rattle.machine.specs.Refusals.{Passes}
 use Rattle.machine.specs.State.{isRunning, processAt}
 use Rattle.machine.specs.Trace.{Event, Invocation, Storage, answerOf, counts, event, events, eventsBy, lending, onlyIf, roundEvents, storageOf, textOf, turnEvents}
 use Rattle.machine.specs.Turn.{Turned, turned}
 use Rattle.machine.specs.declared.Kernel.{Kernel}
-use Rattle.machine.specs.declared.Process.{Process}
-use Rattle.machine.proofs.Change.{GoodState}
 use Rattle.machine.proofs.GoodCalls.{good-back, good-kept, passes-good, turn-good, turns-good}
-use Rattle.machine.proofs.Rounds.{Passes, round-done, turn-not-running, turn-running}
+use Rattle.machine.proofs.Rounds.{round-done, turn-not-running, turn-running}
 use Rattle.machine.proofs.Stepping.{Reports}
 
 -- ---- an event as the call that it is

@@ -1,41 +1,40 @@
 -- Every call keeps good buffers good; a round lent 320 bytes on good buffers is never refused, and is exactly its turns.
 use Prim.Native.Nat.{ℕ}
-use mathlib.Core.Path.{_≡_, refl, sym, ap, subst, subst⁻¹, _∙_}
+use mathlib.Core.Path.{_≡_, refl, subst⁻¹}
 use mathlib.Core.Bool.{Bool, true, false, _&&_, not, cond}
 use mathlib.Core.List.{List, [], _∷_}
-use lib.Dec.{eqb, leb, ltb}
-use lib.IntN.{ℤ, pos}
+use lib.Dec.{leb, ltb}
+use lib.IntN.{pos}
 use lib.ListN.{length}
 use borrow.Author.Tests.{eq-eqb, eqb-true, not-true}
 use Rattle.buffer.specs.declared.Found.{Found}
 use Rattle.buffer.specs.declared.Found.the-variants.{At, Nowhere}
-use Rattle.buffer.proofs.Bools.{and-both, and-left, and-right, true-not-false}
-use Rattle.store.specs.Answer.{Updated, storeAnswer}
-use Rattle.store.specs.Directory.{entryAt, fileCount, files as entries, goodDisc, isDiscLength, lookup}
+use Rattle.buffer.proofs.Bools.{and-both, and-left, and-right}
+use Rattle.store.specs.Directory.{entryAt, isDiscLength, lookup}
 use Rattle.store.specs.File.{erased, unless}
 use Rattle.store.proofs.Calls.{store-cases, stored}
 use Rattle.store.proofs.Lookups.{lookup-at}
-use Rattle.machine.specs.Answer.{Answer, Buffers, Call, store, retrieve, erase, run, files, freeSpace, list, command, turn, round, answer, commandAnswer, eraseAt, goodArea, listAnswer, onDisc, onGood, refused, roundAnswer, runAt, turnAnswer, turnedAnswer, withRoom}
-use Rattle.machine.specs.Area.{isAreaLength, kernelBytes, kernelOf}
-use Rattle.machine.specs.Operations.{Command, suspend, resume, kill, Commanded, becomes, refused as declined, commanded, inUse, listText, slots, turnIfRunning, turnsOf}
+use Rattle.machine.specs.Answer.{Answer, Buffers, Call, store, retrieve, erase, run, files, freeSpace, list, command, turn, round, answer, commandAnswer, eraseAt, goodArea, onDisc, onGood, refused, runAt}
+use Rattle.machine.specs.Area.{AreBytes, isAreaLength, kernelBytes, kernelOf}
+use Rattle.machine.specs.Operations.{Command, Commanded, becomes, refused as declined, commanded, inUse, listText, slots, turnIfRunning, turnsOf}
+use Rattle.machine.specs.Refusals.{Passes}
+use Rattle.machine.specs.RoundTurns.{joined, turnCalls}
 use Rattle.machine.specs.Start.{Starting, starts, refuses, started, starting}
-use Rattle.machine.specs.State.{isLive, isRunning, localOf, processAt, slotOf}
+use Rattle.machine.specs.Stack.{topString}
+use Rattle.machine.specs.State.{isRunning, localOf, processAt}
 use Rattle.machine.specs.Turn.{Turned, turned}
 use Rattle.machine.specs.declared.Kernel.{Kernel}
 use Rattle.machine.proofs.Area.{kernel-bytes-length, kernel-decode-encode, kernel-encode-decode}
-use Rattle.machine.proofs.Change.{GoodState, Outside, nothing, stores, erases, begins, Own, stays, Change, acts}
+use Rattle.machine.proofs.Change.{GoodState, Outside, stores, erases, begins, Change}
 use Rattle.machine.proofs.ChangeKept.{change-good}
-use Rattle.machine.proofs.Disjunctions.{or-first}
 use Rattle.machine.proofs.Executing.{exec-sound}
 use Rattle.machine.proofs.Commanding.{command-own}
 use Rattle.machine.proofs.LiveRecords.{running-live, within-local}
 use Rattle.machine.proofs.OutsideKept.{outside-good}
 use Rattle.machine.proofs.OwnKept.{own-good}
 use Rattle.machine.proofs.Turning.{turn-change}
-use Rattle.machine.proofs.Records.{AreBytes}
-use Rattle.machine.proofs.Rounds.{Invariant, Passes, joined, round-done, round-is-turns, round-passed, turnCalls}
+use Rattle.machine.proofs.Rounds.{Invariant, round-is-turns, round-passed}
 use Rattle.machine.proofs.Sizes.{decoded-sized}
-use Rattle.machine.specs.Stack.{topString}
 
 -- ---- good buffers and good states
 area-length : {disc area : List ℕ} → Passes disc area → isAreaLength (length area) ≡ true

@@ -1,15 +1,14 @@
 -- A done round is exactly its turns: each is the answer of the call `turn` on the buffers as they are then, with 32 bytes lent; the round's number
 -- is the sum of theirs, its output their outputs joined, its buffers those after the last.
-use Prim.Native.Nat.{ℕ, _+_}
+use Prim.Native.Nat.{ℕ}
 use mathlib.Core.Path.{_≡_, refl, sym, ap, _∙_}
 use mathlib.Core.Bool.{Bool, true, false, _&&_, cond}
 use mathlib.Core.List.{List, [], _∷_, _++_}
 use native.Mathlib.Omega.{arith}
 use lib.Dec.{leb, ltb}
-use lib.IntN.{ℤ, pos, negsuc}
-use lib.ListN.{length, replicate, take, length-append}
+use lib.IntN.{pos, negsuc}
+use lib.ListN.{length, take, length-append}
 use lib.Seq.{take-at}
-use Rattle.buffer.specs.Buffer.{overwrite}
 use Rattle.buffer.specs.Lists.{all}
 use Rattle.buffer.proofs.Bools.{and-left, and-right}
 use Rattle.store.specs.Directory.{goodDisc, isDiscLength}
@@ -17,15 +16,12 @@ use Rattle.store.specs.File.{unless}
 use Rattle.machine.specs.Answer.{Answer, Buffers, answer, goodArea, refused, round, turn, turnedAnswer}
 use Rattle.machine.specs.Area.{isAreaLength, kernelBytes, kernelOf}
 use Rattle.machine.specs.Operations.{slots, turnIfRunning, turnsOf}
+use Rattle.machine.specs.Refusals.{Passes}
+use Rattle.machine.specs.RoundTurns.{Taken, joined, lent, turnCalls}
 use Rattle.machine.specs.State.{isRunning, processAt}
+use Rattle.machine.specs.Trace.{counts}
 use Rattle.machine.specs.Turn.{Turned, turned}
 use Rattle.machine.specs.declared.Kernel.{Kernel}
-
--- ---- the tests 1 to 3 that every operation on both buffers makes
-pub record Passes (disc area : List ℕ) : Type 0 where
-  pub sizes : isDiscLength (length disc) && isAreaLength (length area) ≡ true
-  pub disc-good : goodDisc disc ≡ true
-  pub area-good : goodArea disc area ≡ true
 
 -- a turn of a running slot is done, one of any other is refused by 16
 module _ (b : Buffers) (slot clock : ℕ) (passes : Passes (b .disc) (b .area)) (room : leb 32 (length (b .out)) ≡ true) where
@@ -42,7 +38,7 @@ pub round-done : (b : Buffers) (clock : ℕ) → Passes (b .disc) (b .area) → 
 unfolding answer
 round-done b clock passes room = rw (passes .sizes, passes .disc-good, passes .area-good, room)
 
-below-not-done : {A : Type 0} {m n : ℕ} → negsuc m ≡ pos n → A
+pub below-not-done : {A : Type 0} {m n : ℕ} → negsuc m ≡ pos n → A
 below-not-done h = absurd (let z : _≡_ {A = ℕ} 0 1 = cc in omega arith)
 
 -- and one that is done has passed the tests
@@ -59,31 +55,6 @@ round-passed b clock n = go (isDiscLength (length (b .disc)) && isAreaLength (le
     go true p false q v r w s h = below-not-done h
     go false p u q v r w s h = below-not-done h
 
--- ---- the turns of a list of slots, as calls
--- how many bytes a turn says it printed; a refused one printed none
-abbrev pub printed : ℤ → ℕ
-printed (pos n) = n
-printed (negsuc n) = 0
-
-pub record Taken : Type 0 where
-  pub number : ℕ
-  pub disc : List ℕ
-  pub area : List ℕ
-  pub out : List ℕ
-
-abbrev pub lent : List ℕ → List ℕ → Buffers
-lent disc area = record { disc = disc; area = area; out = replicate 32 0 }
-
-unfoldable pub turnCalls : List ℕ → ℕ → List ℕ → List ℕ → Taken
-turnCalls [] clock disc area = record { number = 0; disc = disc; area = area; out = [] }
-turnCalls (slot ∷ slots) clock disc area =
-    let a = answer (turn slot clock) (lent disc area) in
-    let rest = turnCalls slots clock (a .disc) (a .area) in
-    record { number = printed (a .number) + rest .number; disc = rest .disc; area = rest .area; out = take (printed (a .number)) (a .out) ++ rest .out }
-
-abbrev pub joined : Taken → Buffers → Answer
-joined r b = record { number = pos (r .number); disc = r .disc; area = r .area; out = overwrite (b .out) 0 (r .out) }
-
 -- ---- what the law asks of good buffers, seen as a state and a disc: where the tests pass they are good, the state is read back from its bytes, the
 -- tests pass on these, and a turn leaves them good
 pub record Invariant (Good : Kernel → List ℕ → Type 0) : Type 0 where
@@ -94,7 +65,7 @@ pub record Invariant (Good : Kernel → List ℕ → Type 0) : Type 0 where
 
 -- one turn of a round, as a call and as a step of the state
 record SameTurn (a : Answer) (t : Turned) : Type 0 where
-  number : printed (a .number) ≡ length (t .out)
+  number : counts (a .number) ≡ length (t .out)
   disc : a .disc ≡ t .disc
   area : a .area ≡ kernelBytes (t .kernel)
   text : take (length (t .out)) (a .out) ≡ t .out
