@@ -1,5 +1,5 @@
 -- The example's runs meet what demand 3 supposes: by computing them. What is observed is then alike, by the theorem.
-use Prim.Native.Nat.{ℕ, suc, _<_}
+use Prim.Native.Nat.{ℕ, suc}
 use mathlib.Core.Path.{_≡_, refl, sym, ap, _∙_}
 use mathlib.Core.Bool.{true}
 use mathlib.Core.List.{List, [], _∷_, _++_, append-nil}
@@ -31,7 +31,7 @@ use Rattle.store.specs.Name.{goodField, goodName, trimmed}
 use Rattle.variable.specs.Assign.{added, assigned, placeFor, placing}
 use Rattle.variable.specs.Good.{beside as besideVariable, goodSize, goodVariable, goodVariables}
 use Rattle.variable.specs.Table.{freed, owned}
-use Rattle.machine.specs.Answer.{answer, booted, files, goodArea}
+use Rattle.machine.specs.Answer.{answer, files, goodArea}
 use Rattle.machine.specs.Area.{kernelBytes, kernelOf, variablesOf}
 use Rattle.machine.specs.Beyond.{answered}
 use Rattle.machine.specs.Effect.{operates, settle}
@@ -47,7 +47,7 @@ use Rattle.machine.specs.Single.{single}
 use Rattle.machine.specs.Stack.{pop, popNumber, popString, wellFormed}
 use Rattle.machine.specs.Start.{starting}
 use Rattle.machine.specs.State.{ended, endedSlot, slotOf}
-use Rattle.machine.specs.Trace.{Event, Invocation, Storage, event, events, turnEvents}
+use Rattle.machine.specs.Trace.{Event, Invocation, event, events, turnEvents}
 use Rattle.machine.specs.Turn.{carriedOut, turned}
 use Rattle.machine.proofs.Isolated.{isolated}
 

@@ -4,19 +4,15 @@ use mathlib.Core.Path.{_≡_, refl, sym, subst, subst⁻¹, _∙_}
 use mathlib.Core.Bool.{Bool, true, false, cond}
 use mathlib.Core.List.{List}
 use native.Mathlib.Omega.{arith}
-use lib.Dec.{eqb}
 use lib.ListN.{length, length-append}
 use lib.Seq.{getD-set-other}
 use Rattle.buffer.specs.Lists.{any}
-use Rattle.buffer.specs.declared.Found.{Found}
-use Rattle.buffer.specs.declared.Found.the-variants.{At, Nowhere}
 use Rattle.buffer.proofs.Bools.{true-not-false}
-use Rattle.store.specs.Directory.{lookup}
 use Rattle.store.specs.declared.Entry.{Entry}
 use Rattle.machine.specs.Beyond.{Answered, carriesOn, answered, forked, isAwaited, pushId}
 use Rattle.machine.specs.Effect.{Request, opens, closes, writes, reads, readsString, forks, awaits}
-use Rattle.machine.specs.Start.{Starting, starts, refuses, startIn, started, startedProcess, starting}
-use Rattle.machine.specs.State.{Local, endedSlot, isLive, isRunning, localOf, noProcess, processAt, withLocal, withProcess}
+use Rattle.machine.specs.Start.{Starting, starts, refuses, started, startedProcess, starting}
+use Rattle.machine.specs.State.{Local, isLive, isRunning, localOf, noProcess, processAt, withLocal, withProcess}
 use Rattle.machine.specs.Turn.{programOf}
 use Rattle.machine.specs.declared.Kernel.{Kernel}
 use Rattle.machine.specs.declared.Process.{Process}

@@ -10,12 +10,12 @@ use Rattle.buffer.specs.Lists.{flat, tab}
 use Rattle.buffer.proofs.Buffer.{word-split}
 use Rattle.buffer.proofs.Parts.{part-length, part-of-append-left, part-split}
 use Rattle.variable.specs.Table.{noVariable}
-use Rattle.machine.specs.Area.{kernelBytes, kernelOf, processBytes, processOf, variableBytes, variableOf, variablesOf}
+use Rattle.machine.specs.Area.{AreBytes, kernelBytes, kernelOf, processBytes, processOf, variableBytes, variableOf, variablesOf}
 use Rattle.machine.specs.State.{noProcess}
 use Rattle.machine.specs.declared.Kernel.{Kernel}
 use Rattle.machine.specs.declared.Process.{Process}
 use Rattle.machine.proofs.FixedWidth.{Encoded, flat-length, table-encode-decode, table-decode-encode}
-use Rattle.machine.proofs.Records.{AreBytes, part-bytes, process-encode-decode, process-decode-encode, process-bytes-length, spelled, variable-encode-decode, variable-decode-encode, word-encode-decode}
+use Rattle.machine.proofs.Records.{part-bytes, process-encode-decode, process-decode-encode, process-bytes-length, spelled, variable-encode-decode, variable-decode-encode, word-encode-decode}
 use Rattle.machine.proofs.Sizes.{Sized}
 
 -- ---- an area, read and written again

@@ -1,28 +1,23 @@
 -- The events of a run: from the first good buffers on, each finds good buffers as the one before left them. A done round is its turns.
 use Prim.Native.Nat.{ℕ, _+_}
 use mathlib.Core.Path.{_≡_, refl, sym, ap, subst, subst⁻¹, _∙_}
-use mathlib.Core.Bool.{Bool, true, false, _&&_, cond}
+use mathlib.Core.Bool.{Bool, true, false, cond}
 use mathlib.Core.List.{List, [], _∷_, _++_}
-use mathlib.Core.Logic.{_⊎_, inl, inr}
 use lib.Dec.{leb, ltb}
-use lib.IntN.{ℤ, pos, negsuc}
 use lib.ListN.{drop, length, replicate, take, length-append}
 use lib.Seq.{drop-at, take-at}
 use Rattle.buffer.specs.Lists.{all, consIf, flat}
 use Rattle.buffer.proofs.Bools.{and-left, and-right}
-use Rattle.store.specs.Directory.{goodDisc, isDiscLength}
-use Rattle.store.specs.File.{unless}
-use Rattle.machine.specs.Answer.{Answer, Buffers, Call, store, retrieve, erase, run, files, freeSpace, list, command, turn, round, answer, goodArea, onGood, refused, turnedAnswer}
-use Rattle.machine.specs.Area.{isAreaLength, kernelBytes, kernelOf}
+use Rattle.machine.specs.Answer.{Answer, Buffers, Call, store, retrieve, erase, run, files, freeSpace, list, command, turn, round, answer, refused, turnedAnswer}
+use Rattle.machine.specs.Area.{kernelBytes, kernelOf}
 use Rattle.machine.specs.Operations.{slots, turnIfRunning, turnsOf}
+use Rattle.machine.specs.Refusals.{Passes}
 use Rattle.machine.specs.State.{isRunning, processAt}
-use Rattle.machine.specs.Trace.{Event, Invocation, PrintsItsPart, Storage, answerOf, counts, event, events, eventsBy, lastStorage, lending, onlyIf, roundEvents, storageOf, textOf, total, turnEvents}
+use Rattle.machine.specs.Trace.{Event, Invocation, PrintsItsPart, Storage, answerOf, counts, event, events, eventsBy, lastStorage, lending, onlyIf, roundEvents, storageOf, tenSlots, textOf, total, turnEvents}
 use Rattle.machine.specs.Turn.{Turned, turned}
 use Rattle.machine.specs.declared.Kernel.{Kernel}
-use Rattle.machine.specs.declared.Process.{Process}
-use Rattle.machine.proofs.Change.{GoodState}
 use Rattle.machine.proofs.GoodCalls.{good-back, good-kept, passes-good, turn-good, turns-good}
-use Rattle.machine.proofs.Rounds.{Passes, round-done, turn-not-running, turn-running}
+use Rattle.machine.proofs.Rounds.{round-done, turn-not-running, turn-running}
 use Rattle.machine.proofs.Stepping.{Reports}
 
 -- ---- an event as the call that it is
@@ -230,8 +225,8 @@ module _ (s : Storage) (out : List ℕ) (passes : Passes (s .disc) (s .area)) wh
       go : (f : Bool) → leb 320 (length out) ≡ f → Right (answer (round clock) b)
       go true h =
           subst⁻¹ Right (round-done b clock passes h)
-          (subst⁻¹ (λ (j : Kernel). Leads k (s .disc) (turnEvents slots clock s (textOf (turnedAnswer u b))) j (u .disc)) (good-back (u .kernel) (u .disc) (turns-good slots k clock (s .disc) (passes-good (s .disc) (s .area) passes)))
-          (turn-parts slots clock s (textOf (turnedAnswer u b)) refl passes (take-at (u .out) _ (length (u .out)) refl) .leads))
+          (subst⁻¹ (λ (j : Kernel). Leads k (s .disc) (turnEvents tenSlots clock s (textOf (turnedAnswer u b))) j (u .disc)) (good-back (u .kernel) (u .disc) (turns-good slots k clock (s .disc) (passes-good (s .disc) (s .area) passes)))
+          (turn-parts tenSlots clock s (textOf (turnedAnswer u b)) refl passes (take-at (u .out) _ (length (u .out)) refl) .leads))
       go false h = subst⁻¹ Right (short-round s out passes clock h) (refl, refl)
 
   call-leads : (c : Call) → Leads (kernelOf (s .area)) (s .disc) (eventsBy c out s (answer c (lending s out))) (kernelOf (answer c (lending s out) .area)) (answer c (lending s out) .disc)

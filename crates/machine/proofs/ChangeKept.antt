@@ -1,20 +1,18 @@
 -- What every change keeps: a good state stays good, another process is left as it is, an ended ID stays ended, a start is fresh.
-use Prim.Native.Nat.{ℕ, _+_, _<_}
-use mathlib.Core.Path.{_≡_, refl, sym, ap, subst, subst⁻¹, _∙_}
-use mathlib.Core.Bool.{Bool, true, false}
-use mathlib.Core.List.{List, []}
+use Prim.Native.Nat.{ℕ}
+use mathlib.Core.Path.{_≡_, sym, ap, subst, _∙_}
+use mathlib.Core.Bool.{true}
+use mathlib.Core.List.{List}
 use mathlib.Core.Logic.{_⊎_, inl, inr}
 use native.Mathlib.Omega.{arith}
-use lib.ListN.{getD, length}
-use Rattle.buffer.specs.declared.Found.{Found}
+use lib.ListN.{getD}
 use Rattle.buffer.specs.declared.Found.the-variants.{At, Nowhere}
 use Rattle.variable.specs.Table.{owned}
-use Rattle.machine.specs.State.{isLive, isRunning, processAt, slotOf}
-use Rattle.machine.specs.Start.{startedProcess}
+use Rattle.machine.specs.State.{isLive, processAt, slotOf}
 use Rattle.machine.specs.Turn.{programOf}
 use Rattle.machine.specs.declared.Kernel.{Kernel}
 use Rattle.machine.specs.declared.Process.{Process}
-use Rattle.machine.proofs.Change.{GoodState, Outside, Own, moves, Writes, Change, acts, writes}
+use Rattle.machine.proofs.Change.{GoodState, Own, moves, Writes, Change, acts, writes}
 use Rattle.machine.proofs.Begun.{Begun}
 use Rattle.machine.proofs.EndedIds.{outside-begun, outside-gone}
 use Rattle.machine.proofs.Gone.{Gone}

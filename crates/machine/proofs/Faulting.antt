@@ -1,38 +1,24 @@
--- Document 01: "A faulting instruction changes nothing but the ending."
---
---     Ends      what ends a process in its turn, with the fault: STOP's 0, a fault of the instruction, no place for a SET, a fault met beyond
---     Touched   what its ending leaves as it was, and what not
+-- Document 01: "A faulting instruction changes nothing but the ending." What ends a process in its turn leaves the state `ended`, and what does not
+-- leaves it running.
 use Prim.Native.Nat.{ℕ, _<_}
 use mathlib.Core.Path.{_≡_, refl, sym, ap, subst⁻¹, _∙_}
 use mathlib.Core.Bool.{true}
-use mathlib.Core.List.{List, []}
+use mathlib.Core.List.{List}
 use mathlib.Core.Logic.{_⊎_, inl, inr}
 use lib.ListN.{length}
 use lib.Seq.{getD-set-other, getD-set-same}
-use Rattle.variable.specs.Assign.{assigned}
-use Rattle.variable.specs.Table.{owned, ownedBy}
+use Rattle.variable.specs.Table.{ownedBy}
 use Rattle.variable.specs.declared.Assigned.{Assigned}
 use Rattle.variable.specs.declared.Placing.{Placing}
 use Rattle.variable.specs.declared.Placing.the-variants.{Address, NoEntry, NoRun}
 use Rattle.variable.proofs.Freeing.{freed-memory, owned-freed-all, owned-freed-all-other}
 use Rattle.machine.specs.Beyond.{Answered, carriesOn, breaks, answered}
 use Rattle.machine.specs.Effect.{Effect, goes, assigns, stops, faults, asks, Request}
+use Rattle.machine.specs.Ending.{Ends, stopped, faulted, unplaced, broken, Touched, effectAt, placed}
 use Rattle.machine.specs.State.{Local, ended, endedProcess, isRunning, noProcess, processAt}
-use Rattle.machine.specs.Turn.{Turned, answering, carriedOut, finished, setting, turned, valueOf}
+use Rattle.machine.specs.Turn.{Turned, answering, carriedOut, finished, setting, turned}
 use Rattle.machine.specs.declared.Kernel.{Kernel}
 use Rattle.machine.proofs.Lasting.{LeftRunning, answer-left, moved-running}
-use Rattle.machine.proofs.Turning.{effectAt}
-
--- the place that a SET finds
-abbrev pub placed : Kernel → ℕ → (name kind : ℕ) → List ℕ → Assigned
-placed k slot name kind bytes = assigned (k .variables) name (processAt k slot .id) (valueOf kind bytes)
-
-pub data Ends (k : Kernel) (slot clock : ℕ) (disc : List ℕ) (n : ℕ) : Type 0 where
-  stopped : effectAt k slot clock disc ≡ stops → n ≡ 0 → Ends k slot clock disc n
-  faulted : effectAt k slot clock disc ≡ faults n → Ends k slot clock disc n
-  unplaced : (name kind : ℕ) (bytes : List ℕ) (l : Local) → effectAt k slot clock disc ≡ assigns name kind bytes l
-      → (placed k slot name kind bytes .placing ≡ NoEntry) ⊎ (placed k slot name kind bytes .placing ≡ NoRun) → n ≡ 10 → Ends k slot clock disc n
-  broken : (r : Request) → effectAt k slot clock disc ≡ asks r → answered k slot disc r ≡ breaks n → Ends k slot clock disc n
 
 pub turn-ends : {k : Kernel} {slot clock : ℕ} {disc : List ℕ} {n : ℕ} → Ends k slot clock disc n → turned k slot clock disc ≡ finished k slot disc n
 unfolding turned carriedOut
@@ -73,24 +59,10 @@ ends-or-goes k slot clock disc running low = go (effectAt k slot clock disc) ref
     go (asks r) e = asked r e (answered k slot disc r) refl (answer-left k slot running low disc r)
 
 -- ---- what ending touches: the own record and the entries of the own variables
--- Document 01: "Its record keeps name, ID and fault", "Freed memory keeps its bytes"
-pub record Touched (k : Kernel) (slot : ℕ) (disc : List ℕ) (n : ℕ) (t : Turned) : Type 0 where
-  pub disc-same : t .disc ≡ disc
-  pub silent : t .out ≡ []
-  pub memory : t .kernel .variables .memory ≡ k .variables .memory
-  pub others : (i : ℕ) → (i ≡ slot → ⊥) → processAt (t .kernel) i ≡ processAt k i
-  pub own : processAt (t .kernel) slot ≡ endedProcess (processAt k slot) n
-  pub other-variables : (id : ℕ) → (id ≡ processAt k slot .id → ⊥) → owned (t .kernel .variables) id ≡ owned (k .variables) id
-  pub own-variables : owned (t .kernel .variables) (processAt k slot .id) ≡ []
-  pub next : t .kernel .next ≡ k .next
-  pub zeros : t .kernel .zeros ≡ k .zeros
-
-pub finished-touches : (k : Kernel) (slot : ℕ) (disc : List ℕ) (n : ℕ) → slot < length (k .processes) → Touched k slot disc n (finished k slot disc n)
+pub ended-touches : (k : Kernel) (slot n : ℕ) → slot < length (k .processes) → Touched k slot n (ended k slot n)
 unfolding ended
-finished-touches k slot disc n h =
+ended-touches k slot n h =
     record {
-      disc-same = refl;
-      silent = refl;
       memory = freed-memory (k .variables) (ownedBy (processAt k slot .id));
       others = λ i d. getD-set-other (k .processes) slot i (endedProcess (processAt k slot) n) noProcess d;
       own = getD-set-same (k .processes) slot (endedProcess (processAt k slot) n) noProcess h;
@@ -100,5 +72,5 @@ finished-touches k slot disc n h =
       zeros = refl;
     }
 
-pub turn-touches : {k : Kernel} {slot clock : ℕ} {disc : List ℕ} {n : ℕ} → Ends k slot clock disc n → slot < length (k .processes) → Touched k slot disc n (turned k slot clock disc)
-turn-touches {k} {slot} {clock} {disc} {n} e h = subst⁻¹ (λ (t : Turned). Touched k slot disc n t) (turn-ends e) (finished-touches k slot disc n h)
+pub turn-touches : {k : Kernel} {slot clock : ℕ} {disc : List ℕ} {n : ℕ} → Ends k slot clock disc n → slot < length (k .processes) → Touched k slot n (turned k slot clock disc .kernel)
+turn-touches {k} {slot} {clock} {disc} {n} e h = subst⁻¹ (λ (t : Turned). Touched k slot n (t .kernel)) (turn-ends e) (ended-touches k slot n h)

@@ -1,21 +1,19 @@
 -- A live process shows what the single process shows, and its own turn is the single process's. Nothing is supposed of its neighbours, nor of its
 -- program: what a turn does is said for each effect that its instruction may have.
 use Prim.Native.Nat.{ℕ, _-_, _<_}
-use mathlib.Core.Path.{_≡_, refl, sym, ap, subst, subst⁻¹, _∙_}
-use mathlib.Core.Bool.{Bool, true, false, not}
-use mathlib.Core.List.{List, [], _∷_, _++_}
-use lib.Dec.{eqb}
+use mathlib.Core.Path.{_≡_, refl, ap, subst, subst⁻¹, _∙_}
+use mathlib.Core.Bool.{true}
+use mathlib.Core.List.{List, [], _++_}
 use lib.IntN.{pos}
 use lib.ListN.{length, replicate, take}
 use lib.Seq.{take-at}
-use Rattle.buffer.specs.Lists.{keep}
 use Rattle.variable.specs.Assign.{assigned, newCell, valueBytes, withCell}
 use Rattle.variable.specs.Table.{Cell, owned}
 use Rattle.variable.specs.declared.Placing.{Placing}
-use Rattle.variable.specs.declared.Placing.the-variants.{Address, NoEntry, NoRun}
-use Rattle.machine.specs.Effect.{Effect, goes, assigns}
+use Rattle.variable.specs.declared.Placing.the-variants.{Address}
+use Rattle.machine.specs.Effect.{goes, assigns}
 use Rattle.machine.specs.Exec.{exec}
-use Rattle.machine.specs.Observation.{Observation, seen, next, observedOf, seenIn, seenOf}
+use Rattle.machine.specs.Observation.{seen, next, observedOf, seenIn, seenOf}
 use Rattle.machine.specs.Single.{Response, did, Single, advancedTo, assignedCells, inState, over, singleEffect}
 use Rattle.machine.specs.State.{Local, ended, endedProcess, isLive, localOf, processAt, withLocal, withProcess, withState}
 use Rattle.machine.specs.Turn.{Turned, carriedOut, finished, programOf, setting, turned, valueOf}

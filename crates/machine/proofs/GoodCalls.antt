@@ -1,41 +1,37 @@
--- Every call keeps good buffers good; a round lent 320 bytes on good buffers is never refused, and is exactly its turns.
+-- Every call keeps good buffers good.
 use Prim.Native.Nat.{ℕ}
-use mathlib.Core.Path.{_≡_, refl, sym, ap, subst, subst⁻¹, _∙_}
+use mathlib.Core.Path.{_≡_, refl, subst⁻¹}
 use mathlib.Core.Bool.{Bool, true, false, _&&_, not, cond}
 use mathlib.Core.List.{List, [], _∷_}
-use lib.Dec.{eqb, leb, ltb}
-use lib.IntN.{ℤ, pos}
+use lib.Dec.{leb, ltb}
 use lib.ListN.{length}
 use borrow.Author.Tests.{eq-eqb, eqb-true, not-true}
 use Rattle.buffer.specs.declared.Found.{Found}
 use Rattle.buffer.specs.declared.Found.the-variants.{At, Nowhere}
-use Rattle.buffer.proofs.Bools.{and-both, and-left, and-right, true-not-false}
-use Rattle.store.specs.Answer.{Updated, storeAnswer}
-use Rattle.store.specs.Directory.{entryAt, fileCount, files as entries, goodDisc, isDiscLength, lookup}
+use Rattle.buffer.proofs.Bools.{and-both, and-left, and-right}
+use Rattle.store.specs.Directory.{entryAt, isDiscLength, lookup}
 use Rattle.store.specs.File.{erased, unless}
 use Rattle.store.proofs.Calls.{store-cases, stored}
 use Rattle.store.proofs.Lookups.{lookup-at}
-use Rattle.machine.specs.Answer.{Answer, Buffers, Call, store, retrieve, erase, run, files, freeSpace, list, command, turn, round, answer, commandAnswer, eraseAt, goodArea, listAnswer, onDisc, onGood, refused, roundAnswer, runAt, turnAnswer, turnedAnswer, withRoom}
+use Rattle.machine.specs.Answer.{Answer, Buffers, Call, store, retrieve, erase, run, files, freeSpace, list, command, turn, round, answer, commandAnswer, eraseAt, goodArea, onDisc, onGood, refused, runAt}
 use Rattle.machine.specs.Area.{isAreaLength, kernelBytes, kernelOf}
-use Rattle.machine.specs.Operations.{Command, suspend, resume, kill, Commanded, becomes, refused as declined, commanded, inUse, listText, slots, turnIfRunning, turnsOf}
+use Rattle.machine.specs.Operations.{Command, Commanded, becomes, refused as declined, commanded, inUse, listText, slots, turnIfRunning, turnsOf}
+use Rattle.machine.specs.Refusals.{Passes}
 use Rattle.machine.specs.Start.{Starting, starts, refuses, started, starting}
-use Rattle.machine.specs.State.{isLive, isRunning, localOf, processAt, slotOf}
+use Rattle.machine.specs.Stack.{topString}
+use Rattle.machine.specs.State.{isRunning, localOf, processAt}
 use Rattle.machine.specs.Turn.{Turned, turned}
 use Rattle.machine.specs.declared.Kernel.{Kernel}
-use Rattle.machine.proofs.Area.{kernel-bytes-length, kernel-decode-encode, kernel-encode-decode}
-use Rattle.machine.proofs.Change.{GoodState, Outside, nothing, stores, erases, begins, Own, stays, Change, acts}
+use Rattle.machine.proofs.Area.{kernel-bytes-length, kernel-decode-encode}
+use Rattle.machine.proofs.Change.{GoodState, Outside, stores, erases, begins, Change}
 use Rattle.machine.proofs.ChangeKept.{change-good}
-use Rattle.machine.proofs.Disjunctions.{or-first}
 use Rattle.machine.proofs.Executing.{exec-sound}
 use Rattle.machine.proofs.Commanding.{command-own}
 use Rattle.machine.proofs.LiveRecords.{running-live, within-local}
 use Rattle.machine.proofs.OutsideKept.{outside-good}
 use Rattle.machine.proofs.OwnKept.{own-good}
 use Rattle.machine.proofs.Turning.{turn-change}
-use Rattle.machine.proofs.Records.{AreBytes}
-use Rattle.machine.proofs.Rounds.{Invariant, Passes, joined, round-done, round-is-turns, round-passed, turnCalls}
 use Rattle.machine.proofs.Sizes.{decoded-sized}
-use Rattle.machine.specs.Stack.{topString}
 
 -- ---- good buffers and good states
 pub area-length : {disc area : List ℕ} → Passes disc area → isAreaLength (length area) ≡ true
@@ -70,9 +66,6 @@ pub turn-good : (k : Kernel) (slot clock : ℕ) (disc : List ℕ) → GoodState 
 turn-good k slot clock disc g h = change-good _ slot k disc _ _ g (turn-is-change k slot clock disc g h)
 
 -- ---- a round
-invariant : Invariant GoodState
-invariant = record { holds = passes-good; back = good-back; passes = good-passes; kept = turn-good }
-
 turn-if-running-good : (k : Kernel) (slot clock : ℕ) (disc : List ℕ) → GoodState k disc → GoodState (turnIfRunning k slot clock disc .kernel) (turnIfRunning k slot clock disc .disc)
 unfolding turnIfRunning
 turn-if-running-good k slot clock disc g = go (isRunning (processAt k slot)) refl
@@ -88,13 +81,6 @@ turns-good [] k clock disc g = g
 turns-good (slot ∷ l) k clock disc g =
     let t : Turned = turnIfRunning k slot clock disc in
     turns-good l (t .kernel) clock (t .disc) (turn-if-running-good k slot clock disc g)
-
--- Document 01: "a turn for slots 0 to 9, each if running when reached, under one clock reading, outputs joined". Of any bytes: a done round leaves the
--- buffers after its last turn, its number is the sum of theirs, its output theirs joined and the rest untouched.
-pub round-turns : (b : Buffers) (clock n : ℕ) → AreBytes (b .area) → answer (round clock) b .number ≡ pos n
-    → answer (round clock) b ≡ joined (turnCalls (0 ∷ 1 ∷ 2 ∷ 3 ∷ 4 ∷ 5 ∷ 6 ∷ 7 ∷ 8 ∷ 9 ∷ []) clock (b .disc) (b .area)) b
-round-turns b clock n bytes done =
-    round-is-turns invariant clock b n (kernel-encode-decode (b .area) bytes (eqb-true _ _ (area-length (round-passed b clock n done .0)))) done
 
 -- ---- every call
 module _ (b : Buffers) (passes : Passes (b .disc) (b .area)) where

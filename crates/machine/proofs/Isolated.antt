@@ -1,12 +1,11 @@
 -- Isolation: along every run, what is observed of a process is what the single process shows.
 use Prim.Native.Nat.{ℕ, suc}
 use mathlib.Core.Path.{_≡_, refl, sym, ap, subst, subst⁻¹, _∙_}
-use mathlib.Core.Bool.{Bool, true, false, _&&_, not, cond}
+use mathlib.Core.Bool.{Bool, true, false, _&&_, not}
 use mathlib.Core.List.{List, [], _∷_, _++_}
 use mathlib.Core.Logic.{_⊎_, inl, inr}
 use mathlib.Core.Option.{Option, none, some}
-use native.Mathlib.Omega.{arith}
-use lib.Dec.{eqb, leb}
+use lib.Dec.{leb}
 use lib.ListN.{length}
 use borrow.Author.Tests.{not-true}
 use Rattle.buffer.specs.Lists.{all, consIf, keep}
@@ -14,28 +13,26 @@ use Rattle.buffer.specs.declared.Found.{Found}
 use Rattle.buffer.specs.declared.Found.the-variants.{At, Nowhere}
 use Rattle.buffer.proofs.Bools.{and-left, and-right, true-not-false}
 use Rattle.variable.specs.Table.{owned}
-use Rattle.store.specs.Directory.{contents, entryAt, goodDisc, isDiscLength, lookup, runOf}
+use Rattle.store.specs.Directory.{goodDisc, isDiscLength, lookup}
 use Rattle.store.specs.File.{unless}
 use Rattle.machine.specs.Answer.{Answer, Buffers, Call, store, retrieve, erase, run, files, freeSpace, list, command, turn, round, answer, goodArea, onGood, refused}
 use Rattle.machine.specs.Area.{isAreaLength, kernelOf}
 use Rattle.machine.specs.Isolation.{AsSingle, Isolation, Started, contentsAt, givesOut, isLiveIn, startName}
 use Rattle.machine.specs.Suppositions.{Undisturbed, disturbedBy}
 use Rattle.machine.specs.Observation.{Observation, declined, seen, Watched, done, inputOf, inputs, isDone, next, observations, observedBy, observedOf, placeIn, singleRun, watch, watchedIf}
-use Rattle.machine.specs.Operations.{Command, suspend, resume, kill}
-use Rattle.machine.specs.Single.{Input, tick, given, Response, did, refusedBy, Single, fresh, single}
-use Rattle.machine.specs.Start.{startedProcess}
-use Rattle.machine.specs.State.{isLive, processAt, slotOf}
+use Rattle.machine.specs.Refusals.{Passes}
+use Rattle.machine.specs.Single.{Input, given, Response, did, refusedBy, Single, fresh, single}
+use Rattle.machine.specs.State.{isLive, slotOf}
 use Rattle.machine.specs.Trace.{Event, Invocation, Storage, answerOf, event, events, eventsBy, lending, onlyIf, roundEvents, storageOf, textOf}
 use Rattle.machine.specs.Turn.{programOf}
 use Rattle.machine.specs.declared.Kernel.{Kernel}
 use Rattle.machine.specs.declared.Process.{Process}
 use Rattle.machine.proofs.Begun.{Begun}
-use Rattle.machine.proofs.CallEffects.{Effects, isRound, call-effects, effects-begun}
+use Rattle.machine.proofs.CallEffects.{isRound, call-effects, effects-begun}
 use Rattle.machine.proofs.Chains.{Chain, Genuine, chain-of}
 use Rattle.machine.proofs.ChangeKept.{no-place}
 use Rattle.machine.proofs.Following.{Follows, Holds, Tracks, on}
 use Rattle.machine.proofs.GoodCalls.{passes-good}
-use Rattle.machine.proofs.Rounds.{Passes}
 use Rattle.machine.proofs.Stepping.{Keeps, Reports, step}
 
 -- ---- one run: what is observed along a chain is what the single process shows

@@ -20,11 +20,9 @@ use Rattle.float.specs.declared.whole.Whole.the-variants.{OutOfRange}
 use Rattle.number.specs.Compare.{sizeWithin}
 use Rattle.number.specs.declared.Number.{Number}
 use Rattle.number.specs.declared.Number.the-variants.{Char, Int, Float}
-use Rattle.place.specs.Place.{fits, runFrom}
-use Rattle.place.specs.declared.Run.{Run}
-use Rattle.store.specs.Directory.{entryAt, fileCount, goodDisc, isDiscLength, lookup, taken}
+use Rattle.place.specs.Place.{runFrom}
+use Rattle.store.specs.Directory.{entryAt, goodDisc, isDiscLength, lookup}
 use Rattle.store.specs.File.{admission, entered, goodSize}
-use Rattle.store.specs.Name.{goodName}
 use Rattle.store.specs.declared.Admission.{Admission}
 use Rattle.store.specs.declared.Admission.the-variants.{Start, Denied}
 use Rattle.store.specs.declared.Refusal.{Refusal}
@@ -32,13 +30,10 @@ use Rattle.store.specs.declared.Refusal.the-variants.{WrongLength, BadDisc, Sho
 use Rattle.store.proofs.Admissions.{Denial, denied, denied-full}
 use Rattle.machine.specs.Beyond.{Answered, breaks, answered, continues, created, createdAt, opened, openedAt}
 use Rattle.machine.specs.Effect.{opens}
+use Rattle.machine.specs.NoPlace.{NewFileRefused, by-name, by-size, by-full, by-no-run}
 use Rattle.machine.specs.State.{Local}
 use Rattle.machine.specs.declared.Kernel.{Kernel}
 use Rattle.machine.specs.declared.OpenFile.{OpenFile}
-
--- no start for n bytes among these runs between lo and hi
-abbrev pub NoneFits : List Run → ℕ → ℕ → ℕ → Type 0
-NoneFits runs lo hi n = (s : ℕ) → fits runs lo hi n s ≡ false
 
 -- a size that is not refused is one of the disc's
 sized-within : (max n : ℕ) (z : ℤ) → sized (within max z) ≡ Is n → leb 1 n && leb n max ≡ true
@@ -63,13 +58,6 @@ size-within max n (Float x) e = float-within x e
     float-within nan e = absurd (let x : _≡_ {A = ℕ} 0 1 = cc in omega arith)
     float-within (inf s) e = absurd (let x : _≡_ {A = ℕ} 0 1 = cc in omega arith)
     float-within (fin s m e) h = sized-within max n (signed s (m * up e / down e)) h
-
--- Document 01, fault 13: "OPEN's new file refused by name, size or store's 8 or 9"
-pub data NewFileRefused (disc name : List ℕ) (size : Size) : Type 0 where
-  by-name : goodName name ≡ false → NewFileRefused disc name size
-  by-size : size ≡ Improper → NewFileRefused disc name size
-  by-full : fileCount disc ≡ 10 → NewFileRefused disc name size
-  by-no-run : (n : ℕ) → size ≡ Is n → NoneFits (taken disc) 161 (length disc) n → NewFileRefused disc name size
 
 module _ (k : Kernel) (slot : ℕ) (disc name : List ℕ) (l : Local) (long : isDiscLength (length disc) ≡ true) (good : goodDisc disc ≡ true) where
   -- a file of that name would have been opened, so that it exists is no reason

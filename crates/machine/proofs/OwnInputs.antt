@@ -1,36 +1,29 @@
 -- A turn or a command of a process that follows the single process: what is observed is what the single process answers, and it follows on.
-use Prim.Native.Nat.{ℕ, _<_}
-use mathlib.Core.Path.{_≡_, refl, sym, ap, subst, subst⁻¹, _∙_}
-use mathlib.Core.Bool.{Bool, true, false, _&&_, _||_, cond, not}
-use mathlib.Core.List.{List, [], _∷_, map}
-use mathlib.Core.Logic.{_⊎_, inl, inr, ⊎-elim}
-use native.Mathlib.Omega.{arith}
+use Prim.Native.Nat.{ℕ}
+use mathlib.Core.Path.{_≡_, refl, sym, subst, subst⁻¹, _∙_}
+use mathlib.Core.Bool.{Bool, true, false, cond}
+use mathlib.Core.List.{List, []}
+use mathlib.Core.Logic.{⊎-elim}
 use lib.Dec.{eqb, leb, ltb}
-use lib.IntN.{ℤ, pos}
+use lib.IntN.{pos}
 use lib.ListN.{getD, length}
 use lib.Seq.{take-at}
-use borrow.Author.Tests.{eq-eqb, eqb-true, le-leb, leb-true, lt-ltb}
-use Rattle.buffer.specs.Lists.{any, keep, tab}
+use borrow.Author.Tests.{eqb-true, lt-ltb}
 use Rattle.buffer.specs.declared.Found.{Found}
-use Rattle.buffer.specs.declared.Found.the-variants.{At, Nowhere}
-use Rattle.buffer.proofs.Bools.{true-not-false}
-use Rattle.place.specs.Place.{fits}
-use Rattle.variable.specs.Assign.{assigned}
-use Rattle.variable.specs.Table.{counted, isOf, owned, runOf}
-use Rattle.variable.specs.declared.Placing.{Placing}
-use Rattle.variable.specs.declared.Placing.the-variants.{Address, NoEntry, NoRun}
-use Rattle.variable.specs.declared.Variables.{Variables}
+use Rattle.buffer.specs.declared.Found.the-variants.{At}
+use Rattle.variable.specs.Table.{owned}
 use Rattle.machine.specs.Answer.{Answer, Buffers, Call, command, turn, answer, commandAnswer, refused, turnedAnswer}
 use Rattle.machine.specs.Area.{kernelBytes, kernelOf}
 use Rattle.machine.specs.Effect.{Effect, goes, assigns, stops, faults, asks}
 use Rattle.machine.specs.Exec.{exec}
 use Rattle.machine.specs.Suppositions.{executedBy, isBarred, isLacking, lacksSpace, setLacks}
-use Rattle.machine.specs.Observation.{Observation, declined, seen, next, observedBy, observedOf, placeIn, seenIn, slotIn}
+use Rattle.machine.specs.Observation.{seen, next, observedBy, observedOf, placeIn, seenIn, slotIn}
 use Rattle.machine.specs.Operations.{Command, suspend, resume, kill, Commanded, becomes, refused as denied, changed, commandAt, commanded}
-use Rattle.machine.specs.Single.{Input, tick, given, Response, did, refusedBy, Single, inState, over, single, singleCommand, singleEffect}
-use Rattle.machine.specs.State.{ended, isLive, isRunning, localOf, paused, processAt, running, slotOf, withProcess, withState}
-use Rattle.machine.specs.Trace.{Event, Storage, event, lending, storageOf, textOf}
-use Rattle.machine.specs.Turn.{Turned, carriedOut, programOf, turned, valueOf}
+use Rattle.machine.specs.Refusals.{Passes}
+use Rattle.machine.specs.Single.{tick, given, Response, did, refusedBy, Single, inState, over, single, singleCommand, singleEffect}
+use Rattle.machine.specs.State.{ended, isLive, isRunning, paused, processAt, running, withProcess, withState}
+use Rattle.machine.specs.Trace.{Storage, event, lending, textOf}
+use Rattle.machine.specs.Turn.{Turned, carriedOut, turned, valueOf}
 use Rattle.machine.specs.declared.Kernel.{Kernel}
 use Rattle.machine.specs.declared.Process.{Process}
 use Rattle.machine.proofs.Change.{GoodState}
@@ -42,7 +35,7 @@ use Rattle.machine.proofs.Gone.{Gone}
 use Rattle.machine.proofs.GoodCalls.{good-back, on-good, passes-good, turn-good}
 use Rattle.machine.proofs.OwnKept.{own-good}
 use Rattle.machine.proofs.Room.{room-found}
-use Rattle.machine.proofs.Rounds.{Passes, turn-not-running, turn-running}
+use Rattle.machine.proofs.Rounds.{turn-not-running, turn-running}
 use Rattle.machine.proofs.Slots.{live-below-ten, slot-is}
 
 module _ (i : ℕ) (prog : List ℕ) (s : Storage) (out : List ℕ) (q : Single) (passes : Passes (s .disc) (s .area)) where

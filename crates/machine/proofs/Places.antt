@@ -1,6 +1,6 @@
 -- A place is refused only where there is none: store's 8 and 9, OPEN's 13 by 8 or 9, and SET's 10 come only with a full table or
 -- with no free run long enough.
-use Prim.Native.Nat.{ℕ, _-_, _≤_, _<_}
+use Prim.Native.Nat.{ℕ, _-_, _≤_}
 use mathlib.Core.Path.{_≡_, refl, ap, _∙_, subst}
 use mathlib.Core.Bool.{Bool, true, false}
 use mathlib.Core.List.{List}
@@ -8,9 +8,9 @@ use mathlib.Core.Logic.{_⊎_, inl, inr}
 use native.Mathlib.Omega.{arith}
 use lib.Dec.{ltb}
 use lib.IntN.{pos, negℤ}
-use lib.ListN.{length, List·getD-eq-default}
+use lib.ListN.{length}
 use lib.Seq.{getD-set-same}
-use borrow.Author.Tests.{ltb-false, ltb-true}
+use borrow.Author.Tests.{ltb-false}
 use Rattle.buffer.specs.declared.Found.{Found}
 use Rattle.buffer.specs.declared.Found.the-variants.{At, Nowhere}
 use Rattle.buffer.proofs.Bools.{true-not-false}
@@ -24,7 +24,7 @@ use Rattle.store.specs.Directory.{fileCount, goodDisc, isDiscLength, taken}
 use Rattle.store.proofs.Checks.{by-checks}
 use Rattle.store.proofs.Calls.{store-admission, store-refused-full, store-refused-no-run}
 use Rattle.variable.specs.Assign.{addressOr, assigned, assignAt, entryLimit, highEnd, ifEntry, lowEnd, placeFor, placing, placingFault, takenRuns}
-use Rattle.variable.specs.Table.{freed, isOf, owned}
+use Rattle.variable.specs.Table.{freed, isOf}
 use Rattle.variable.specs.declared.Assigned.{Assigned}
 use Rattle.variable.specs.declared.Placing.{Placing}
 use Rattle.variable.specs.declared.Placing.the-variants.{Address, NoEntry, NoRun as NoFreeRun}
@@ -32,14 +32,15 @@ use Rattle.variable.specs.declared.Value.{Value}
 use Rattle.variable.specs.declared.Variables.{Variables}
 use Rattle.machine.specs.Answer.{Buffers, answer, store}
 use Rattle.machine.specs.Effect.{Effect, asks, assigns, opens}
-use Rattle.machine.specs.Exec.{exec}
-use Rattle.machine.specs.State.{Local, isRunning, localOf, noProcess, processAt, withFile, withLocal, withProcess}
-use Rattle.machine.specs.Turn.{answering, carriedOut, programOf, setting, turned, valueOf}
+use Rattle.machine.specs.Ending.{effectAt}
+use Rattle.machine.specs.NoPlace.{Lacking, NewFileRefused, NoneFits}
+use Rattle.machine.specs.State.{Local, isRunning, noProcess, processAt, withFile, withLocal, withProcess}
+use Rattle.machine.specs.Turn.{answering, carriedOut, setting, turned, valueOf}
 use Rattle.machine.specs.declared.Kernel.{Kernel}
 use Rattle.machine.specs.declared.Process.{Process}
 use Rattle.machine.proofs.LiveRecords.{running-live}
 use Rattle.machine.proofs.Slots.{live-inside}
-use Rattle.machine.proofs.Openings.{NewFileRefused, NoneFits, open-cases}
+use Rattle.machine.proofs.Openings.{open-cases}
 
 -- ---- store
 module _ (b : Buffers) (name bytes : List ℕ) where
@@ -58,10 +59,6 @@ module _ (b : Buffers) (name bytes : List ℕ) where
   store-no-run h = store-refused-no-run (b .disc) name bytes h
 
 -- ---- SET
--- the table is full, or no address fits n bytes
-abbrev pub Lacking : Variables → ℕ → Type 0
-Lacking v n = (entryLimit ≤ v .count) ⊎ NoneFits (takenRuns v) lowEnd highEnd n
-
 placing-lacking : (runs : List Run) (low high used limit n : ℕ) → placingFault (placing runs low high used limit n) ≡ 10 → (limit ≤ used) ⊎ NoneFits runs low high n
 unfolding placing
 placing-lacking runs low high used limit n = go (ltb used limit) refl (place runs low high n) refl
@@ -91,13 +88,10 @@ module _ (k : Kernel) (slot : ℕ) (h : isRunning (processAt k slot) ≡ true) w
   still-running p r = ap isRunning (getD-set-same (k .processes) slot p noProcess (live-inside k slot (running-live (processAt k slot) h))) ∙ r
 
   module _ (clock : ℕ) (disc : List ℕ) where
-    abbrev effect : Effect
-    effect = exec (programOf disc (processAt k slot)) clock (localOf (processAt k slot)) (owned (k .variables) (processAt k slot .id))
-
     abbrev Ends : Effect → Type 0
     Ends e = isRunning (processAt (carriedOut k slot disc e .kernel) slot) ≡ false
 
-    pub turn-set-lacking : (name kind : ℕ) (bytes : List ℕ) (l : Local) → effect ≡ assigns name kind bytes l → isRunning (processAt (turned k slot clock disc .kernel) slot) ≡ false
+    pub turn-set-lacking : (name kind : ℕ) (bytes : List ℕ) (l : Local) → effectAt k slot clock disc ≡ assigns name kind bytes l → isRunning (processAt (turned k slot clock disc .kernel) slot) ≡ false
         → Lacking (freed (k .variables) (isOf name (processAt k slot .id))) (length bytes)
     unfolding turned carriedOut
     turn-set-lacking name kind bytes l e ends = go (a .placing) refl (subst Ends e ends)
@@ -110,7 +104,7 @@ module _ (k : Kernel) (slot : ℕ) (h : isRunning (processAt k slot) ≡ true) w
         go NoEntry q r = set-lacking (k .variables) name (processAt k slot .id) (valueOf kind bytes) (ap placingFault q)
         go NoFreeRun q r = set-lacking (k .variables) name (processAt k slot .id) (valueOf kind bytes) (ap placingFault q)
 
-    pub turn-open-refused : isDiscLength (length disc) ≡ true → goodDisc disc ≡ true → (name : List ℕ) (size : Number) (l : Local) → effect ≡ asks (opens name size l)
+    pub turn-open-refused : isDiscLength (length disc) ≡ true → goodDisc disc ≡ true → (name : List ℕ) (size : Number) (l : Local) → effectAt k slot clock disc ≡ asks (opens name size l)
         → isRunning (processAt (turned k slot clock disc .kernel) slot) ≡ false → NewFileRefused disc name (sizeWithin (length disc - 161) size)
     unfolding turned carriedOut
     turn-open-refused long good name size l e ends =

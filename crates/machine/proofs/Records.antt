@@ -14,14 +14,10 @@ use Rattle.buffer.specs.Lists.{tab}
 use Rattle.buffer.proofs.Buffer.{word-split}
 use Rattle.buffer.proofs.Parts.{part-byte, part-length, part-split}
 use Rattle.variable.specs.declared.Variable.{Variable}
-use Rattle.machine.specs.Area.{processBytes, processOf, registerBytes, variableBytes, variableOf}
+use Rattle.machine.specs.Area.{AreBytes, processBytes, processOf, registerBytes, variableBytes, variableOf}
 use Rattle.machine.specs.declared.Process.{Process}
 use Rattle.machine.proofs.FixedWidth.{tab-of}
 use Rattle.machine.proofs.Sizes.{SizedProcess}
-
--- every element is a byte
-abbrev pub AreBytes : List ℕ → Type 0
-AreBytes l = (i : ℕ) → getD l i 0 < 256
 
 pub part-bytes : (l : List ℕ) (at n : ℕ) → at + n ≤ length l → AreBytes l → AreBytes (part l at n)
 part-bytes l at n h bytes i = go (ltb i n) refl

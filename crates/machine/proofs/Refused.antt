@@ -2,7 +2,7 @@
 use Prim.Native.Nat.{ℕ}
 use mathlib.Core.Path.{_≡_, refl, ap, subst}
 use mathlib.Core.Bool.{Bool, true, false, _&&_, not, cond}
-use mathlib.Core.List.{List, [], _∷_}
+use mathlib.Core.List.{List}
 use lib.Dec.{eqb, leb, ltb}
 use lib.IntN.{ℤ, pos}
 use lib.ListN.{length}
@@ -24,28 +24,11 @@ use Rattle.store.proofs.Calls.{done-not-below, store-cases}
 use Rattle.machine.specs.Answer.{Answer, Buffers, Call, store, retrieve, erase, run, files, freeSpace, list, command, turn, round, answer, bootAnswer, commandAnswer, eraseAt, formatAnswer, goodArea, onDisc, onGood, onOutput, refused, runAt}
 use Rattle.machine.specs.Area.{isAreaLength, kernelOf}
 use Rattle.machine.specs.Operations.{Command, becomes, refused as declined, suspend, resume, kill, changed, commandAt, commanded, inUse, listText, slots, turnsOf}
+use Rattle.machine.specs.Refusals.{Names}
 use Rattle.machine.specs.Start.{starting, startIn}
 use Rattle.machine.specs.State.{endedSlot, isRunning, paused, processAt, running, slotOf, withProcess, withState}
 use Rattle.machine.specs.Turn.{turned}
 use Rattle.machine.specs.declared.Kernel.{Kernel}
-
--- ---- the numbers that document 01 names for each operation, the buffers' 1 to 4 with them
-abbrev pub refusals : Call → List ℕ
-refusals (store name bytes) = 1 ∷ 2 ∷ 5 ∷ 6 ∷ 8 ∷ 7 ∷ 9 ∷ []
-refusals (retrieve name) = 1 ∷ 2 ∷ 10 ∷ 4 ∷ []
-refusals (erase name) = 1 ∷ 2 ∷ 3 ∷ 10 ∷ 11 ∷ []
-refusals (run name) = 1 ∷ 2 ∷ 3 ∷ 12 ∷ 10 ∷ 13 ∷ []
-refusals files = 1 ∷ 2 ∷ 4 ∷ []
-refusals freeSpace = 1 ∷ 2 ∷ []
-refusals list = 1 ∷ 2 ∷ 3 ∷ 4 ∷ []
-refusals (command suspend id) = 1 ∷ 2 ∷ 3 ∷ 14 ∷ 15 ∷ []
-refusals (command resume id) = 1 ∷ 2 ∷ 3 ∷ 14 ∷ 15 ∷ []
-refusals (command kill id) = 1 ∷ 2 ∷ 3 ∷ 14 ∷ []
-refusals (turn slot clock) = 1 ∷ 2 ∷ 3 ∷ 4 ∷ 16 ∷ []
-refusals (round clock) = 1 ∷ 2 ∷ 3 ∷ 4 ∷ []
-
-abbrev pub Names : Call → ℕ → Type 0
-Names c n = any (eqb n) (refusals c) ≡ true
 
 -- what a call comes to: refused, with all as it was, or done
 pub data Outcome (c : Call) (b : Buffers) (a : Answer) : Type 0 where

@@ -1,16 +1,15 @@
 -- One process record replaced: what the slots hold then, and what is kept of a good area's records and IDs.
-use Prim.Native.Nat.{ℕ, suc, _<_}
+use Prim.Native.Nat.{ℕ, _<_}
 use mathlib.Core.Path.{_≡_, refl, sym, ap, _∙_, subst, subst⁻¹}
 use mathlib.Core.Bool.{Bool, true, false}
-use mathlib.Core.List.{List, [], _∷_}
+use mathlib.Core.List.{List}
 use native.Mathlib.Omega.{arith}
 use lib.Dec.{eqb}
-use lib.ListN.{getD, length, length-set}
+use lib.ListN.{length, length-set}
 use lib.Seq.{getD-set-other, getD-set-same}
 use borrow.Author.Tests.{eqb-false, eqb-true}
 use Rattle.buffer.specs.Lists.{all, any, pairs}
 use Rattle.buffer.specs.declared.Found.the-variants.{Nowhere}
-use Rattle.buffer.proofs.Bools.{and-both}
 use Rattle.buffer.proofs.Lists.{all-each}
 use Rattle.store.specs.declared.Entry.{Entry}
 use Rattle.machine.specs.GoodArea.{goodKernel, goodProcess, otherId}

@@ -1,14 +1,13 @@
 -- "A SET lacks space where fault 10 is defined for it": where it does not, the kernel finds a place.
-use Prim.Native.Nat.{ℕ, _+_, _≤_, _<_}
-use mathlib.Core.Path.{_≡_, refl, sym, ap, subst, subst⁻¹, _∙_}
-use mathlib.Core.Bool.{Bool, true, false, _||_, not}
+use Prim.Native.Nat.{ℕ, _≤_}
+use mathlib.Core.Path.{_≡_, refl, subst}
+use mathlib.Core.Bool.{Bool, true, false, not}
 use mathlib.Core.List.{List, [], _∷_, map}
-use native.Mathlib.Omega.{arith}
 use lib.Dec.{leb}
 use lib.ListN.{length}
 use borrow.Author.Tests.{le-leb}
 use Rattle.buffer.specs.Lists.{any, keep, tab}
-use Rattle.buffer.proofs.Bools.{not-is-true, not-true-is-false, true-not-false}
+use Rattle.buffer.proofs.Bools.{not-is-true, true-not-false}
 use Rattle.place.specs.Place.{fits}
 use Rattle.variable.specs.Assign.{assigned}
 use Rattle.variable.specs.Table.{counted, freed, isOf, runOf}

@@ -11,21 +11,21 @@ use borrow.Author.Tests.{eqb-true}
 use Rattle.buffer.specs.Buffer.{overwrite}
 use Rattle.buffer.specs.Lists.{all}
 use Rattle.machine.specs.Answer.{Answer, Buffers, answer, round, turnedAnswer}
-use Rattle.machine.specs.Area.{kernelOf}
-use Rattle.machine.specs.Operations.{slots, turnsOf}
-use Rattle.machine.specs.Trace.{Event, IsItsEvents, Storage, lending, textOf, turnEvents}
+use Rattle.machine.specs.Area.{AreBytes, kernelOf}
+use Rattle.machine.specs.Refusals.{Passes}
+use Rattle.machine.specs.Operations.{turnsOf}
+use Rattle.machine.specs.Trace.{Event, IsItsEvents, Storage, lending, tenSlots, textOf, turnEvents}
 use Rattle.machine.specs.Turn.{Turned}
 use Rattle.machine.proofs.Area.{kernel-encode-decode}
 use Rattle.machine.proofs.Chains.{Parts, Whole, turn-parts}
 use Rattle.machine.proofs.GoodCalls.{area-length}
-use Rattle.machine.proofs.Records.{AreBytes}
-use Rattle.machine.proofs.Rounds.{Passes, round-done, round-passed}
+use Rattle.machine.proofs.Rounds.{round-done, round-passed}
 
 -- "A done round stands for its turns in order, each printing its part of the output."
 pub round-events : (s : Storage) (out : List ℕ) (clock n : ℕ) → AreBytes (s .area) → answer (round clock) (lending s out) .number ≡ pos n
-    → IsItsEvents s out (answer (round clock) (lending s out)) (turnEvents slots clock s (textOf (answer (round clock) (lending s out))))
+    → IsItsEvents s out (answer (round clock) (lending s out)) (turnEvents tenSlots clock s (textOf (answer (round clock) (lending s out))))
 unfolding all
-round-events s out clock n bytes done = subst⁻¹ (λ (a : Answer). IsItsEvents s out a (turnEvents slots clock s (textOf a))) (round-done b clock (passed .0) (passed .1)) of-turns
+round-events s out clock n bytes done = subst⁻¹ (λ (a : Answer). IsItsEvents s out a (turnEvents tenSlots clock s (textOf a))) (round-done b clock (passed .0) (passed .1)) of-turns
   where
     b : Buffers
     b = lending s out
@@ -34,13 +34,13 @@ round-events s out clock n bytes done = subst⁻¹ (λ (a : Answer). IsItsEvents
     passed = round-passed b clock n done
 
     u : Turned
-    u = turnsOf slots (kernelOf (s .area)) clock (s .disc)
+    u = turnsOf tenSlots (kernelOf (s .area)) clock (s .disc)
 
     es : List Event
-    es = turnEvents slots clock s (textOf (turnedAnswer u b))
+    es = turnEvents tenSlots clock s (textOf (turnedAnswer u b))
 
     p : Parts s es u
-    p = turn-parts slots clock s (textOf (turnedAnswer u b)) refl (passed .0) (take-at (u .out) _ (length (u .out)) refl)
+    p = turn-parts tenSlots clock s (textOf (turnedAnswer u b)) refl (passed .0) (take-at (u .out) _ (length (u .out)) refl)
 
     whole : Whole (s .area)
     whole = kernel-encode-decode (s .area) bytes (eqb-true _ _ (area-length (passed .0)))

@@ -5,23 +5,22 @@ use mathlib.Core.Path.{_≡_, refl, sym, ap, subst, subst⁻¹, _∙_}
 use mathlib.Core.Bool.{Bool, true, false, _&&_, _||_, not}
 use mathlib.Core.List.{List, []}
 use mathlib.Core.Option.{Option, none, some}
-use lib.Dec.{eqb, leb, ltb}
-use lib.IntN.{ℤ, pos}
-use lib.ListN.{getD, length}
+use lib.Dec.{eqb, leb}
+use lib.ListN.{length}
 use borrow.Author.Tests.{eq-eqb, eqb-false, eqb-true, lt-ltb, ne-eqb}
 use Rattle.buffer.specs.declared.Found.{Found}
-use Rattle.buffer.specs.declared.Found.the-variants.{At, Nowhere}
 use Rattle.buffer.proofs.Bools.{and-both, not-true-is-false, true-not-false}
 use Rattle.variable.specs.Table.{Cell, owned}
-use Rattle.machine.specs.Answer.{Answer, Buffers, Call, store, retrieve, erase, run, files, freeSpace, list, command, turn, round, answer, turnedAnswer}
+use Rattle.machine.specs.Answer.{Answer, Buffers, Call, store, retrieve, erase, run, files, freeSpace, list, command, turn, round, answer}
 use Rattle.machine.specs.Area.{kernelOf}
-use Rattle.machine.specs.Suppositions.{disturbedBy, executedBy, isBarred, isDoneBy, processIn, setLacks, turnDisturbs, turnDisturbsAt, writeLands}
-use Rattle.machine.specs.Observation.{Observation, inputIf, inputOf, isAt, next, observedBy, observedOf, placeIn}
+use Rattle.machine.specs.Suppositions.{disturbedBy, executedBy, isBarred, isDoneBy, setLacks, turnDisturbs, turnDisturbsAt, writeLands}
+use Rattle.machine.specs.Observation.{inputIf, inputOf, isAt, next, observedBy, observedOf, placeIn}
 use Rattle.machine.specs.Operations.{Command}
+use Rattle.machine.specs.Refusals.{Passes}
 use Rattle.machine.specs.Single.{Input, tick, given, Single, single}
-use Rattle.machine.specs.State.{isLive, isRunning, processAt, slotOf}
-use Rattle.machine.specs.Trace.{Event, Storage, event, lending, storageOf, textOf}
-use Rattle.machine.specs.Turn.{programOf, turned}
+use Rattle.machine.specs.State.{isLive, isRunning, processAt}
+use Rattle.machine.specs.Trace.{Event, Storage, event, lending, textOf}
+use Rattle.machine.specs.Turn.{programOf}
 use Rattle.machine.specs.declared.Kernel.{Kernel}
 use Rattle.machine.specs.declared.Process.{Process}
 use Rattle.machine.proofs.CallEffects.{Apart, Effects, isRound, call-effects, effects-gone, effects-spare}
@@ -29,11 +28,10 @@ use Rattle.machine.proofs.Change.{GoodState}
 use Rattle.machine.proofs.ChangeKept.{NoWriteInto, no-place}
 use Rattle.machine.proofs.Disjunctions.{or-first, or-second}
 use Rattle.machine.proofs.Following.{Follows, Holds, Tracks, on, off}
-use Rattle.machine.proofs.Gone.{Gone}
 use Rattle.machine.proofs.GoodCalls.{passes-good}
 use Rattle.machine.proofs.LiveRecords.{running-live}
 use Rattle.machine.proofs.OwnInputs.{Answers, Sheltered, command-answers, ended-answers, turn-answers}
-use Rattle.machine.proofs.Rounds.{Passes, turn-running}
+use Rattle.machine.proofs.Rounds.{turn-running}
 use Rattle.machine.proofs.Slots.{live-below-ten, slot-at, slot-is}
 use Rattle.machine.proofs.Spared.{Spared}
 

@@ -6,13 +6,13 @@ use mathlib.Core.List.{List}
 use native.Mathlib.Omega.{arith}
 use lib.ListN.{length}
 use Rattle.variable.specs.Assign.{assigned}
-use Rattle.variable.specs.Table.{owned}
 use Rattle.variable.specs.declared.Placing.{Placing}
 use Rattle.variable.specs.declared.Placing.the-variants.{Address, NoEntry, NoRun}
 use Rattle.variable.specs.declared.Variables.{Variables}
 use Rattle.machine.specs.Beyond.{Answered, carriesOn, breaks, answered}
 use Rattle.machine.specs.Effect.{Effect, goes, assigns, stops, faults, asks}
-use Rattle.machine.specs.Exec.{exec}
+use Rattle.machine.specs.Ending.{effectAt}
+use Rattle.machine.specs.Stack.{topString}
 use Rattle.machine.specs.State.{Local, isLive, isRunning, localOf, processAt}
 use Rattle.machine.specs.Turn.{answering, carriedOut, programOf, setting, turned, valueOf}
 use Rattle.machine.specs.declared.Kernel.{Kernel}
@@ -21,11 +21,6 @@ use Rattle.machine.proofs.Carrying.{assigns-here, ends-here, moves-loca
 use Rattle.machine.proofs.Change.{GoodState, Change}
 use Rattle.machine.proofs.LiveRecords.{running-live}
 use Rattle.machine.proofs.Sound.{Sound}
-use Rattle.machine.specs.Stack.{topString}
-
--- what the instruction of the process in that slot does
-abbrev pub effectAt : Kernel → ℕ → ℕ → List ℕ → Effect
-effectAt k slot clock disc = exec (programOf disc (processAt k slot)) clock (localOf (processAt k slot)) (owned (k .variables) (processAt k slot .id))
 
 abbrev pub SoundAt : Kernel → ℕ → ℕ → List ℕ → Type 0
 SoundAt k slot clock disc = Sound (programOf disc (processAt k slot)) (localOf (processAt k slot)) (effectAt k slot clock disc)

@@ -7,7 +7,7 @@
 --     409  seven zeros
 --     416  ten process records of 64: name 12, ID 2, state 1, fault 1, code start 2, code length 2, PC 2, loop 2,
 --          file start 2, file length 2, file offset 2, SP 1, spare 1, stack 32
-use Prim.Native.Nat.{ℕ, _+_, _*_}
+use Prim.Native.Nat.{ℕ, _+_, _*_, _<_}
 use mathlib.Core.Bool.{Bool}
 use mathlib.Core.List.{List, [], _∷_, _++_}
 use lib.Dec.{eqb}
@@ -22,6 +22,10 @@ use Rattle.machine.specs.declared.Process.{Process}
 -- Document 01: "Work area, 1,056 bytes."
 abbrev pub isAreaLength : ℕ → Bool
 isAreaLength n = eqb n 1056
+
+-- every element is a byte
+abbrev pub AreBytes : List ℕ → Type 0
+AreBytes l = (i : ℕ) → getD l i 0 < 256
 
 abbrev pub variableOf : List ℕ → Variable
 variableOf b = record { name = getD b 0 0; kind = getD b 1 0; address = getD b 2 0; size = getD b 3 0; owner = wordAt b 4 }

@@ -1,7 +1,7 @@
 -- A run: any list of calls from any two buffers, and the events that it comes to.
 use Prim.Native.Nat.{ℕ, _+_}
 use mathlib.Core.Path.{_≡_}
-use mathlib.Core.Bool.{Bool, true, false}
+use mathlib.Core.Bool.{Bool}
 use mathlib.Core.List.{List, [], _∷_, _++_}
 use lib.Dec.{leb}
 use lib.IntN.{ℤ, pos, negsuc}
@@ -10,7 +10,6 @@ use Rattle.buffer.specs.Buffer.{overwrite}
 use Rattle.buffer.specs.Lists.{consIf, flat}
 use Rattle.machine.specs.Answer.{Answer, Buffers, Call, store, retrieve, erase, run, files, freeSpace, list, command, turn, round, answer}
 use Rattle.machine.specs.Area.{kernelOf}
-use Rattle.machine.specs.Operations.{slots}
 use Rattle.machine.specs.State.{isRunning, processAt}
 
 -- the two buffers between calls
@@ -62,9 +61,12 @@ turnEvents (slot ∷ slots) clock s text =
     let n = counts (a .number) in
     consIf (isRunning (processAt (kernelOf (s .area)) slot)) (event (turn slot clock) s a (take n text)) (turnEvents slots clock (storageOf a) (drop n text))
 
+abbrev pub tenSlots : List ℕ
+tenSlots = 0 ∷ 1 ∷ 2 ∷ 3 ∷ 4 ∷ 5 ∷ 6 ∷ 7 ∷ 8 ∷ 9 ∷ []
+
 -- a refused round has no turn
 abbrev pub roundEvents : ℤ → ℕ → Storage → List ℕ → List Event
-roundEvents (pos n) clock s text = turnEvents slots clock s text
+roundEvents (pos n) clock s text = turnEvents tenSlots clock s text
 roundEvents (negsuc n) clock s text = []
 
 -- "calls lent too little output aside": a turn needs 32 bytes

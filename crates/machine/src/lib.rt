@@ -2,6 +2,7 @@
 use place::Run;
 use variable::Variables;
 ghost use Rattle.machine.specs.Cases.{Bench, Misreadings};
+ghost use Rattle.machine.specs.Demands.{FaultTouchesOwn, GoodKept, PlacesRefusedOnly, RefusedUnchanged, RoundIsTurns, RoundNeverRefused, TurnPrintsLittle};
 ghost use Rattle.machine.specs.Isolation.{Isolation};
 
 // The file that a process has open, and how far it has read or written. Length 0: none.
@@ -47,4 +48,39 @@ pub fn misreadings()
 // Demand 3 in one piece: no neighbour, no order of turns and no call shifts a process's stack, variables, place, output or end.
 pub fn isolation()
     ensures { λ _. ⌜ Isolation ⌝ }
+{}
+
+// A refused call changes no byte, and its number is one that document 01 names for that operation.
+pub fn refused_unchanged()
+    ensures { λ _. ⌜ RefusedUnchanged ⌝ }
+{}
+
+// A turn that ends its process, by STOP or a fault, touches nothing but the record and the variables of that process.
+pub fn fault_touches_own()
+    ensures { λ _. ⌜ FaultTouchesOwn ⌝ }
+{}
+
+// A place is refused only when its table is full or no run of free bytes is long enough; to OPEN's new file also by name or size.
+pub fn places_refused_only()
+    ensures { λ _. ⌜ PlacesRefusedOnly ⌝ }
+{}
+
+// Every call keeps good buffers good; format and boot make them.
+pub fn good_kept()
+    ensures { λ _. ⌜ GoodKept ⌝ }
+{}
+
+// A round lent 320 bytes on good buffers is never refused.
+pub fn round_never_refused()
+    ensures { λ _. ⌜ RoundNeverRefused ⌝ }
+{}
+
+// A done round is exactly its turns, in slot order, on the buffers as each finds them.
+pub fn round_is_turns()
+    ensures { λ _. ⌜ RoundIsTurns ⌝ }
+{}
+
+// A done turn returns at most 32: the 32 bytes of output that it asks for are enough.
+pub fn turn_prints_little()
+    ensures { λ _. ⌜ TurnPrintsLittle ⌝ }
 {}

@@ -1,0 +1,12 @@
+-- `machine::round_is_turns` meets its contract: a done round is exactly its turns.
+use Rattle.machine.specs.Demands.{RoundIsTurns}
+use Rattle.machine.proofs.RoundEvents.{round-events}
+use Rattle.machine.proofs.round_is_turns.Statement.{statement}
+use Rattle.machine.proofs.round_is_turns.Tie as tie
+
+returns : tie.Need-returns
+unfolding RoundIsTurns
+returns c = round-events
+
+pub round-is-turns-spec : {M : Type 1} → statement M
+round-is-turns-spec = tie.close (tie.spec returns)

@@ -1,0 +1,112 @@
+-- What is demanded of every call beyond its own answer, each in one statement. Demand 3 has a file of its own, Isolation.
+use Prim.Native.Nat.{ℕ, _-_, _≤_}
+use mathlib.Core.Path.{_≡_}
+use mathlib.Core.Bool.{true, false, _&&_}
+use mathlib.Core.List.{List}
+use mathlib.Core.Logic.{_⊎_}
+use lib.Dec.{leb}
+use lib.IntN.{pos, negℤ}
+use lib.ListN.{length}
+use lib.Signed.{_<ℤ_}
+use Rattle.number.specs.Compare.{sizeWithin}
+use Rattle.number.specs.declared.Number.{Number}
+use Rattle.store.specs.Directory.{fileCount, goodDisc, isDiscLength, taken}
+use Rattle.variable.specs.Table.{freed, isOf}
+use Rattle.machine.specs.Answer.{Answer, Buffers, Call, store, turn, round, answer, bootAnswer, formatAnswer, refused}
+use Rattle.machine.specs.Area.{AreBytes, isAreaLength, kernelOf}
+use Rattle.machine.specs.Effect.{asks, assigns, opens}
+use Rattle.machine.specs.Ending.{Ends, Touched, effectAt}
+use Rattle.machine.specs.NoPlace.{Lacking, NewFileRefused, NoneFits}
+use Rattle.machine.specs.Refusals.{MayTurn, Names, Passes}
+use Rattle.machine.specs.Trace.{IsItsEvents, Storage, lending, tenSlots, textOf, turnEvents}
+use Rattle.machine.specs.State.{Local, isRunning, processAt}
+use Rattle.machine.specs.declared.Kernel.{Kernel}
+
+-- ---- refusals
+abbrev pub Unchanged : Answer → Buffers → Type 0
+Unchanged a b = (a .disc ≡ b .disc) × (a .area ≡ b .area) × (a .out ≡ b .out)
+
+-- Document 01: "−n is refusal n with both buffers and the output unchanged". n is one that it names for that operation; "format and boot try only 1".
+unfoldable pub RefusedUnchanged : Type 0
+RefusedUnchanged =
+    ((c : Call) (b : Buffers) → answer c b .number <ℤ pos 0 → Unchanged (answer c b) b × ((n : ℕ) × Names c n × (answer c b .number ≡ negℤ (pos n))))
+    × ((b : Buffers) → formatAnswer b .number <ℤ pos 0 → formatAnswer b ≡ refused 1 b)
+    × ((b : Buffers) → bootAnswer b .number <ℤ pos 0 → bootAnswer b ≡ refused 1 b)
+
+-- ---- faults
+-- the state that the work area says, before a call and after a turn
+abbrev pub stateOf : Buffers → Kernel
+stateOf b = kernelOf (b .area)
+
+abbrev pub turnedState : Buffers → ℕ → ℕ → Kernel
+turnedState b slot clock = kernelOf (answer (turn slot clock) b .area)
+
+abbrev pub EndedOnly : Buffers → ℕ → ℕ → Answer → Type 0
+EndedOnly b slot n a = (a .number ≡ pos 0) × (a .disc ≡ b .disc) × (a .out ≡ b .out) × Touched (stateOf b) slot n (kernelOf (a .area))
+
+-- Document 01: "A faulting instruction changes nothing but the ending." A turn that does not end its process leaves it running.
+unfoldable pub FaultTouchesOwn : Type 0
+FaultTouchesOwn =
+    (b : Buffers) (slot clock : ℕ) → MayTurn b slot
+    → ((n : ℕ) → Ends (stateOf b) slot clock (b .disc) n → EndedOnly b slot n (answer (turn slot clock) b))
+    × (((n : ℕ) × Ends (stateOf b) slot clock (b .disc) n) ⊎ (isRunning (processAt (turnedState b slot clock) slot) ≡ true))
+
+-- ---- places
+-- Document 01, store: "8 ten files already"
+abbrev pub FullOnly : Type 0
+FullOnly = (b : Buffers) (name bytes : List ℕ) → answer (store name bytes) b .number ≡ negℤ (pos 8) → fileCount (b .disc) ≡ 10
+
+-- Document 01, store: "9 no free run long enough"
+abbrev pub NoRunOnly : Type 0
+NoRunOnly = (b : Buffers) (name bytes : List ℕ) → answer (store name bytes) b .number ≡ negℤ (pos 9) → NoneFits (taken (b .disc)) 161 (length (b .disc)) (length bytes)
+
+-- the process runs no more after its turn
+abbrev pub StopsRunning : Buffers → ℕ → ℕ → Type 0
+StopsRunning b slot clock = isRunning (processAt (turnedState b slot clock) slot) ≡ false
+
+-- a SET that has met no fault before and ends its process, which is fault 10. Document 01: "SET first frees the old variable"; of the others there are
+-- 25, or no address fits
+abbrev pub LackingOnly : Type 0
+LackingOnly =
+    (b : Buffers) (slot clock : ℕ) → MayTurn b slot → (name kind : ℕ) (bytes : List ℕ) (l : Local)
+    → effectAt (stateOf b) slot clock (b .disc) ≡ assigns name kind bytes l
+    → StopsRunning b slot clock
+    → Lacking (freed (stateOf b .variables) (isOf name (processAt (stateOf b) slot .id))) (length bytes)
+
+-- an OPEN that has met no fault before and ends its process, which is fault 13
+abbrev pub NewFileOnly : Type 0
+NewFileOnly =
+    (b : Buffers) (slot clock : ℕ) → MayTurn b slot → (name : List ℕ) (size : Number) (l : Local)
+    → effectAt (stateOf b) slot clock (b .disc) ≡ asks (opens name size l)
+    → StopsRunning b slot clock
+    → NewFileRefused (b .disc) name (sizeWithin (length (b .disc) - 161) size)
+
+-- a place is refused only where there is none: document 01, strictness c, shuts out a "no run" or a "table full" "said too early"
+unfoldable pub PlacesRefusedOnly : Type 0
+PlacesRefusedOnly = FullOnly × NoRunOnly × LackingOnly × NewFileOnly
+
+-- ---- goodness
+abbrev pub RightLengths : Buffers → Type 0
+RightLengths b = isDiscLength (length (b .disc)) && isAreaLength (length (b .area)) ≡ true
+
+-- good buffers stay good under every call; format makes good buffers of any, boot of those with a good disc
+unfoldable pub GoodKept : Type 0
+GoodKept =
+    ((c : Call) (b : Buffers) → Passes (b .disc) (b .area) → Passes (answer c b .disc) (answer c b .area))
+    × ((b : Buffers) → RightLengths b → Passes (formatAnswer b .disc) (formatAnswer b .area))
+    × ((b : Buffers) → RightLengths b → goodDisc (b .disc) ≡ true → Passes (bootAnswer b .disc) (bootAnswer b .area))
+
+-- ---- rounds
+-- Document 01, Round: "needs 320 bytes"; lent them on good buffers it is done
+unfoldable pub RoundNeverRefused : Type 0
+RoundNeverRefused = (b : Buffers) (clock : ℕ) → Passes (b .disc) (b .area) → leb 320 (length (b .out)) ≡ true → (n : ℕ) × (answer (round clock) b .number ≡ pos n)
+
+-- Document 01: "a turn for slots 0 to 9, each if running when reached, under one clock reading, outputs joined". The area lent is bytes.
+unfoldable pub RoundIsTurns : Type 0
+RoundIsTurns =
+    (s : Storage) (out : List ℕ) (clock n : ℕ) → AreBytes (s .area) → answer (round clock) (lending s out) .number ≡ pos n
+    → IsItsEvents s out (answer (round clock) (lending s out)) (turnEvents tenSlots clock s (textOf (answer (round clock) (lending s out))))
+
+-- Document 01, Turn: "at least 32 output bytes" are enough. "Returns the bytes printed"
+unfoldable pub TurnPrintsLittle : Type 0
+TurnPrintsLittle = (b : Buffers) (slot clock n : ℕ) → answer (turn slot clock) b .number ≡ pos n → n ≤ 32

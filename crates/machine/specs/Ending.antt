@@ -1,0 +1,44 @@
+-- What ends a process in its turn, and what its ending touches.
+use Prim.Native.Nat.{ℕ}
+use mathlib.Core.Path.{_≡_}
+use mathlib.Core.List.{List, []}
+use mathlib.Core.Logic.{_⊎_}
+use Rattle.variable.specs.Assign.{assigned}
+use Rattle.variable.specs.Table.{owned}
+use Rattle.variable.specs.declared.Assigned.{Assigned}
+use Rattle.variable.specs.declared.Placing.the-variants.{NoEntry, NoRun}
+use Rattle.machine.specs.Beyond.{breaks, answered}
+use Rattle.machine.specs.Effect.{Effect, assigns, stops, faults, asks, Request}
+use Rattle.machine.specs.Exec.{exec}
+use Rattle.machine.specs.State.{Local, endedProcess, localOf, processAt}
+use Rattle.machine.specs.Turn.{programOf, valueOf}
+use Rattle.machine.specs.declared.Kernel.{Kernel}
+
+-- what the instruction of the process in that slot does
+abbrev pub effectAt : Kernel → ℕ → ℕ → List ℕ → Effect
+effectAt k slot clock disc = exec (programOf disc (processAt k slot)) clock (localOf (processAt k slot)) (owned (k .variables) (processAt k slot .id))
+
+-- the place that a SET finds
+abbrev pub placed : Kernel → ℕ → (name kind : ℕ) → List ℕ → Assigned
+placed k slot name kind bytes = assigned (k .variables) name (processAt k slot .id) (valueOf kind bytes)
+
+-- with the fault: STOP's 0, a fault of the instruction itself, SET's "10 no variable entry or run", a fault that disc or table answer
+pub data Ends (k : Kernel) (slot clock : ℕ) (disc : List ℕ) (n : ℕ) : Type 0 where
+  stopped : effectAt k slot clock disc ≡ stops → n ≡ 0 → Ends k slot clock disc n
+  faulted : effectAt k slot clock disc ≡ faults n → Ends k slot clock disc n
+  unplaced : (name kind : ℕ) (bytes : List ℕ) (l : Local) → effectAt k slot clock disc ≡ assigns name kind bytes l
+      → (placed k slot name kind bytes .placing ≡ NoEntry) ⊎ (placed k slot name kind bytes .placing ≡ NoRun) → n ≡ 10 → Ends k slot clock disc n
+  broken : (r : Request) → effectAt k slot clock disc ≡ asks r → answered k slot disc r ≡ breaks n → Ends k slot clock disc n
+
+-- j is k but for the record of that slot and the entries of its process's variables
+pub record Touched (k : Kernel) (slot n : ℕ) (j : Kernel) : Type 0 where
+  -- Document 01: "Freed memory keeps its bytes"
+  pub memory : j .variables .memory ≡ k .variables .memory
+  pub others : (i : ℕ) → (i ≡ slot → ⊥) → processAt j i ≡ processAt k i
+  -- Document 01: "Its record keeps name, ID and fault (0 unless a fault) and is otherwise zero."
+  pub own : processAt j slot ≡ endedProcess (processAt k slot) n
+  pub other-variables : (id : ℕ) → (id ≡ processAt k slot .id → ⊥) → owned (j .variables) id ≡ owned (k .variables) id
+  -- Document 01: "Ending (STOP, kill, fault) frees the process's variables."
+  pub own-variables : owned (j .variables) (processAt k slot .id) ≡ []
+  pub next : j .next ≡ k .next
+  pub zeros : j .zeros ≡ k .zeros
