@@ -22,6 +22,9 @@ pub not-true-is-false : (b : Bool) → (b ≡ true → ⊥) → b ≡ false
 not-true-is-false true h = absurd (h refl)
 not-true-is-false false h = refl
 
+pub and-false-right : (a b : Bool) → a ≡ true → a && b ≡ false → b ≡ false
+and-false-right a b t h = not-true-is-false b (λ u. true-not-false (and-both t u) h)
+
 pub not-is-true : {b : Bool} → b ≡ false → not b ≡ true
 not-is-true h = rw h
 

@@ -1,5 +1,6 @@
 pub mod Bools
 pub mod Buffer
+pub mod Disjunctions
 pub mod Kept
 pub mod Lists
 pub mod Parts

@@ -81,6 +81,11 @@ module _ {A : Type 0} (r : A → A → Bool) where
   pairs-without (x ∷ l) (suc i) e = and-both (all-without (r x) l i (and-left (all (r x) l) (pairs r l) e)) (pairs-without l i (and-right (all (r x) l) (pairs r l) e))
 
 -- ---- same
+pub pairs-each : {A : Type 0} (r : A → A → Bool) (l : List A) (d : A) → ((i j : ℕ) → i < j → j < length l → r (getD l i d) (getD l j d) ≡ true) → pairs r l ≡ true
+unfolding pairs
+pairs-each r [] d h = refl
+pairs-each r (x ∷ l) d h = and-both (all-each (r x) l d (λ j m. h 0 (suc j) (omega arith) (omega arith))) (pairs-each r l d (λ i j n m. h (suc i) (suc j) (omega arith) (omega arith)))
+
 pub same-refl : (l : List ℕ) → same l l ≡ true
 unfolding same
 same-refl [] = refl

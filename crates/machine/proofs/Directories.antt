@@ -18,7 +18,8 @@ use Rattle.machine.specs.State.{isLive, noProcess, processAt}
 use Rattle.machine.specs.declared.Kernel.{Kernel}
 use Rattle.machine.specs.declared.OpenFile.{OpenFile}
 use Rattle.machine.proofs.Change.{GoodState}
-use Rattle.machine.proofs.Disjunctions.{any-is, is-any, or-first, or-second}
+use Rattle.buffer.proofs.Disjunctions.{any-is, or-first, or-second}
+use Rattle.buffer.proofs.Kept.{any-at}
 use Rattle.machine.proofs.GoodLaws.{GoodKernel, good-kernel-is, good-process-at, is-good-kernel}
 use Rattle.machine.proofs.GoodRecords.{GoodFile, GoodLive, Opened, ended-good, good-live-of, good-process-is, live-good, open-in-is, program-is}
 use Rattle.machine.proofs.Slots.{live-inside}
@@ -38,7 +39,7 @@ module _ (test : Entry → Bool) (disc : List ℕ) where
 
   pub is-listed : (i : ℕ) → i < fileCount disc → test (entryAt disc i) ≡ true → any test (files disc) ≡ true
   is-listed i h t =
-      is-any test (entryAt disc 0) (files disc) i (subst (λ (n : ℕ). i < n) (sym (tab-length (entryAt disc) (fileCount disc))) h)
+      any-at test (files disc) i (entryAt disc 0) (subst (λ (n : ℕ). i < n) (sym (tab-length (entryAt disc) (fileCount disc))) h)
       (subst (λ (e : Entry). test e ≡ true) (sym (tab-at (entryAt disc) (fileCount disc) i (entryAt disc 0) h)) t)
 
 -- ---- the program and the open file of a process as files of the disc

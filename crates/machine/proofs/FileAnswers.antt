@@ -37,7 +37,7 @@ use Rattle.machine.specs.declared.OpenFile.{OpenFile}
 use Rattle.machine.specs.declared.Process.{Process}
 use Rattle.machine.proofs.Carrying.{ends-here, goes-on}
 use Rattle.machine.proofs.Change.{GoodState, nothing, enters, moves, Change, acts, writes}
-use Rattle.machine.proofs.Disjunctions.{is-any}
+use Rattle.buffer.proofs.Kept.{any-at}
 use Rattle.machine.proofs.GoodRecords.{GoodFile, Opened, is-open-in}
 use Rattle.machine.proofs.Directories.{live-record}
 use Rattle.machine.proofs.LiveRecords.{running-live}
@@ -61,7 +61,7 @@ module _ (k : Kernel) (slot : ℕ) (disc : List ℕ) where
 -- ---- files as a process has them open
 -- one of the directory, from its start
 entry-opened : (disc : List ℕ) (i n s : ℕ) → i < fileCount disc → entryAt disc i .start ≡ s → entryAt disc i .len ≡ n → 1 ≤ n → Opened (files disc) (opened (runFrom s n))
-entry-opened disc i n s h e m some = record { some = λ z. omega arith; offset = omega arith; listed = is-any (isOpenIn f) (entryAt disc 0) (files disc) i (omega (arith, tab-length (entryAt disc) (fileCount disc))) here }
+entry-opened disc i n s h e m some = record { some = λ z. omega arith; offset = omega arith; listed = any-at (isOpenIn f) (files disc) i (entryAt disc 0) (omega (arith, tab-length (entryAt disc) (fileCount disc))) here }
   where
     f : OpenFile
     f = opened (runFrom s n)

@@ -14,7 +14,7 @@ use Rattle.machine.specs.GoodArea.{goodFile, goodId, goodLive, goodProce
 use Rattle.machine.specs.State.{isLive, noLoop}
 use Rattle.machine.specs.declared.OpenFile.{OpenFile}
 use Rattle.machine.specs.declared.Process.{Process}
-use Rattle.machine.proofs.Disjunctions.{or-cases, or-first, or-second}
+use Rattle.buffer.proofs.Disjunctions.{or-cases, or-first, or-second}
 
 -- ---- the numbers of a live record
 pub record GoodRegisters (p : Process) : Type 0 where

@@ -12,7 +12,7 @@ use Rattle.number.specs.Instruction.{operatorOf}
 use Rattle.number.specs.declared.operators.Operator.{Operator}
 use Rattle.number.specs.declared.operators.Operator.the-variants.{OfOne, OfTwo, NotAnOperator}
 use Rattle.machine.specs.Instruction.{Instruction, Reach, literal, stringLiteral, setVariable, getVariable, operate, delayUntil, millis, print, jumpIf, endIf, while, endWhile, loop, endLoop, stop, reach, unknown, openFile, closeFile, writeFile, readString, fork, waitUntilDone, readNumber, find, instructionOf, operatorOr, others}
-use Rattle.machine.proofs.Disjunctions.{or-cases}
+use Rattle.buffer.proofs.Disjunctions.{or-cases}
 
 -- Document 01, appendix C: 53 OPEN to 59 READSTRING, 68 FORK, 69 WAITUNTILDONE
 abbrev pub reaching : ℕ → Bool

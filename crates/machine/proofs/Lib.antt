@@ -1,5 +1,3 @@
--- tests as facts
-pub mod Disjunctions
 -- bytes and state: what is written is read back
 pub mod Sizes
 pub mod FixedWidth
@@ -59,7 +57,11 @@ pub mod Room
 pub mod OwnInputs
 pub mod Stepping
 pub mod Chains
+pub mod RoundParts
 pub mod RoundEvents
+pub mod Runs
+pub mod FreshStart
+pub mod AnyBuffers
 pub mod Isolated
 -- the bench cases and the misreadings
 pub mod BenchCases

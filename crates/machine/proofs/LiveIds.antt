@@ -20,7 +20,8 @@ use Rattle.machine.specs.State.{isLive, liveIds, noProcess, processAt, s
 use Rattle.machine.specs.declared.Kernel.{Kernel}
 use Rattle.machine.specs.declared.Process.{Process}
 use Rattle.machine.proofs.Change.{GoodState}
-use Rattle.machine.proofs.Disjunctions.{any-is, is-any}
+use Rattle.buffer.proofs.Disjunctions.{any-is}
+use Rattle.buffer.proofs.Kept.{any-at}
 use Rattle.machine.proofs.GoodLaws.{good-kernel-is}
 use Rattle.machine.proofs.Slots.{live-inside, slot-none}
 
@@ -41,7 +42,7 @@ module _ (k : Kernel) (i : ℕ) where
   pub is-live-id : (s : ℕ) → isLive (processAt k s) ≡ true → processAt k s .id ≡ i → any (eqb i) (liveIds k) ≡ true
   is-live-id s h e =
       any-kept (eqb i) (λ p. p .id) isLive (k .processes)
-      ∙ is-any lives noProcess (k .processes) s (live-inside k s h) (and-both h (eq-eqb i (processAt k s .id) (sym e)))
+      ∙ any-at lives (k .processes) s noProcess (live-inside k s h) (and-both h (eq-eqb i (processAt k s .id) (sym e)))
 
   pub live-id-is : any (eqb i) (liveIds k) ≡ true → (s : ℕ) × (isLive (processAt k s) ≡ true) × (processAt k s .id ≡ i)
   live-id-is t =

@@ -16,7 +16,7 @@ use Rattle.machine.specs.declared.Kernel.{Kernel}
 use Rattle.machine.specs.declared.Process.{Process}
 use Rattle.machine.proofs.Change.{GoodState}
 use Rattle.machine.proofs.Directories.{live-record, program-at}
-use Rattle.machine.proofs.Disjunctions.{or-first}
+use Rattle.buffer.proofs.Disjunctions.{or-first}
 use Rattle.machine.proofs.Sound.{Within}
 
 pub running-live : (p : Process) → isRunning p ≡ true → isLive p ≡ true

@@ -21,7 +21,7 @@ use Rattle.machine.specs.declared.Kernel.{Kernel}
 use Rattle.machine.proofs.Begins.{starting-begins}
 use Rattle.machine.proofs.Change.{GoodState, Outside, nothing, enters, stores, erases, begins}
 use Rattle.machine.proofs.Directories.{Again, files-good}
-use Rattle.machine.proofs.Disjunctions.{is-any}
+use Rattle.buffer.proofs.Kept.{any-at}
 use Rattle.machine.proofs.Slots.{live-inside}
 use Rattle.machine.proofs.StartKept.{started-good}
 
@@ -40,7 +40,7 @@ module _ {k : Kernel} {disc title : List ℕ} (g : GoodState k disc) where
 -- ---- erase: "11 a live process runs it or has it open"
 used-is-in-use : (k : Kernel) (e : Entry) (s : ℕ) → uses e (processAt k s) ≡ true → inUse k e ≡ true
 unfolding inUse
-used-is-in-use k e s u = is-any (uses e) noProcess (k .processes) s (live-inside k s (and-left (isLive (processAt k s)) _ u)) u
+used-is-in-use k e s u = any-at (uses e) (k .processes) s noProcess (live-inside k s (and-left (isLive (processAt k s)) _ u)) u
 
 pub erased-state-good : {k : Kernel} {disc : List ℕ} → GoodState k disc → (i : ℕ) → i < fileCount disc → inUse k (entryAt disc i) ≡ false → GoodState k (erased disc i)
 erased-state-good {k} {disc} g i h unused = files-good (erased disc i) g (erased-length (present disc (g .sound) i h)) (erased-good disc (g .sound) i h) again

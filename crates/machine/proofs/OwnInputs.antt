@@ -28,7 +28,7 @@ use Rattle.machine.specs.declared.Kernel.{Kernel}
 use Rattle.machine.specs.declared.Process.{Process}
 use Rattle.machine.proofs.Change.{GoodState}
 use Rattle.machine.proofs.Commanding.{command-own}
-use Rattle.machine.proofs.Disjunctions.{or-cases}
+use Rattle.buffer.proofs.Disjunctions.{or-cases}
 use Rattle.machine.proofs.Executing.{exec-quiet}
 use Rattle.machine.proofs.Following.{Agrees, Follows, Tracks, on, off, own-effect, own-ends, own-exec, own-goes, own-sets, own-state}
 use Rattle.machine.proofs.Gone.{Gone}

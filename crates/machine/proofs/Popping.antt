@@ -19,7 +19,7 @@ use Rattle.store.specs.Name.{trimmed, unlessZero}
 use Rattle.variable.specs.Good.{goodSize}
 use Rattle.machine.specs.Effect.{number, printed}
 use Rattle.machine.specs.Stack.{Item, Popped, popped, cannot, aNumber, aString, aValue, pop, popNumber, popString, stringKind, unlessFault, wellFormed}
-use Rattle.machine.proofs.Disjunctions.{or-cases}
+use Rattle.buffer.proofs.Disjunctions.{or-cases}
 
 pub trimmed-short : (l : List ℕ) → length (trimmed l) ≤ length l
 unfolding trimmed

@@ -16,7 +16,7 @@ use Rattle.machine.specs.GoodArea.{goodKernel, goodProcess, otherId}
 use Rattle.machine.specs.State.{isLive, liveIds, noProcess, processAt, slotOf, withProcess}
 use Rattle.machine.specs.declared.Kernel.{Kernel}
 use Rattle.machine.specs.declared.Process.{Process}
-use Rattle.machine.proofs.DistinctIds.{pairs-each}
+use Rattle.buffer.proofs.Lists.{pairs-each}
 use Rattle.machine.proofs.GoodLaws.{good-process-at, is-other-id, one-of-id}
 use Rattle.machine.proofs.LiveIds.{is-live-id, live-id-is}
 use Rattle.machine.proofs.Slots.{live-inside, slot-none, slot-nowhere}

@@ -1,12 +1,12 @@
 -- "A SET lacks space where fault 10 is defined for it": where it does not, the kernel finds a place.
 use Prim.Native.Nat.{ℕ, _≤_}
 use mathlib.Core.Path.{_≡_, refl, subst}
-use mathlib.Core.Bool.{Bool, true, false, not}
-use mathlib.Core.List.{List, [], _∷_, map}
+use mathlib.Core.Bool.{true, false, not}
+use mathlib.Core.List.{List, map}
 use lib.Dec.{leb}
 use lib.ListN.{length}
 use borrow.Author.Tests.{le-leb}
-use Rattle.buffer.specs.Lists.{any, keep, tab}
+use Rattle.buffer.specs.Lists.{keep, tab}
 use Rattle.buffer.proofs.Bools.{not-is-true, true-not-false}
 use Rattle.place.specs.Place.{fits}
 use Rattle.variable.specs.Assign.{assigned}
@@ -19,13 +19,7 @@ use Rattle.variable.specs.declared.Variables.{Variables}
 use Rattle.variable.proofs.Freeing.{freed-counted}
 use Rattle.variable.proofs.Setting.{assigned-no-entry, assigned-no-run}
 use Rattle.machine.specs.Suppositions.{lacksSpace}
-use Rattle.machine.proofs.Disjunctions.{or-first, or-second}
-
--- no element, no place
-none-any : {A : Type 0} (p : A → Bool) (l : List A) → ((x : A) → p x ≡ false) → any p l ≡ false
-unfolding any
-none-any p [] h = refl
-none-any p (x ∷ l) h = rw (h x) (none-any p l h)
+use Rattle.buffer.proofs.Disjunctions.{any-none, or-first, or-second}
 
 module _ (v : Variables) (name i : ℕ) (x : Value) where
   others : List Variable
@@ -48,4 +42,4 @@ module _ (v : Variables) (name i : ℕ) (x : Value) where
           let runs : freed v (isOf name i) .count ≡ length others = freed-count-is in
           let none : (a : ℕ) → fits (map runOf others) 0 256 (x .size) a ≡ false = λ a.
           subst (λ (l : List Variable). fits (map runOf l) 0 256 (x .size) a ≡ false) (freed-counted v (isOf name i)) (assigned-no-run v name i x e a) in
-          absurd (true-not-false (or-second (leb 25 (length others)) (not-is-true (none-any (fits (map runOf others) 0 256 (x .size)) (tab (λ a. a) 257) none))) h)
+          absurd (true-not-false (or-second (leb 25 (length others)) (not-is-true (any-none (fits (map runOf others) 0 256 (x .size)) (tab (λ a. a) 257) none))) h)

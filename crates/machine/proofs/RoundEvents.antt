@@ -17,7 +17,7 @@ use Rattle.machine.specs.Operations.{turnsOf}
 use Rattle.machine.specs.Trace.{Event, IsItsEvents, Storage, lending, tenSlots, textOf, turnEvents}
 use Rattle.machine.specs.Turn.{Turned}
 use Rattle.machine.proofs.Area.{kernel-encode-decode}
-use Rattle.machine.proofs.Chains.{Parts, Whole, turn-parts}
+use Rattle.machine.proofs.RoundParts.{Parts, Whole, turn-parts}
 use Rattle.machine.proofs.GoodCalls.{area-length}
 use Rattle.machine.proofs.Rounds.{round-done, round-passed}
 

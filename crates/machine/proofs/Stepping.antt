@@ -9,7 +9,7 @@ use lib.Dec.{eqb, leb}
 use lib.ListN.{length}
 use borrow.Author.Tests.{eq-eqb, eqb-false, eqb-true, lt-ltb, ne-eqb}
 use Rattle.buffer.specs.declared.Found.{Found}
-use Rattle.buffer.proofs.Bools.{and-both, not-true-is-false, true-not-false}
+use Rattle.buffer.proofs.Bools.{and-false-right, and-both, true-not-false}
 use Rattle.variable.specs.Table.{Cell, owned}
 use Rattle.machine.specs.Answer.{Answer, Buffers, Call, store, retrieve, erase, run, files, freeSpace, list, command, turn, round, answer}
 use Rattle.machine.specs.Area.{kernelOf}
@@ -26,7 +26,7 @@ use Rattle.machine.specs.declared.Process.{Process}
 use Rattle.machine.proofs.CallEffects.{Apart, Effects, isRound, call-effects, effects-gone, effects-spare}
 use Rattle.machine.proofs.Change.{GoodState}
 use Rattle.machine.proofs.ChangeKept.{NoWriteInto, no-place}
-use Rattle.machine.proofs.Disjunctions.{or-first, or-second}
+use Rattle.buffer.proofs.Disjunctions.{or-false-left, or-false-right}
 use Rattle.machine.proofs.Following.{Follows, Holds, Tracks, on, off}
 use Rattle.machine.proofs.GoodCalls.{passes-good}
 use Rattle.machine.proofs.LiveRecords.{running-live}
@@ -67,16 +67,6 @@ spared-follows {i} {prog} {k} {j} {disc} {after} {q} x u =
       runs = ap (programOf after) (u .process) ∙ u .program ∙ x .runs;
       holds = holds-as (u .process) (subst (λ (id : ℕ). owned (j .variables) id ≡ owned (k .variables) id) (x .named) (u .variables)) (x .holds);
     }
-
--- ---- tests joined by `||` that are false
-or-false-left : (a b : Bool) → a || b ≡ false → a ≡ false
-or-false-left a b h = not-true-is-false a (λ t. true-not-false (or-first b t) h)
-
-or-false-right : (a b : Bool) → a || b ≡ false → b ≡ false
-or-false-right a b h = not-true-is-false b (λ t. true-not-false (or-second a t) h)
-
-and-false-right : (a b : Bool) → a ≡ true → a && b ≡ false → b ≡ false
-and-false-right a b t h = not-true-is-false b (λ u. true-not-false (and-both t u) h)
 
 -- the two halves of "undisturbed": the own turn, and another's
 own-half : (same barred lacks lands : Bool) → same ≡ true → (same && (barred || lacks)) || (not same && lands) ≡ false → (barred ≡ false) × (lacks ≡ false)

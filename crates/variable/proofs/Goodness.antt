@@ -1,9 +1,9 @@
 -- Good variables: what the test says, and that freeing and setting keep it.
 use Prim.Native.Nat.{ℕ, _+_, _≤_, _<_}
 use mathlib.Core.Path.{_≡_, refl, sym, subst, _∙_}
-use mathlib.Core.Bool.{Bool, true, false, _&&_, _||_, not}
+use mathlib.Core.Bool.{Bool, true, false, _&&_, not}
 use mathlib.Core.List.{List, [], _∷_}
-use mathlib.Core.Logic.{_⊎_, inl, inr, ⊎-elim}
+use mathlib.Core.Logic.{_⊎_, ⊎-elim}
 use native.Mathlib.Omega.{arith}
 use lib.Dec.{eqb, leb}
 use lib.ListN.{length, getD}
@@ -12,6 +12,7 @@ use borrow.Author.Tests.{eqb-false, eqb-true, le-leb, leb-true, not-true}
 use Rattle.buffer.specs.Buffer.{part}
 use Rattle.buffer.specs.Lists.{all, any, pairs}
 use Rattle.buffer.specs.declared.Found.the-variants.{At}
+use Rattle.buffer.proofs.Disjunctions.{or-cases}
 use Rattle.buffer.proofs.Bools.{and-both, and-left, and-right}
 use Rattle.buffer.proofs.Kept.{all-kept, keep-all, pairs-keep}
 use Rattle.buffer.proofs.Lists.{all-at, all-snoc, pairs-snoc}
@@ -31,10 +32,6 @@ use Rattle.variable.proofs.Setting.{assigned-keeps, place-address}
 use Rattle.variable.proofs.Views.{find-found}
 
 -- ---- what the tests say
-or-cases : (a b : Bool) → a || b ≡ true → (a ≡ true) ⊎ (b ≡ true)
-or-cases true b h = inl refl
-or-cases false b h = inr h
-
 pub good-size-bounds : (kind size : ℕ) → goodSize kind size ≡ true → (1 ≤ size) × (size ≤ 30)
 unfolding goodSize
 good-size-bounds kind size h =
