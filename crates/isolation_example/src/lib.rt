@@ -1,5 +1,4 @@
 // Demand 3 is not empty: two runs in which all that it supposes holds.
-use machine::Kernel;
 ghost use Rattle.isolation_example.specs.Example.{Example};
 
 // The runs, what they are fed, and that what is observed is alike.

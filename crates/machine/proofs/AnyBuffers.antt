@@ -16,7 +16,6 @@ use Rattle.machine.specs.Refusals.{Passes}
 use Rattle.machine.specs.State.{slotOf}
 use Rattle.machine.specs.Trace.{Event, Invocation, Storage, answerOf, event, events, eventsBy, lending, onlyIf, roundEvents, storageOf, textOf}
 use Rattle.machine.specs.declared.Kernel.{Kernel}
-
 use Rattle.machine.proofs.Chains.{Chain}
 use Rattle.machine.proofs.FreshStart.{given-is}
 use Rattle.machine.proofs.Runs.{chain-of}

@@ -27,7 +27,6 @@ use Rattle.machine.proofs.ChangeKept.{no-place}
 use Rattle.machine.proofs.Following.{Follows, Holds, Tracks, on}
 use Rattle.machine.proofs.GoodCalls.{passes-good}
 use Rattle.machine.proofs.Stepping.{Reports}
-
 use Rattle.machine.proofs.Chains.{Genuine}
 
 some-is : {l m : List ℕ} → some l ≡ some m → l ≡ m

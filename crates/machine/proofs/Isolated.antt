@@ -17,7 +17,6 @@ use Rattle.machine.specs.Trace.{Event, Invocation, Storage, events}
 use Rattle.machine.specs.declared.Kernel.{Kernel}
 use Rattle.machine.proofs.Following.{Tracks}
 use Rattle.machine.proofs.Stepping.{Keeps, step}
-
 use Rattle.machine.proofs.Chains.{Chain, Genuine}
 use Rattle.machine.proofs.FreshStart.{begins}
 use Rattle.machine.proofs.AnyBuffers.{Linked, from-start, linked-of}

@@ -18,7 +18,6 @@ use Rattle.machine.specs.Turn.{Turned, turned}
 use Rattle.machine.specs.declared.Kernel.{Kernel}
 use Rattle.machine.proofs.GoodCalls.{good-back, good-kept, passes-good, turn-good}
 use Rattle.machine.proofs.Rounds.{turn-not-running, turn-running}
-
 use Rattle.machine.proofs.Chains.{Leads}
 
 -- ---- the turns of a round

@@ -16,7 +16,6 @@ use Rattle.machine.specs.Turn.{Turned}
 use Rattle.machine.specs.declared.Kernel.{Kernel}
 use Rattle.machine.proofs.GoodCalls.{good-back, good-kept, passes-good, turns-good}
 use Rattle.machine.proofs.Rounds.{round-done}
-
 use Rattle.machine.proofs.Chains.{Chain, Leads, leads-on, one-event, short-round, turn-leads}
 use Rattle.machine.proofs.RoundParts.{turn-parts}
 
