@@ -1,6 +1,6 @@
 -- A run from any buffers: until they are good every call leaves the work area, so that nothing is started; from then on its events form a chain.
 use Prim.Native.Nat.{ℕ, suc}
-use mathlib.Core.Path.{_≡_, refl, ap, subst, subst⁻¹, _∙_}
+use mathlib.Core.Path.{_≡_, refl, sym, ap, subst, subst⁻¹, _∙_}
 use mathlib.Core.Bool.{Bool, true, false, _&&_}
 use mathlib.Core.List.{List, [], _∷_, _++_}
 use mathlib.Core.Logic.{_⊎_, inl, inr}
@@ -14,10 +14,11 @@ use Rattle.machine.specs.Area.{isAreaLength, kernelOf}
 use Rattle.machine.specs.Isolation.{givesOut}
 use Rattle.machine.specs.Refusals.{Passes}
 use Rattle.machine.specs.State.{slotOf}
-use Rattle.machine.specs.Trace.{Event, Invocation, Storage, answerOf, event, events, eventsBy, lending, onlyIf, roundEvents, storageOf, textOf}
+use Rattle.machine.specs.Trace.{Event, Invocation, Storage, answerOf, event, events, eventsBy, lending, onlyIf, roundEvents, storageOf, outputText}
 use Rattle.machine.specs.declared.Kernel.{Kernel}
 use Rattle.machine.proofs.Chains.{Chain}
 use Rattle.machine.proofs.FreshStart.{given-is}
+use Rattle.machine.proofs.Slots.{place-is-slot}
 use Rattle.machine.proofs.Runs.{chain-of}
 
 -- ---- before the start the buffers may be anything: a call on buffers that are not good leaves the work area
@@ -33,7 +34,7 @@ linked k disc (e ∷ es) c = inr (refl, refl, c .2, c .3, c .4)
 pub from-start : (i : ℕ) (earlier : List Event) (e : Event) (es : List Event) → givesOut i e ≡ true → Linked (earlier ++ (e ∷ es)) → Chain (kernelOf (e .before .area)) (e .before .disc) (e ∷ es)
 unfolding Linked Chain
 from-start i [] e es gives (inr c) = c
-from-start i [] e es gives (inl c) = let g = given-is i e gives in absurd (g .1 (ap (λ (area : List ℕ). slotOf (kernelOf area) i) (c .0) ∙ g .0))
+from-start i [] e es gives (inl c) = let g = given-is i e gives in absurd (g .1 (place-is-slot (e .after) i ∙ ap (λ (area : List ℕ). slotOf (kernelOf area) i) (c .0) ∙ sym (place-is-slot (e .before) i) ∙ g .0))
 from-start i (y ∷ ys) e es gives (inl c) = from-start i ys e es gives (c .1)
 from-start i (y ∷ ys) e es gives (inr c) = from-start i ys e es gives (linked (kernelOf (y .after .area)) (y .after .disc) (ys ++ (e ∷ es)) (c .4))
 
@@ -77,10 +78,10 @@ module _ (s : Storage) (out : List ℕ) (bad : Passes (s .disc) (s .area) → �
   bad-linked (command c id) = bad-event (command c id) _ []
   bad-linked (turn slot clock) = go (leb 32 (length out))
     where
-      go : (f : Bool) → Linked (onlyIf f (event (turn slot clock) s (answer (turn slot clock) b) (textOf (answer (turn slot clock) b))) ++ later)
+      go : (f : Bool) → Linked (onlyIf f (event (turn slot clock) s (answer (turn slot clock) b) (outputText (answer (turn slot clock) b))) ++ later)
       go true = bad-event (turn slot clock) _ _
       go false = l
-  bad-linked (round clock) = subst⁻¹ (λ (a : Answer). Linked (roundEvents (a .number) clock s (textOf a) ++ later)) (bad-refused b _ bad .1) l
+  bad-linked (round clock) = subst⁻¹ (λ (a : Answer). Linked (roundEvents (a .number) clock s (outputText a) ++ later)) (bad-refused b _ bad .1) l
 
 pub linked-of : (calls : List Invocation) (s : Storage) → Linked (events calls s)
 unfolding events Linked

@@ -8,7 +8,7 @@ use lib.ListN.{length}
 use Rattle.machine.specs.Answer.{Answer, Call, turn, round, answer, refused}
 use Rattle.machine.specs.Area.{kernelOf}
 use Rattle.machine.specs.Refusals.{Passes}
-use Rattle.machine.specs.Trace.{Event, Storage, event, lending, onlyIf, textOf}
+use Rattle.machine.specs.Trace.{Event, Storage, event, lending, onlyIf, outputText}
 use Rattle.machine.specs.declared.Kernel.{Kernel}
 use Rattle.machine.proofs.Stepping.{Reports}
 
@@ -55,13 +55,13 @@ module _ (s : Storage) (out : List ℕ) (passes : Passes (s .disc) (s .area)) wh
   short-round clock h = rw (passes .sizes, passes .disc-good, passes .area-good, h)
 
   pub turn-leads : (slot clock : ℕ)
-      → Leads k (s .disc) (onlyIf (leb 32 (length out)) (event (turn slot clock) s (answer (turn slot clock) (lending s out)) (textOf (answer (turn slot clock) (lending s out)))))
+      → Leads k (s .disc) (onlyIf (leb 32 (length out)) (event (turn slot clock) s (answer (turn slot clock) (lending s out)) (outputText (answer (turn slot clock) (lending s out)))))
       (kernelOf (answer (turn slot clock) (lending s out) .area)) (answer (turn slot clock) (lending s out) .disc)
   unfolding Leads
   turn-leads slot clock = go (leb 32 (length out)) refl
     where
       go : (f : Bool) → leb 32 (length out) ≡ f
-          → Leads k (s .disc) (onlyIf f (event (turn slot clock) s (answer (turn slot clock) (lending s out)) (textOf (answer (turn slot clock) (lending s out)))))
+          → Leads k (s .disc) (onlyIf f (event (turn slot clock) s (answer (turn slot clock) (lending s out)) (outputText (answer (turn slot clock) (lending s out)))))
           (kernelOf (answer (turn slot clock) (lending s out) .area)) (answer (turn slot clock) (lending s out) .disc)
       go true h = one-event (turn slot clock) _ (h, refl)
       go false h =

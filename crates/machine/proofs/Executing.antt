@@ -18,7 +18,7 @@ use Rattle.variable.specs.Table.{Cell}
 use Rattle.machine.specs.Effect.{Effect, goes, assigns, stops, faults, asks, Request, number, printed, newline, clockInt}
 use Rattle.machine.specs.Exec.{exec, performs, reaches, withArguments}
 use Rattle.machine.specs.Instruction.{Instruction, Reach, literal, stringLiteral, setVariable, getVariable, operate, delayUntil, millis, print, jumpIf, endIf, while, endWhile, loop, endLoop, stop, reach, unknown, openFile, closeFile, writeFile, readString, fork, waitUntilDone, readNumber, instructionOf}
-use Rattle.machine.specs.Stack.{aNumber, aString, aValue, textOf}
+use Rattle.machine.specs.Stack.{aNumber, aString, aValue, stringText}
 use Rattle.machine.specs.State.{Local}
 use Rattle.machine.proofs.EffectParts.{Does, instructionByte, unless-does, either-does, popped-does, cell-does, operates-does, settle-does, onward-does}
 use Rattle.machine.proofs.InstructionBytes.{reaching, isByteOf, asksBy, instruction-asks-by, reads-by}
@@ -50,7 +50,7 @@ module _ (prog : List ℕ) (clock : ℕ) (l : Local) (pc : ℕ) (inside : pc ≤
   reaches-does readString a h = (a, λ w. (eqb-true _ _ h, on-within (l .stack) (omega arith) w))
   reaches-does fork a h =
       popped-does prog l aString (l .stack) _ λ name rest e t.
-      (a, λ w. (eqb-true _ _ h, sym (ap textOf e), omega (arith, string-lay (l .stack) name rest t, w .stack), on-within rest (omega (arith, t .lay)) w))
+      (a, λ w. (eqb-true _ _ h, sym (ap stringText e), omega (arith, string-lay (l .stack) name rest t, w .stack), on-within rest (omega (arith, t .lay)) w))
   reaches-does waitUntilDone a h = popped-does prog l aNumber (l .stack) _ λ x rest e t. (a, λ w. (eqb-true _ _ h, refl, on-within rest (omega (arith, t .lay)) w))
 
   performs-does : (i : Instruction) (own : List Cell) → asksBy (instructionByte prog l) i ≡ true → Does prog l (performs prog clock i l pc own)

@@ -4,20 +4,18 @@ use mathlib.Core.Path.{_≡_, refl, sym, ap, subst, subst⁻¹, _∙_}
 use mathlib.Core.Bool.{true, false, _&&_, not}
 use mathlib.Core.List.{List}
 use mathlib.Core.Logic.{_⊎_, inl, inr}
-use mathlib.Core.Option.{Option, none, some}
 use Rattle.buffer.specs.declared.Found.{Found}
 use Rattle.buffer.specs.declared.Found.the-variants.{At, Nowhere}
 use Rattle.buffer.proofs.Bools.{true-not-false}
 use Rattle.variable.specs.Table.{owned}
-use Rattle.store.specs.Directory.{lookup}
 use Rattle.machine.specs.Answer.{Answer, Call, store, retrieve, erase, run, files, freeSpace, list, command, turn, round, answer}
 use Rattle.machine.specs.Area.{kernelOf}
-use Rattle.machine.specs.Isolation.{contentsAt, givesOut, isLiveIn, startName}
+use Rattle.machine.specs.Isolation.{contentsAt, fileNamed, givesOut, isLiveIn, startName}
 use Rattle.machine.specs.Observation.{placeIn}
 use Rattle.machine.specs.Refusals.{Passes}
 use Rattle.machine.specs.Single.{fresh}
 use Rattle.machine.specs.State.{isLive, slotOf}
-use Rattle.machine.specs.Trace.{Event, Storage, lending}
+use Rattle.machine.specs.Trace.{Event, Storage, lending, storageOf}
 use Rattle.machine.specs.Turn.{programOf}
 use Rattle.machine.specs.declared.Kernel.{Kernel}
 use Rattle.machine.specs.declared.Process.{Process}
@@ -27,14 +25,8 @@ use Rattle.machine.proofs.ChangeKept.{no-place}
 use Rattle.machine.proofs.Following.{Follows, Holds, Tracks, on}
 use Rattle.machine.proofs.GoodCalls.{passes-good}
 use Rattle.machine.proofs.Stepping.{Reports}
+use Rattle.machine.proofs.Slots.{place-is-slot}
 use Rattle.machine.proofs.Chains.{Genuine}
-
-some-is : {l m : List ℕ} → some l ≡ some m → l ≡ m
-some-is {l} e = ap valueOr e
-  where
-    valueOr : Option (List ℕ) → List ℕ
-    valueOr none = l
-    valueOr (some x) = x
 
 pub given-is : (i : ℕ) (e : Event) → givesOut i e ≡ true → (placeIn (e .before) i ≡ Nowhere) × (placeIn (e .after) i ≡ Nowhere → ⊥)
 unfolding givesOut
@@ -59,23 +51,23 @@ not-round (turn slot clock) out a text r = refl
 not-round (round clock) out a text r = absurd r
 
 -- "Start: running, no loop, no variables, the rest 0."
-begun-follows : (name : List ℕ) (i : ℕ) (disc : List ℕ) (j : Kernel) (after prog : List ℕ) → Begun name i disc j after → contentsAt (lookup disc name) disc ≡ some prog → Follows i prog j after fresh
+begun-follows : (name : List ℕ) (i : ℕ) (disc : List ℕ) (j : Kernel) (after prog : List ℕ) → Begun name i disc j after → fileNamed disc name ≡ prog → Follows i prog j after fresh
 begun-follows name i disc j after prog b program =
     record {
       slot = b .slot;
       live = ap isLive (b .process);
       named = ap (λ (p : Process). p .id) (b .process);
-      runs = (λ z. programOf (b .same-disc z) (b .process z)) ∙ some-is (ap (λ (f : Found). contentsAt f disc) (sym (b .found)) ∙ program);
+      runs = (λ z. programOf (b .same-disc z) (b .process z)) ∙ ap (λ (f : Found). contentsAt f disc) (sym (b .found)) ∙ program;
       holds = subst⁻¹ (λ (p : Process). Holds p (owned (j .variables) i) fresh) (b .process)
           (record { sp = refl; stack = refl; pc = refl; loop = refl; state = refl; fault = refl; cells = b .variables });
     }
 
 pub begins : (i : ℕ) (prog : List ℕ) (e : Event) → Genuine e → Passes (e .before .disc) (e .before .area) → givesOut i e ≡ true
-    → contentsAt (lookup (e .before .disc) (startName (e .call) (e .before))) (e .before .disc) ≡ some prog
+    → fileNamed (e .before .disc) (startName (e .call) (e .before)) ≡ prog
     → Tracks i prog (kernelOf (e .after .area)) (e .after .disc) fresh
 begins i prog e g passes gives program =
     subst⁻¹ (λ (f : Event). Tracks i prog (kernelOf (f .after .area)) (f .after .disc) fresh) (g .same)
-    (go (effects-begun (passes-good (s .disc) (s .area) passes) i (e .call) (known .0) (call-effects s (g .out) passes (e .call) (not-round (e .call) (g .out) a (e .text) (g .reports)))))
+    (go (effects-begun (passes-good (s .disc) (s .area) passes) i (e .call) (sym (place-is-slot s i) ∙ known .0) (call-effects s (g .out) passes (e .call) (not-round (e .call) (g .out) a (e .text) (g .reports)))))
   where
     s : Storage
     s = e .before
@@ -87,5 +79,5 @@ begins i prog e g passes gives program =
     known = given-is i e gives
 
     go : (slotOf (kernelOf (a .area)) i ≡ Nowhere) ⊎ Begun (startName (e .call) s) i (s .disc) (kernelOf (a .area)) (a .disc) → Tracks i prog (kernelOf (a .area)) (a .disc) fresh
-    go (inl absent) = absurd (known .1 (subst⁻¹ (λ (f : Event). placeIn (f .after) i ≡ Nowhere) (g .same) absent))
+    go (inl absent) = absurd (known .1 (subst⁻¹ (λ (f : Event). placeIn (f .after) i ≡ Nowhere) (g .same) (place-is-slot (storageOf a) i ∙ absent)))
     go (inr b) = on (begun-follows (startName (e .call) s) i (s .disc) (kernelOf (a .area)) (a .disc) prog b program)

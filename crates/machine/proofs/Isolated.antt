@@ -10,9 +10,9 @@ use Rattle.buffer.proofs.Bools.{and-left, and-right, true-not-false}
 use Rattle.machine.specs.Area.{kernelOf}
 use Rattle.machine.specs.Isolation.{AsSingle, Isolation, Started}
 use Rattle.machine.specs.Suppositions.{Undisturbed, disturbedBy}
-use Rattle.machine.specs.Observation.{Observation, declined, seen, Watched, done, inputOf, inputs, isDone, next, observations, observedBy, observedOf, placeIn, singleRun, watch, watchedIf}
+use Rattle.machine.specs.Observation.{Observation, declined, seen, Watched, inputOf, inputs, isSeen, next, notRefused, observations, observedBy, observedOf, placeIn, singleRun, watch, watchedIf}
 use Rattle.machine.specs.Refusals.{Passes}
-use Rattle.machine.specs.Single.{Input, given, Response, did, refusedBy, Single, fresh, single}
+use Rattle.machine.specs.Single.{Input, Response, did, refusedBy, Single, fresh, single}
 use Rattle.machine.specs.Trace.{Event, Invocation, Storage, events}
 use Rattle.machine.specs.declared.Kernel.{Kernel}
 use Rattle.machine.proofs.Following.{Tracks}
@@ -52,7 +52,7 @@ follow i prog k disc q (e ∷ es) c t h =
     pick (some x) keeps later = λ z. keeps .0 z ∷ later (next (single prog q x) q) (keeps .1) z
 
 -- ---- what is refused changes nothing, so the single process may be fed what is not refused
-only-done : (prog : List ℕ) (q : Single) (l : List Watched) → observations l ≡ singleRun prog q (inputs l) → observations (done l) ≡ singleRun prog q (inputs (done l))
+only-done : (prog : List ℕ) (q : Single) (l : List Watched) → observations l ≡ singleRun prog q (inputs l) → observations (notRefused l) ≡ singleRun prog q (inputs (notRefused l))
 unfolding singleRun keep
 only-done prog q [] e = refl
 only-done prog q (w ∷ l) e = pick (w .observation) refl (single prog q (w .input)) refl (ap headOf e) (only-done prog (next (single prog q (w .input)) q) l (ap tailOf e))
@@ -66,11 +66,11 @@ only-done prog q (w ∷ l) e = pick (w .observation) refl (single prog q (w .inp
     tailOf (o ∷ r) = r
 
     pick : (o : Observation) → w .observation ≡ o → (r : Response) → single prog q (w .input) ≡ r → w .observation ≡ observedOf (single prog q (w .input))
-        → observations (done l) ≡ singleRun prog (next (single prog q (w .input)) q) (inputs (done l))
-        → observations (consIf (isDone o) w (done l)) ≡ singleRun prog q (inputs (consIf (isDone o) w (done l)))
+        → observations (notRefused l) ≡ singleRun prog (next (single prog q (w .input)) q) (inputs (notRefused l))
+        → observations (consIf (isSeen o) w (notRefused l)) ≡ singleRun prog q (inputs (consIf (isSeen o) w (notRefused l)))
     pick (seen x) d r f h rest = λ z. h z ∷ rest z
-    pick (declined n) d (refusedBy m) f h rest = subst (λ (s : Single). observations (done l) ≡ singleRun prog s (inputs (done l))) (ap (λ (r : Response). next r q) f) rest
-    pick (declined n) d (did text s) f h rest = absurd (true-not-false refl (ap isDone (sym (ap observedOf f) ∙ sym h ∙ d)))
+    pick (declined n) d (refusedBy m) f h rest = subst (λ (s : Single). observations (notRefused l) ≡ singleRun prog s (inputs (notRefused l))) (ap (λ (r : Response). next r q) f) rest
+    pick (declined n) d (did text s) f h rest = absurd (true-not-false refl (ap isSeen (sym (ap observedOf f) ∙ sym h ∙ d)))
 
 -- a prefix of the events
 chain-prefix : (k : Kernel) (disc : List ℕ) (es later : List Event) → Chain k disc (es ++ later) → Chain k disc es
@@ -83,8 +83,8 @@ pub one-run : (s : Storage) (calls : List Invocation) (i : ℕ) (prog : List ℕ
 unfolding Chain
 one-run s calls i prog rest x h =
     let e : Event = x .start in
-    let c = from-start i (x .earlier) e (rest ++ x .later) (x .given) (subst Linked (x .splits) (linked-of calls s)) in
-    follow i prog (kernelOf (e .after .area)) (e .after .disc) fresh rest (chain-prefix (kernelOf (e .after .area)) (e .after .disc) rest (x .later) (c .4)) (begins i prog e (c .3) (c .2) (x .given) (x .program)) h
+    let c = from-start i (x .earlier) e (rest ++ x .later) (x .gives) (subst Linked (x .splits) (linked-of calls s)) in
+    follow i prog (kernelOf (e .after .area)) (e .after .disc) fresh rest (chain-prefix (kernelOf (e .after .area)) (e .after .disc) rest (x .later) (c .4)) (begins i prog e (c .3) (c .2) (x .gives) (x .program)) h
 
 pub isolated : Isolation
 unfolding Isolation
@@ -92,4 +92,5 @@ isolated s₁ s₂ calls₁ calls₂ i₁ i₂ prog rest₁ rest₂ x₁ x₂ h�
     let p = one-run s₁ calls₁ i₁ prog rest₁ x₁ h₁ in
     let q = one-run s₂ calls₂ i₂ prog rest₂ x₂ h₂ in
     let d = only-done prog fresh (watch i₁ rest₁) p in
-    (d ∙ ap (singleRun prog fresh) same ∙ sym (only-done prog fresh (watch i₂ rest₂) q), d, p, q)
+    let e = only-done prog fresh (watch i₂ rest₂) q in
+    (d ∙ ap (singleRun prog fresh) same ∙ sym e, d, e, p, q)

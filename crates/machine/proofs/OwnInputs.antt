@@ -21,8 +21,8 @@ use Rattle.machine.specs.Observation.{seen, next, observedBy, observedOf
 use Rattle.machine.specs.Operations.{Command, suspend, resume, kill, Commanded, becomes, refused as denied, changed, commandAt, commanded}
 use Rattle.machine.specs.Refusals.{Passes}
 use Rattle.machine.specs.Single.{tick, given, Response, did, refusedBy, Single, inState, over, single, singleCommand, singleEffect}
-use Rattle.machine.specs.State.{ended, isLive, isRunning, paused, processAt, running, withProcess, withState}
-use Rattle.machine.specs.Trace.{Storage, event, lending, textOf}
+use Rattle.machine.specs.State.{slotOf, ended, isLive, isRunning, paused, processAt, running, withProcess, withState}
+use Rattle.machine.specs.Trace.{Storage, event, lending, outputText}
 use Rattle.machine.specs.Turn.{Turned, carriedOut, turned, valueOf}
 use Rattle.machine.specs.declared.Kernel.{Kernel}
 use Rattle.machine.specs.declared.Process.{Process}
@@ -36,7 +36,7 @@ use Rattle.machine.proofs.GoodCalls.{good-back, on-good, passes-good, t
 use Rattle.machine.proofs.OwnKept.{own-good}
 use Rattle.machine.proofs.Room.{room-found}
 use Rattle.machine.proofs.Rounds.{turn-not-running, turn-running}
-use Rattle.machine.proofs.Slots.{live-below-ten, slot-is}
+use Rattle.machine.proofs.Slots.{live-below-ten, place-is-slot, slot-is}
 
 module _ (i : ℕ) (prog : List ℕ) (s : Storage) (out : List ℕ) (q : Single) (passes : Passes (s .disc) (s .area)) where
   abbrev k : Kernel
@@ -57,8 +57,11 @@ module _ (i : ℕ) (prog : List ℕ) (s : Storage) (out : List ℕ) (q : Single)
     abbrev p : Process
     p = processAt k (x .slot)
 
+    slot-here : slotOf k i ≡ At (x .slot)
+    slot-here = slot-is good (x .slot) i (x .live) (x .named)
+
     here : placeIn s i ≡ At (x .slot)
-    here = slot-is good (x .slot) i (x .live) (x .named)
+    here = place-is-slot s i ∙ slot-here
 
     -- a state that is written is read back and shows the same
     answers : (c : Call) (t : Turned) (r : Response) (lent text : List ℕ) → text ≡ t .out → GoodState (t .kernel) (t .disc) → Agrees i prog (x .slot) q t r
@@ -105,7 +108,7 @@ module _ (i : ℕ) (prog : List ℕ) (s : Storage) (out : List ℕ) (q : Single)
 
       -- Document 01, single process: "a turn unless running (16)"
       pub turn-answers : leb 32 (length out) ≡ true → (isRunning p ≡ true → Sheltered)
-          → Answers (turn (x .slot) clock) (answer (turn (x .slot) clock) b) (textOf (answer (turn (x .slot) clock) b)) (single prog q (tick clock))
+          → Answers (turn (x .slot) clock) (answer (turn (x .slot) clock) b) (outputText (answer (turn (x .slot) clock) b)) (single prog q (tick clock))
       unfolding single
       turn-answers room supposed = go (isRunning p) refl
         where
@@ -121,14 +124,14 @@ module _ (i : ℕ) (prog : List ℕ) (s : Storage) (out : List ℕ) (q : Single)
           runs : (f : Bool) → isRunning p ≡ f → eqb (q .state) running ≡ f
           runs f h = subst (λ (n : ℕ). eqb n running ≡ f) (x .holds .state) h
 
-          go : (f : Bool) → isRunning p ≡ f → Answers c (answer c b) (textOf (answer c b)) (cond (eqb (q .state) running) (singleEffect q e) (refusedBy 16))
+          go : (f : Bool) → isRunning p ≡ f → Answers c (answer c b) (outputText (answer c b)) (cond (eqb (q .state) running) (singleEffect q e) (refusedBy 16))
           go true h =
-              subst⁻¹ (λ (a : Answer). Answers c a (textOf a) (cond (eqb (q .state) running) (singleEffect q e) (refusedBy 16))) (turn-running b (x .slot) clock passes room low h)
-              (subst⁻¹ (λ (f : Bool). Answers c (turnedAnswer t b) (textOf (turnedAnswer t b)) (cond f (singleEffect q e) (refusedBy 16))) (runs true h)
+              subst⁻¹ (λ (a : Answer). Answers c a (outputText a) (cond (eqb (q .state) running) (singleEffect q e) (refusedBy 16))) (turn-running b (x .slot) clock passes room low h)
+              (subst⁻¹ (λ (f : Bool). Answers c (turnedAnswer t b) (outputText (turnedAnswer t b)) (cond f (singleEffect q e) (refusedBy 16))) (runs true h)
               (answers c t (singleEffect q e) _ _ (take-at (t .out) _ (length (t .out)) refl) (turn-good k (x .slot) clock (s .disc) good h) (turn-agrees (supposed h))))
           go false h =
-              subst⁻¹ (λ (a : Answer). Answers c a (textOf a) (cond (eqb (q .state) running) (singleEffect q e) (refusedBy 16))) (turn-not-running b (x .slot) clock passes room low h)
-              (subst⁻¹ (λ (f : Bool). Answers c (refused 16 b) (textOf (refused 16 b)) (cond f (singleEffect q e) (refusedBy 16))) (runs false h)
+              subst⁻¹ (λ (a : Answer). Answers c a (outputText a) (cond (eqb (q .state) running) (singleEffect q e) (refusedBy 16))) (turn-not-running b (x .slot) clock passes room low h)
+              (subst⁻¹ (λ (f : Bool). Answers c (refused 16 b) (outputText (refused 16 b)) (cond f (singleEffect q e) (refusedBy 16))) (runs false h)
               (record { observed = refl; tracked = on x }))
 
     -- ---- a command
@@ -147,7 +150,7 @@ module _ (i : ℕ) (prog : List ℕ) (s : Storage) (out : List ℕ) (q : Single)
         → Commands c (becomes j) r
     unfolding commanded
     becomes-answers c j r e agrees =
-        let o = command-own good c i j (subst⁻¹ (λ (f : Found). commandAt f c k ≡ becomes j) here e) in
+        let o = command-own good c i j (subst⁻¹ (λ (f : Found). commandAt f c k ≡ becomes j) slot-here e) in
         answers (command c i) (record { kernel = j; disc = s .disc; out = [] }) r _ [] refl (own-good (o .0) k (s .disc) j good (o .2)) agrees
 
     -- "suspend while paused and resume while running (15)"
@@ -165,7 +168,7 @@ module _ (i : ℕ) (prog : List ℕ) (s : Storage) (out : List ℕ) (q : Single)
     unfolding answer commanded single
     command-answers c =
         subst⁻¹ (λ (a : Answer). Answers (command c i) a [] (single prog q (given c))) (on-good b _ passes)
-        (subst⁻¹ (λ (f : Found). Commands c (commandAt f c k) (single prog q (given c))) here
+        (subst⁻¹ (λ (f : Found). Commands c (commandAt f c k) (single prog q (given c))) slot-here
         (subst⁻¹ (λ (f : Bool). Commands c (commandAt (At (x .slot)) c k) (singleCommand f q c)) live-state (go c)))
       where
         go : (c : Command) → Commands c (commandAt (At (x .slot)) c k) (singleCommand false q c)

@@ -42,4 +42,4 @@ module _ (v : Variables) (name i : ℕ) (x : Value) where
           let runs : freed v (isOf name i) .count ≡ length others = freed-count-is in
           let none : (a : ℕ) → fits (map runOf others) 0 256 (x .size) a ≡ false = λ a.
           subst (λ (l : List Variable). fits (map runOf l) 0 256 (x .size) a ≡ false) (freed-counted v (isOf name i)) (assigned-no-run v name i x e a) in
-          absurd (true-not-false (or-second (leb 25 (length others)) (not-is-true (any-none (fits (map runOf others) 0 256 (x .size)) (tab (λ a. a) 257) none))) h)
+          absurd (true-not-false (or-second (leb 25 (length others)) (not-is-true (any-none (fits (map runOf others) 0 256 (x .size)) (tab (λ a. a) 256) none))) h)

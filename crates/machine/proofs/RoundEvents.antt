@@ -14,7 +14,7 @@ use Rattle.machine.specs.Answer.{Answer, Buffers, answer, round, turnedA
 use Rattle.machine.specs.Area.{AreBytes, kernelOf}
 use Rattle.machine.specs.Refusals.{Passes}
 use Rattle.machine.specs.Operations.{turnsOf}
-use Rattle.machine.specs.Trace.{Event, IsItsEvents, Storage, lending, tenSlots, textOf, turnEvents}
+use Rattle.machine.specs.Trace.{Event, IsItsEvents, Storage, lending, tenSlots, outputText, turnEvents}
 use Rattle.machine.specs.Turn.{Turned}
 use Rattle.machine.proofs.Area.{kernel-encode-decode}
 use Rattle.machine.proofs.RoundParts.{Parts, Whole, turn-parts}
@@ -23,9 +23,9 @@ use Rattle.machine.proofs.Rounds.{round-done, round-passed}
 
 -- "A done round stands for its turns in order, each printing its part of the output."
 pub round-events : (s : Storage) (out : List ℕ) (clock n : ℕ) → AreBytes (s .area) → answer (round clock) (lending s out) .number ≡ pos n
-    → IsItsEvents s out (answer (round clock) (lending s out)) (turnEvents tenSlots clock s (textOf (answer (round clock) (lending s out))))
+    → IsItsEvents s out (answer (round clock) (lending s out)) (turnEvents tenSlots clock s (outputText (answer (round clock) (lending s out))))
 unfolding all
-round-events s out clock n bytes done = subst⁻¹ (λ (a : Answer). IsItsEvents s out a (turnEvents tenSlots clock s (textOf a))) (round-done b clock (passed .0) (passed .1)) of-turns
+round-events s out clock n bytes done = subst⁻¹ (λ (a : Answer). IsItsEvents s out a (turnEvents tenSlots clock s (outputText a))) (round-done b clock (passed .0) (passed .1)) of-turns
   where
     b : Buffers
     b = lending s out
@@ -37,10 +37,10 @@ round-events s out clock n bytes done = subst⁻¹ (λ (a : Answer). IsItsEvents
     u = turnsOf tenSlots (kernelOf (s .area)) clock (s .disc)
 
     es : List Event
-    es = turnEvents tenSlots clock s (textOf (turnedAnswer u b))
+    es = turnEvents tenSlots clock s (outputText (turnedAnswer u b))
 
     p : Parts s es u
-    p = turn-parts tenSlots clock s (textOf (turnedAnswer u b)) refl (passed .0) (take-at (u .out) _ (length (u .out)) refl)
+    p = turn-parts tenSlots clock s (outputText (turnedAnswer u b)) refl (passed .0) (take-at (u .out) _ (length (u .out)) refl)
 
     whole : Whole (s .area)
     whole = kernel-encode-decode (s .area) bytes (eqb-true _ _ (area-length (passed .0)))

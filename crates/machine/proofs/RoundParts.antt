@@ -4,6 +4,7 @@ use mathlib.Core.Path.{_≡_, refl, sym, ap, subst, subst⁻¹, _∙_}
 use mathlib.Core.Bool.{Bool, true, false, cond}
 use mathlib.Core.List.{List, [], _∷_, _++_}
 use lib.Dec.{ltb}
+use lib.IntN.{pos}
 use lib.ListN.{drop, length, replicate, take, length-append}
 use lib.Seq.{drop-at, take-at}
 use Rattle.buffer.specs.Lists.{all, consIf, flat}
@@ -13,7 +14,7 @@ use Rattle.machine.specs.Area.{kernelBytes, kernelOf}
 use Rattle.machine.specs.Operations.{turnIfRunning, turnsOf}
 use Rattle.machine.specs.Refusals.{Passes}
 use Rattle.machine.specs.State.{isRunning, processAt}
-use Rattle.machine.specs.Trace.{Event, PrintsItsPart, Storage, counts, event, lastStorage, lending, storageOf, textOf, total, turnEvents}
+use Rattle.machine.specs.Trace.{Event, PrintsItsPart, Storage, counts, event, lastStorage, lending, storageOf, outputText, total, turnEvents}
 use Rattle.machine.specs.Turn.{Turned, turned}
 use Rattle.machine.specs.declared.Kernel.{Kernel}
 use Rattle.machine.proofs.GoodCalls.{good-back, good-kept, passes-good, turn-good}
@@ -26,7 +27,7 @@ record Taken (s : Storage) (slot clock : ℕ) (a : Answer) (t : Turned) : Type 0
   kernel : kernelOf (a .area) ≡ t .kernel
   disc : a .disc ≡ t .disc
   count : counts (a .number) ≡ length (t .out)
-  text : textOf a ≡ t .out
+  text : outputText a ≡ t .out
 
 abbrev lent32 : Storage → Buffers
 lent32 s = lending s (replicate 32 0)
@@ -123,19 +124,21 @@ turn-parts (slot ∷ l) clock s text low passes e =
         → Parts s (consIf f (event (turn slot clock) s a (take (counts (a .number)) text)) later) (record { kernel = rest .kernel; disc = rest .disc; out = t .out ++ rest .out })
     go true h p =
         let r : Parts (storageOf a) later rest = subst (λ (u : Turned). Parts (storageOf a) later u) onward p in
-        let own : take (counts (a .number)) text ≡ textOf a = part ∙ sym (facts .text) in
+        let own : take (counts (a .number)) text ≡ outputText a = part ∙ sym (facts .text) in
+        let done : a .number ≡ pos (counts (a .number)) =
+        subst⁻¹ (λ (b : Answer). b .number ≡ pos (counts (b .number))) (turn-running (lent32 s) slot clock passes refl here h) refl in
         record {
           leads = (refl, refl, passes, record { out = replicate 32 0; same = refl; reports = (refl, own) }, r .leads);
           texts = λ z. part z ++ r .texts z;
           sum = (λ z. facts .count z + r .sum z) ∙ sym (length-append (t .out) (rest .out));
-          parts = (own, r .parts);
+          parts = (done ∙ ap pos (facts .count ∙ sym (ap length part)), own, r .parts);
           disc = r .disc;
           area = λ whole. r .area (whole-kept s slot clock here passes whole);
         }
     go false h p =
         let r : Parts (storageOf a) later rest = subst (λ (u : Turned). Parts (storageOf a) later u) onward p in
         let refuses : a ≡ refused 16 (lent32 s) = turn-not-running (lent32 s) slot clock passes refl here h in
-        let silent : t .out ≡ [] = sym (facts .text) ∙ ap textOf refuses in
+        let silent : t .out ≡ [] = sym (facts .text) ∙ ap outputText refuses in
         let same : storageOf a ≡ s = ap storageOf refuses in
         record {
           leads = subst (λ (x : Storage). Leads (kernelOf (x .area)) (x .disc) later (rest .kernel) (rest .disc)) same (r .leads);

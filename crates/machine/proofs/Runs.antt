@@ -11,7 +11,7 @@ use Rattle.machine.specs.Answer.{Answer, Buffers, Call, store, retrieve,
 use Rattle.machine.specs.Area.{kernelOf}
 use Rattle.machine.specs.Operations.{slots, turnsOf}
 use Rattle.machine.specs.Refusals.{Passes}
-use Rattle.machine.specs.Trace.{Invocation, Storage, answerOf, events, eventsBy, lending, roundEvents, storageOf, tenSlots, textOf, turnEvents}
+use Rattle.machine.specs.Trace.{Invocation, Storage, answerOf, events, eventsBy, lending, roundEvents, storageOf, tenSlots, outputText, turnEvents}
 use Rattle.machine.specs.Turn.{Turned}
 use Rattle.machine.specs.declared.Kernel.{Kernel}
 use Rattle.machine.proofs.GoodCalls.{good-back, good-kept, passes-good, turns-good}
@@ -22,7 +22,7 @@ use Rattle.machine.proofs.RoundParts.{turn-parts}
 module _ (s : Storage) (out : List ℕ) (passes : Passes (s .disc) (s .area)) where
   -- "A done round stands for its turns in order, each printing its part of the output."
   round-leads : (clock : ℕ)
-      → Leads (kernelOf (s .area)) (s .disc) (roundEvents (answer (round clock) (lending s out) .number) clock s (textOf (answer (round clock) (lending s out))))
+      → Leads (kernelOf (s .area)) (s .disc) (roundEvents (answer (round clock) (lending s out) .number) clock s (outputText (answer (round clock) (lending s out))))
       (kernelOf (answer (round clock) (lending s out) .area)) (answer (round clock) (lending s out) .disc)
   unfolding Leads all
   round-leads clock = go (leb 320 (length out)) refl
@@ -37,13 +37,13 @@ module _ (s : Storage) (out : List ℕ) (passes : Passes (s .disc) (s .area)) wh
       b = lending s out
 
       Right : Answer → Type 0
-      Right a = Leads k (s .disc) (roundEvents (a .number) clock s (textOf a)) (kernelOf (a .area)) (a .disc)
+      Right a = Leads k (s .disc) (roundEvents (a .number) clock s (outputText a)) (kernelOf (a .area)) (a .disc)
 
       go : (f : Bool) → leb 320 (length out) ≡ f → Right (answer (round clock) b)
       go true h =
           subst⁻¹ Right (round-done b clock passes h)
-          (subst⁻¹ (λ (j : Kernel). Leads k (s .disc) (turnEvents tenSlots clock s (textOf (turnedAnswer u b))) j (u .disc)) (good-back (u .kernel) (u .disc) (turns-good slots k clock (s .disc) (passes-good (s .disc) (s .area) passes)))
-          (turn-parts tenSlots clock s (textOf (turnedAnswer u b)) refl passes (take-at (u .out) _ (length (u .out)) refl) .leads))
+          (subst⁻¹ (λ (j : Kernel). Leads k (s .disc) (turnEvents tenSlots clock s (outputText (turnedAnswer u b))) j (u .disc)) (good-back (u .kernel) (u .disc) (turns-good slots k clock (s .disc) (passes-good (s .disc) (s .area) passes)))
+          (turn-parts tenSlots clock s (outputText (turnedAnswer u b)) refl passes (take-at (u .out) _ (length (u .out)) refl) .leads))
       go false h = subst⁻¹ Right (short-round s out passes clock h) (refl, refl)
 
   call-leads : (c : Call) → Leads (kernelOf (s .area)) (s .disc) (eventsBy c out s (answer c (lending s out))) (kernelOf (answer c (lending s out) .area)) (answer c (lending s out) .disc)

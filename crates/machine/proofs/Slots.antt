@@ -12,6 +12,9 @@ use Rattle.buffer.proofs.Bools.{and-both, and-left, and-right, not-true-is-fals
 use Rattle.buffer.proofs.Lists.{index-is, index-miss}
 use Rattle.buffer.proofs.Tables.{index-at, index-none}
 use Rattle.store.specs.Directory.{files}
+use Rattle.machine.specs.Area.{kernelOf}
+use Rattle.machine.specs.Observation.{placeIn}
+use Rattle.machine.specs.Trace.{Storage}
 use Rattle.machine.specs.State.{hasId, isLive, noProcess, processAt, slotOf}
 use Rattle.machine.specs.declared.Kernel.{Kernel}
 use Rattle.machine.specs.declared.Process.{Process}
@@ -61,3 +64,8 @@ slot-is {k} {disc} g s i h e = index-is (hasId i) (k .processes) s noProcess (li
         let f = has-id-is i (processAt k t) b in
         let w : t ≡ s = one-of-id (files disc) k (g .area) t s (live-inside k t (f .0)) (live-inside k s h) (f .0) h (f .1 ∙ sym e) in
         omega arith
+
+-- the place of a live process in a run is its slot
+pub place-is-slot : (s : Storage) (i : ℕ) → placeIn s i ≡ slotOf (kernelOf (s .area)) i
+unfolding placeIn slotOf
+place-is-slot s i = refl

@@ -9,6 +9,7 @@ use lib.Dec.{eqb, leb}
 use lib.ListN.{length}
 use borrow.Author.Tests.{eq-eqb, eqb-false, eqb-true, lt-ltb, ne-eqb}
 use Rattle.buffer.specs.declared.Found.{Found}
+use Rattle.buffer.specs.declared.Found.the-variants.{At}
 use Rattle.buffer.proofs.Bools.{and-false-right, and-both, true-not-false}
 use Rattle.variable.specs.Table.{Cell, owned}
 use Rattle.machine.specs.Answer.{Answer, Buffers, Call, store, retrieve, erase, run, files, freeSpace, list, command, turn, round, answer}
@@ -19,7 +20,7 @@ use Rattle.machine.specs.Operations.{Command}
 use Rattle.machine.specs.Refusals.{Passes}
 use Rattle.machine.specs.Single.{Input, tick, given, Single, single}
 use Rattle.machine.specs.State.{isLive, isRunning, processAt}
-use Rattle.machine.specs.Trace.{Event, Storage, event, lending, textOf}
+use Rattle.machine.specs.Trace.{Event, Storage, event, lending, outputText}
 use Rattle.machine.specs.Turn.{programOf}
 use Rattle.machine.specs.declared.Kernel.{Kernel}
 use Rattle.machine.specs.declared.Process.{Process}
@@ -32,12 +33,12 @@ use Rattle.machine.proofs.GoodCalls.{passes-good}
 use Rattle.machine.proofs.LiveRecords.{running-live}
 use Rattle.machine.proofs.OwnInputs.{Answers, Sheltered, command-answers, ended-answers, turn-answers}
 use Rattle.machine.proofs.Rounds.{turn-running}
-use Rattle.machine.proofs.Slots.{live-below-ten, slot-at, slot-is}
+use Rattle.machine.proofs.Slots.{live-below-ten, place-is-slot, slot-at, slot-is}
 use Rattle.machine.proofs.Spared.{Spared}
 
 -- what an event reports of the call it is: a turn is lent enough, and its text is what stands in the lent output; a round is no event
 abbrev pub Reports : Call → List ℕ → Answer → List ℕ → Type 0
-Reports (turn slot clock) out a text = (leb 32 (length out) ≡ true) × (text ≡ textOf a)
+Reports (turn slot clock) out a text = (leb 32 (length out) ≡ true) × (text ≡ outputText a)
 Reports (command c id) out a text = text ≡ []
 Reports (round clock) out a text = ⊥
 Reports (store name bytes) out a text = Unit {0}
@@ -95,6 +96,9 @@ module _ (i : ℕ) (prog : List ℕ) (s : Storage) (out : List ℕ) (q : Single)
   good : GoodState k (s .disc)
   good = passes-good (s .disc) (s .area) passes
 
+  place-of : (x : Follows i prog k (s .disc) q) → placeIn s i ≡ At (x .slot)
+  place-of x = place-is-slot s i ∙ slot-is good (x .slot) i (x .live) (x .named)
+
   abbrev after : Call → Kernel
   after c = kernelOf (answer c b .area)
 
@@ -125,7 +129,7 @@ module _ (i : ℕ) (prog : List ℕ) (s : Storage) (out : List ℕ) (q : Single)
     a = answer (turn slot clock) b
 
     abbrev e : Event
-    e = event (turn slot clock) s a (textOf a)
+    e = event (turn slot clock) s a (outputText a)
 
     -- a turn of a running slot is done
     done : isRunning (processAt k slot) ≡ true → isDoneBy (a .number) ≡ true
@@ -135,10 +139,10 @@ module _ (i : ℕ) (prog : List ℕ) (s : Storage) (out : List ℕ) (q : Single)
     supposed : (x : Follows i prog k (s .disc) q) → isDoneBy (a .number) && turnDisturbsAt i (placeIn s i) slot clock e ≡ false → isRunning (processAt k slot) ≡ true
         → turnDisturbs i (x .slot) slot clock e ≡ false
     supposed x h r =
-        subst (λ (f : Found). turnDisturbsAt i f slot clock e ≡ false) (slot-is good (x .slot) i (x .live) (x .named)) (and-false-right (isDoneBy (a .number)) _ (done r) h)
+        subst (λ (f : Found). turnDisturbsAt i f slot clock e ≡ false) (place-of x) (and-false-right (isDoneBy (a .number)) _ (done r) h)
 
     own-step : (x : Follows i prog k (s .disc) q) → x .slot ≡ slot → isDoneBy (a .number) && turnDisturbsAt i (placeIn s i) slot clock e ≡ false → Keeps i prog q e (some (tick clock))
-    own-step x here h = subst (λ (n : ℕ). Keeps i prog q (event (turn n clock) s (answer (turn n clock) b) (textOf (answer (turn n clock) b))) (some (tick clock))) here (r .observed, r .tracked)
+    own-step x here h = subst (λ (n : ℕ). Keeps i prog q (event (turn n clock) s (answer (turn n clock) b) (outputText (answer (turn n clock) b))) (some (tick clock))) here (r .observed, r .tracked)
       where
         shelter : isRunning (processAt k (x .slot)) ≡ true → Sheltered i prog s out q passes x clock
         shelter w =
@@ -148,7 +152,7 @@ module _ (i : ℕ) (prog : List ℕ) (s : Storage) (out : List ℕ) (q : Single)
               space = subst⁻¹ (λ (n : ℕ). setLacks i n clock s ≡ false) here (d .1);
             }
 
-        r : Answers i prog s out q passes (turn (x .slot) clock) (answer (turn (x .slot) clock) b) (textOf (answer (turn (x .slot) clock) b)) (single prog q (tick clock))
+        r : Answers i prog s out q passes (turn (x .slot) clock) (answer (turn (x .slot) clock) b) (outputText (answer (turn (x .slot) clock) b)) (single prog q (tick clock))
         r = turn-answers i prog s out q passes x clock room shelter
 
     -- no write of another lands
@@ -160,8 +164,8 @@ module _ (i : ℕ) (prog : List ℕ) (s : Storage) (out : List ℕ) (q : Single)
 
     turn-step : Tracks i prog k (s .disc) q → isDoneBy (a .number) && turnDisturbsAt i (placeIn s i) slot clock e ≡ false → Keeps i prog q e (inputIf (isAt (placeIn s i) slot) (tick clock))
     turn-step (off gone over) h =
-        subst⁻¹ (λ (f : Found). Keeps i prog q e (inputIf (isAt f slot) (tick clock))) (gone .none) (kept (turn slot clock) refl (λ x. absurd (no-place (sym (slot-is good (x .slot) i (x .live) (x .named)) ∙ gone .none))) (off gone over))
-    turn-step (on x) h = subst⁻¹ (λ (f : Found). Keeps i prog q e (inputIf (isAt f slot) (tick clock))) (slot-is good (x .slot) i (x .live) (x .named)) (go (eqb (x .slot) slot) refl)
+        subst⁻¹ (λ (f : Found). Keeps i prog q e (inputIf (isAt f slot) (tick clock))) (place-is-slot s i ∙ gone .none) (kept (turn slot clock) refl (λ x. absurd (no-place (sym (slot-is good (x .slot) i (x .live) (x .named)) ∙ gone .none))) (off gone over))
+    turn-step (on x) h = subst⁻¹ (λ (f : Found). Keeps i prog q e (inputIf (isAt f slot) (tick clock))) (place-of x) (go (eqb (x .slot) slot) refl)
       where
         go : (f : Bool) → eqb (x .slot) slot ≡ f → Keeps i prog q e (inputIf f (tick clock))
         go true m = own-step x (eqb-true _ _ m) h

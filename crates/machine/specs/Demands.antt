@@ -18,7 +18,7 @@ use Rattle.machine.specs.Effect.{asks, assigns, opens}
 use Rattle.machine.specs.Ending.{Ends, Touched, effectAt}
 use Rattle.machine.specs.NoPlace.{Lacking, NewFileRefused, NoneFits}
 use Rattle.machine.specs.Refusals.{MayTurn, Names, Passes}
-use Rattle.machine.specs.Trace.{IsItsEvents, Storage, lending, tenSlots, textOf, turnEvents}
+use Rattle.machine.specs.Trace.{IsItsEvents, Storage, lending, tenSlots, outputText, turnEvents}
 use Rattle.machine.specs.State.{Local, isRunning, processAt}
 use Rattle.machine.specs.declared.Kernel.{Kernel}
 
@@ -105,7 +105,7 @@ RoundNeverRefused = (b : Buffers) (clock : ℕ) → Passes (b .disc) (b .area) �
 unfoldable pub RoundIsTurns : Type 0
 RoundIsTurns =
     (s : Storage) (out : List ℕ) (clock n : ℕ) → AreBytes (s .area) → answer (round clock) (lending s out) .number ≡ pos n
-    → IsItsEvents s out (answer (round clock) (lending s out)) (turnEvents tenSlots clock s (textOf (answer (round clock) (lending s out))))
+    → IsItsEvents s out (answer (round clock) (lending s out)) (turnEvents tenSlots clock s (outputText (answer (round clock) (lending s out))))
 
 -- Document 01, Turn: "at least 32 output bytes" are enough. "Returns the bytes printed"
 unfoldable pub TurnPrintsLittle : Type 0

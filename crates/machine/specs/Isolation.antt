@@ -3,12 +3,11 @@ use Prim.Native.Nat.{ℕ}
 use mathlib.Core.Path.{_≡_}
 use mathlib.Core.Bool.{Bool, true, false, _&&_, not}
 use mathlib.Core.List.{List, [], _∷_, _++_}
-use mathlib.Core.Option.{Option, none, some}
 use Rattle.buffer.specs.declared.Found.{Found}
 use Rattle.buffer.specs.declared.Found.the-variants.{At, Nowhere}
 use Rattle.store.specs.Directory.{contents, entryAt, lookup, runOf}
 use Rattle.machine.specs.Answer.{Call, store, retrieve, erase, run, files, freeSpace, list, command, turn, round}
-use Rattle.machine.specs.Observation.{Watched, done, inputs, observations, placeIn, singleRun, watch}
+use Rattle.machine.specs.Observation.{Watched, inputs, notRefused, observations, placeIn, singleRun, watch}
 use Rattle.machine.specs.Single.{fresh}
 use Rattle.machine.specs.Stack.{topString}
 use Rattle.machine.specs.State.{localOf}
@@ -37,9 +36,13 @@ startName list s = []
 startName (command c id) s = []
 startName (round clock) s = []
 
-abbrev pub contentsAt : Found → List ℕ → Option (List ℕ)
-contentsAt (At i) disc = some (contents disc (runOf (entryAt disc i)))
-contentsAt Nowhere disc = none
+abbrev pub contentsAt : Found → List ℕ → List ℕ
+contentsAt (At i) disc = contents disc (runOf (entryAt disc i))
+contentsAt Nowhere disc = []
+
+-- what the file of that name holds
+abbrev pub fileNamed : List ℕ → List ℕ → List ℕ
+fileNamed disc name = contentsAt (lookup disc name) disc
 
 -- "its program bytes, which are the named file's at the moment" of the start; rest is what follows it, up to any event of the run
 pub record Started (i : ℕ) (prog : List ℕ) (trace rest : List Event) : Type 0 where
@@ -47,8 +50,8 @@ pub record Started (i : ℕ) (prog : List ℕ) (trace rest : List Event) : Type 
   pub start : Event
   pub later : List Event
   pub splits : trace ≡ earlier ++ (start ∷ (rest ++ later))
-  pub given : givesOut i start ≡ true
-  pub program : contentsAt (lookup (start .before .disc) (startName (start .call) (start .before))) (start .before .disc) ≡ some prog
+  pub gives : givesOut i start ≡ true
+  pub program : fileNamed (start .before .disc) (startName (start .call) (start .before)) ≡ prog
 
 -- ---- the claim
 -- what is observed is what the single process shows, fed the same; also which inputs are refused, and by which number
@@ -64,6 +67,7 @@ Isolation =
     → Started i₂ prog (events calls₂ s₂) rest₂
     → Undisturbed i₁ rest₁
     → Undisturbed i₂ rest₂
-    → inputs (done (watch i₁ rest₁)) ≡ inputs (done (watch i₂ rest₂))
-    → (observations (done (watch i₁ rest₁)) ≡ observations (done (watch i₂ rest₂)))
-    × AsSingle prog (done (watch i₁ rest₁)) × AsSingle prog (watch i₁ rest₁) × AsSingle prog (watch i₂ rest₂)
+    → inputs (notRefused (watch i₁ rest₁)) ≡ inputs (notRefused (watch i₂ rest₂))
+    → (observations (notRefused (watch i₁ rest₁)) ≡ observations (notRefused (watch i₂ rest₂)))
+    × AsSingle prog (notRefused (watch i₁ rest₁)) × AsSingle prog (notRefused (watch i₂ rest₂))
+    × AsSingle prog (watch i₁ rest₁) × AsSingle prog (watch i₂ rest₂)

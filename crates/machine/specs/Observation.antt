@@ -1,25 +1,28 @@
 -- What a process is fed, and what is observed of it: in a run of the kernel and of the single process.
 use Prim.Native.Nat.{ℕ, _-_}
-use mathlib.Core.Bool.{Bool, true, false}
+use mathlib.Core.Bool.{Bool, true, false, _&&_}
 use mathlib.Core.List.{List, [], _∷_, _++_, map}
 use mathlib.Core.Option.{Option, none, some}
 use lib.Dec.{eqb}
 use lib.IntN.{ℤ, pos, negsuc, negℤ}
 use lib.ListN.{length, replicate}
-use Rattle.buffer.specs.Lists.{keep}
+use Rattle.buffer.specs.Lists.{index, keep}
 use Rattle.buffer.specs.declared.Found.{Found}
 use Rattle.buffer.specs.declared.Found.the-variants.{At, Nowhere}
 use Rattle.variable.specs.Table.{Cell, owned}
 use Rattle.machine.specs.Answer.{Call, store, retrieve, erase, run, files, freeSpace, list, command, turn, round}
 use Rattle.machine.specs.Area.{kernelOf}
 use Rattle.machine.specs.Single.{Input, tick, given, Response, refusedBy, did, Single, single}
-use Rattle.machine.specs.State.{processAt, slotOf}
+use Rattle.machine.specs.State.{isLive, processAt}
 use Rattle.machine.specs.Trace.{Event, Storage}
 use Rattle.machine.specs.declared.Process.{Process}
 
--- where the live process of that ID is
-abbrev pub placeIn : Storage → ℕ → Found
-placeIn s i = slotOf (kernelOf (s .area)) i
+-- the slot of the live process that has that ID
+abbrev pub isLiveAs : ℕ → Process → Bool
+isLiveAs i p = isLive p && eqb (p .id) i
+
+unfoldable pub placeIn : Storage → ℕ → Found
+placeIn s i = index (isLiveAs i) (kernelOf (s .area) .processes)
 
 abbrev pub isAt : Found → ℕ → Bool
 isAt (At s) slot = eqb s slot
@@ -94,12 +97,12 @@ abbrev pub observations : List Watched → List Observation
 observations l = map (λ w. w .observation) l
 
 -- "The same turns and commands means those not refused, in order."
-abbrev pub isDone : Observation → Bool
-isDone (declined z) = false
-isDone (seen o) = true
+abbrev pub isSeen : Observation → Bool
+isSeen (declined z) = false
+isSeen (seen o) = true
 
-abbrev pub done : List Watched → List Watched
-done l = keep (λ w. isDone (w .observation)) l
+abbrev pub notRefused : List Watched → List Watched
+notRefused l = keep (λ w. isSeen (w .observation)) l
 
 -- ---- the same of the single process
 abbrev pub seenOf : Single → List ℕ → Seen

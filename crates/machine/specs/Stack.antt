@@ -66,12 +66,12 @@ abbrev pub aValue : ℕ → Bool
 aValue kind = aString kind || aNumber kind
 
 -- the string on top, less its zero; nothing where there is none
-abbrev pub textOf : Popped → List ℕ
-textOf (popped item rest) = trimmed (item .bytes)
-textOf (cannot fault) = []
+abbrev pub stringText : Popped → List ℕ
+stringText (popped item rest) = trimmed (item .bytes)
+stringText (cannot fault) = []
 
 abbrev pub topString : List ℕ → List ℕ
-topString stack = textOf (pop aString stack)
+topString stack = stringText (pop aString stack)
 
 -- ---- pushing
 abbrev pub push : List ℕ → ℕ → List ℕ → List ℕ

@@ -41,11 +41,11 @@ isBarred byte = (leb 53 byte && leb byte 59) || (eqb byte 68 || eqb byte 69)
 
 -- ---- a SET that lacks space
 -- Document 01: "A SET lacks space where fault 10 is defined for it in the buffers as its turn finds them": with the old variable of that name
--- dropped, there are 25 others, or no address from 0 to 256 where the value would lie in memory and apart from them
+-- dropped, there are 25 others, or no address from 0 to 255 where the value would lie in memory and apart from them
 unfoldable pub lacksSpace : Variables → ℕ → ℕ → ℕ → Bool
 lacksSpace v name i n =
     let others = keep (λ e. not (isOf name i e)) (counted v) in
-    leb 25 (length others) || not (any (fits (map runOf others) 0 256 n) (tab (λ a. a) 257))
+    leb 25 (length others) || not (any (fits (map runOf others) 0 256 n) (tab (λ a. a) 256))
 
 -- a SET that meets no earlier fault
 abbrev pub isLacking : Effect → Variables → ℕ → Bool

@@ -32,7 +32,7 @@ abbrev pub answerOf : Invocation → Storage → Answer
 answerOf i s = answer (i .call) (lending s (i .out))
 
 -- ---- events
--- one call, or one turn of a round: the two buffers before and after it, the number it returns, and the bytes of the lent output that the number
+-- one call, or one turn of a round (a round itself is never an event): the two buffers before and after it, the number it returns, and the bytes of the lent output that the number
 -- counts, as they stand there
 pub record Event : Type 0 where
   pub call : Call
@@ -49,8 +49,8 @@ abbrev pub counts : ℤ → ℕ
 counts (pos n) = n
 counts (negsuc n) = 0
 
-abbrev pub textOf : Answer → List ℕ
-textOf a = take (counts (a .number)) (a .out)
+abbrev pub outputText : Answer → List ℕ
+outputText a = take (counts (a .number)) (a .out)
 
 -- Document 01: "A done round stands for its turns in order, each printing its part of the output." A turn of a round is the call `turn` on the
 -- buffers as they are when its slot is reached; text is what the round printed from this turn on.
@@ -75,15 +75,15 @@ onlyIf enough e = consIf enough e []
 
 abbrev pub eventsBy : Call → List ℕ → Storage → Answer → List Event
 eventsBy (store name bytes) out s a = event (store name bytes) s a [] ∷ []
-eventsBy (retrieve name) out s a = event (retrieve name) s a (textOf a) ∷ []
+eventsBy (retrieve name) out s a = event (retrieve name) s a (outputText a) ∷ []
 eventsBy (erase name) out s a = event (erase name) s a [] ∷ []
 eventsBy (run name) out s a = event (run name) s a [] ∷ []
-eventsBy files out s a = event files s a (textOf a) ∷ []
+eventsBy files out s a = event files s a (outputText a) ∷ []
 eventsBy freeSpace out s a = event freeSpace s a [] ∷ []
-eventsBy list out s a = event list s a (textOf a) ∷ []
+eventsBy list out s a = event list s a (outputText a) ∷ []
 eventsBy (command c id) out s a = event (command c id) s a [] ∷ []
-eventsBy (turn slot clock) out s a = onlyIf (leb 32 (length out)) (event (turn slot clock) s a (textOf a))
-eventsBy (round clock) out s a = roundEvents (a .number) clock s (textOf a)
+eventsBy (turn slot clock) out s a = onlyIf (leb 32 (length out)) (event (turn slot clock) s a (outputText a))
+eventsBy (round clock) out s a = roundEvents (a .number) clock s (outputText a)
 
 -- Demand 3: "each any list of the calls [..], refused ones included, from any disc and work area. Each call gets what it takes of these two as the
 -- calls before left it"
@@ -100,10 +100,11 @@ unfoldable pub total : List Event → ℕ
 total [] = 0
 total (e ∷ es) = counts (e .number) + total es
 
--- each turn's part of the round's output is what that turn alone would print
+-- each turn is done, and its part of the round's output is what that turn alone would print
 unfoldable pub PrintsItsPart : List Event → Type 0
 PrintsItsPart [] = Unit {0}
-PrintsItsPart (e ∷ es) = (e .text ≡ textOf (answer (e .call) (lending (e .before) (replicate 32 0)))) × PrintsItsPart es
+PrintsItsPart (e ∷ es) =
+    (e .number ≡ pos (length (e .text))) × (e .text ≡ outputText (answer (e .call) (lending (e .before) (replicate 32 0)))) × PrintsItsPart es
 
 -- a done round leaves what its last turn leaves, returns the sum of what they return, and writes their bytes one behind the other and nothing else
 abbrev pub IsItsEvents : Storage → List ℕ → Answer → List Event → Type 0
