@@ -28,7 +28,7 @@ use Rattle.machine.specs.Trace.{Storage, lending}
 use Rattle.machine.specs.Turn.{programOf}
 use Rattle.machine.specs.declared.Kernel.{Kernel}
 use Rattle.machine.proofs.Change.{GoodState, Outside, stores, erases, begins, Own, Change}
-use Rattle.machine.proofs.ChangeKept.{NoWriteInto, change-begun, change-gone, change-program, change-untouched, gone-after}
+use Rattle.machine.proofs.ChangeKept.{NoWriteInto, Untouched, change-begun, change-gone, change-program, change-untouched, gone-after}
 use Rattle.machine.proofs.GoodCalls.{good-back, on-good, passes-good, turn-good, turn-is-change}
 use Rattle.machine.proofs.OwnKept.{own-good}
 use Rattle.machine.proofs.OwnSpared.{own-none, own-process, own-variables}
@@ -40,7 +40,31 @@ use Rattle.machine.proofs.LiveRecords.{running-live}
 use Rattle.machine.proofs.OutsideKept.{outside-good}
 use Rattle.machine.proofs.OutsideSpares.{outside-spares}
 use Rattle.machine.proofs.Slots.{slot-at}
-use Rattle.machine.proofs.Spared.{Spared}
+
+-- ---- facts asked of a turn alone, or of a command alone
+abbrev pub OfTurn : Call → (ℕ → ℕ → Type 0) → Type 0
+OfTurn (turn slot clock) fact = fact slot clock
+OfTurn (store name bytes) fact = Unit {0}
+OfTurn (retrieve name) fact = Unit {0}
+OfTurn (erase name) fact = Unit {0}
+OfTurn (run name) fact = Unit {0}
+OfTurn files fact = Unit {0}
+OfTurn freeSpace fact = Unit {0}
+OfTurn list fact = Unit {0}
+OfTurn (command c id) fact = Unit {0}
+OfTurn (round clock) fact = Unit {0}
+
+abbrev pub OfCommand : Call → (ℕ → Type 0) → Type 0
+OfCommand (command c id) fact = fact id
+OfCommand (store name bytes) fact = Unit {0}
+OfCommand (retrieve name) fact = Unit {0}
+OfCommand (erase name) fact = Unit {0}
+OfCommand (run name) fact = Unit {0}
+OfCommand files fact = Unit {0}
+OfCommand freeSpace fact = Unit {0}
+OfCommand list fact = Unit {0}
+OfCommand (turn slot clock) fact = Unit {0}
+OfCommand (round clock) fact = Unit {0}
 
 abbrev pub isRound : Call → Bool
 isRound (store name bytes) = false
@@ -144,18 +168,14 @@ module _ (s : Storage) (out : List ℕ) (passes : Passes (s .disc) (s .area)) wh
   call-effects (round clock) h = absurd (true-not-false refl h)
 
 -- ---- what follows for every other process
--- no call of the process in slot own itself, and no WRITE of another into its program
-abbrev pub Apart : Call → ℕ → Storage → Kernel → Kernel → Type 0
-Apart (command c id) own s k j = slotOf k id ≡ At own → ⊥
-Apart (turn slot clock) own s k j = (own ≡ slot → ⊥) × (isRunning (processAt k slot) ≡ true → NoWriteInto own slot k (s .disc) j)
-Apart (store name bytes) own s k j = Unit {0}
-Apart (retrieve name) own s k j = Unit {0}
-Apart (erase name) own s k j = Unit {0}
-Apart (run name) own s k j = Unit {0}
-Apart files own s k j = Unit {0}
-Apart freeSpace own s k j = Unit {0}
-Apart list own s k j = Unit {0}
-Apart (round clock) own s k j = Unit {0}
+-- the call is none of the process in slot own
+pub record Elsewhere (c : Call) (own : ℕ) (k : Kernel) : Type 0 where
+  pub turns : OfTurn c (λ slot clock. own ≡ slot → ⊥)
+  pub commands : OfCommand c (λ id. slotOf k id ≡ At own → ⊥)
+
+-- and writes nothing into its program
+abbrev pub Unwritten : Call → ℕ → Storage → Kernel → Kernel → Type 0
+Unwritten c own s k j = OfTurn c (λ slot clock. isRunning (processAt k slot) ≡ true → NoWriteInto own slot k (s .disc) j)
 
 module _ {s : Storage} {k j : Kernel} {after : List ℕ} (g : GoodState k (s .disc)) where
   pub effects-gone : (i : ℕ) (c : Call) → Gone i k → Effects s k j after c → Gone i j
@@ -170,22 +190,20 @@ module _ {s : Storage} {k j : Kernel} {after : List ℕ} (g : GoodState k (s .di
   effects-begun i c h (alone w l e x f) = inl (own-none i h x)
   effects-begun i (turn slot clock) h (takes r x) = change-begun _ slot k (s .disc) j after g (running-live (processAt k slot) r) i h x
 
-  -- the process in slot own is left as it is
-  pub effects-spare : (own : ℕ) → isLive (processAt k own) ≡ true → (c : Call) → Apart c own s k j → Effects s k j after c → Spared own k (s .disc) j after
-  effects-spare own live c away (none e f) =
-      record {
-        process = ap (λ (x : Kernel). processAt x own) e;
-        variables = ap (λ (x : Kernel). owned (x .variables) (processAt k own .id)) e;
-        program = ap (λ (d : List ℕ). programOf d (processAt k own)) f;
-      }
-  effects-spare own live c away (outside o) = outside-spares g own live o
-  effects-spare own live (command c id) away (alone w l e x f) =
-      let other : own ≡ w → ⊥ = λ q. away (e ∙ ap At (sym q)) in
-      record {
-        process = own-process own other x;
-        variables = own-variables own g live other x;
-        program = ap (λ (d : List ℕ). programOf d (processAt k own)) f;
-      }
-  effects-spare own live (turn slot clock) away (takes r x) =
-      let u = change-untouched _ slot k (s .disc) j after g own live (away .0) x in
-      record { process = u .process; variables = u .variables; program = change-program _ slot k (s .disc) j after g own live (away .1 r) x }
+  -- the record and the variables of the process in slot own are left as they are
+  pub effects-untouched : (own : ℕ) → isLive (processAt k own) ≡ true → (c : Call) → Elsewhere c own k → Effects s k j after c → Untouched own k j
+  effects-untouched own live c away (none e f) =
+      record { process = ap (λ (x : Kernel). processAt x own) e; variables = ap (λ (x : Kernel). owned (x .variables) (processAt k own .id)) e }
+  effects-untouched own live c away (outside o) = let u = outside-spares g own live o in record { process = u .process; variables = u .variables }
+  effects-untouched own live (command c id) away (alone w l e x f) =
+      let other : own ≡ w → ⊥ = λ q. away .commands (e ∙ ap At (sym q)) in
+      record { process = own-process own other x; variables = own-variables own g live other x }
+  effects-untouched own live (turn slot clock) away (takes r x) = change-untouched _ slot k (s .disc) j after g own live (away .turns) x
+
+  -- and so are the bytes of its program
+  pub effects-program : (own : ℕ) → isLive (processAt k own) ≡ true → (c : Call) → Unwritten c own s k j → Effects s k j after c
+      → programOf after (processAt k own) ≡ programOf (s .disc) (processAt k own)
+  effects-program own live c safe (none e f) = ap (λ (d : List ℕ). programOf d (processAt k own)) f
+  effects-program own live c safe (outside o) = outside-spares g own live o .program
+  effects-program own live (command c id) safe (alone w l e x f) = ap (λ (d : List ℕ). programOf d (processAt k own)) f
+  effects-program own live (turn slot clock) safe (takes r x) = change-program _ slot k (s .disc) j after g own live (safe r) x

@@ -63,7 +63,7 @@ module _ (s : Storage) (out : List ℕ) (passes : Passes (s .disc) (s .area)) wh
       go : (f : Bool) → leb 32 (length out) ≡ f
           → Leads k (s .disc) (onlyIf f (event (turn slot clock) s (answer (turn slot clock) (lending s out)) (outputText (answer (turn slot clock) (lending s out)))))
           (kernelOf (answer (turn slot clock) (lending s out) .area)) (answer (turn slot clock) (lending s out) .disc)
-      go true h = one-event (turn slot clock) _ (h, refl)
+      go true h = one-event (turn slot clock) _ (record { turns = (h, refl); commands = tt; single = refl })
       go false h =
           let e = short-turn slot clock h in
           (ap (λ (a : Answer). kernelOf (a .area)) e, ap (λ (a : Answer). a .disc) e)

@@ -1,14 +1,14 @@
 -- A process that is started follows a fresh single process.
 use Prim.Native.Nat.{ℕ}
 use mathlib.Core.Path.{_≡_, refl, sym, ap, subst, subst⁻¹, _∙_}
-use mathlib.Core.Bool.{true, false, _&&_, not}
+use mathlib.Core.Bool.{true, _&&_, not}
 use mathlib.Core.List.{List}
 use mathlib.Core.Logic.{_⊎_, inl, inr}
 use Rattle.buffer.specs.declared.Found.{Found}
 use Rattle.buffer.specs.declared.Found.the-variants.{At, Nowhere}
 use Rattle.buffer.proofs.Bools.{true-not-false}
 use Rattle.variable.specs.Table.{owned}
-use Rattle.machine.specs.Answer.{Answer, Call, store, retrieve, erase, run, files, freeSpace, list, command, turn, round, answer}
+use Rattle.machine.specs.Answer.{Answer, answer}
 use Rattle.machine.specs.Area.{kernelOf}
 use Rattle.machine.specs.Isolation.{contentsAt, fileNamed, givesOut, isLiveIn, startName}
 use Rattle.machine.specs.Observation.{placeIn}
@@ -20,11 +20,10 @@ use Rattle.machine.specs.Turn.{programOf}
 use Rattle.machine.specs.declared.Kernel.{Kernel}
 use Rattle.machine.specs.declared.Process.{Process}
 use Rattle.machine.proofs.Begun.{Begun}
-use Rattle.machine.proofs.CallEffects.{isRound, call-effects, effects-begun}
+use Rattle.machine.proofs.CallEffects.{call-effects, effects-begun}
 use Rattle.machine.proofs.ChangeKept.{no-place}
 use Rattle.machine.proofs.Following.{Follows, Holds, Tracks, on}
 use Rattle.machine.proofs.GoodCalls.{passes-good}
-use Rattle.machine.proofs.Stepping.{Reports}
 use Rattle.machine.proofs.Slots.{place-is-slot}
 use Rattle.machine.proofs.Chains.{Genuine}
 
@@ -37,18 +36,6 @@ given-is i e h = go (placeIn (e .before) i) refl (placeIn (e .after) i) refl h
     go Nowhere p (At s) q t = (p, λ n. no-place (sym q ∙ n))
     go Nowhere p Nowhere q t = absurd (true-not-false t refl)
     go (At s) p g q t = absurd (true-not-false t refl)
-
-not-round : (c : Call) (out : List ℕ) (a : Answer) (text : List ℕ) → Reports c out a text → isRound c ≡ false
-not-round (store name bytes) out a text r = refl
-not-round (retrieve name) out a text r = refl
-not-round (erase name) out a text r = refl
-not-round (run name) out a text r = refl
-not-round files out a text r = refl
-not-round freeSpace out a text r = refl
-not-round list out a text r = refl
-not-round (command c id) out a text r = refl
-not-round (turn slot clock) out a text r = refl
-not-round (round clock) out a text r = absurd r
 
 -- "Start: running, no loop, no variables, the rest 0."
 begun-follows : (name : List ℕ) (i : ℕ) (disc : List ℕ) (j : Kernel) (after prog : List ℕ) → Begun name i disc j after → fileNamed disc name ≡ prog → Follows i prog j after fresh
@@ -67,7 +54,7 @@ pub begins : (i : ℕ) (prog : List ℕ) (e : Event) → Genuine e → Passes (e
     → Tracks i prog (kernelOf (e .after .area)) (e .after .disc) fresh
 begins i prog e g passes gives program =
     subst⁻¹ (λ (f : Event). Tracks i prog (kernelOf (f .after .area)) (f .after .disc) fresh) (g .same)
-    (go (effects-begun (passes-good (s .disc) (s .area) passes) i (e .call) (sym (place-is-slot s i) ∙ known .0) (call-effects s (g .out) passes (e .call) (not-round (e .call) (g .out) a (e .text) (g .reports)))))
+    (go (effects-begun (passes-good (s .disc) (s .area) passes) i (e .call) (sym (place-is-slot s i) ∙ known .0) (call-effects s (g .out) passes (e .call) (g .reports .single))))
   where
     s : Storage
     s = e .before

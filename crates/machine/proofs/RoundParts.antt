@@ -128,7 +128,7 @@ turn-parts (slot ∷ l) clock s text low passes e =
         let done : a .number ≡ pos (counts (a .number)) =
         subst⁻¹ (λ (b : Answer). b .number ≡ pos (counts (b .number))) (turn-running (lent32 s) slot clock passes refl here h) refl in
         record {
-          leads = (refl, refl, passes, record { out = replicate 32 0; same = refl; reports = (refl, own) }, r .leads);
+          leads = (refl, refl, passes, record { out = replicate 32 0; same = refl; reports = record { turns = (refl, own); commands = tt; single = refl } }, r .leads);
           texts = λ z. part z ++ r .texts z;
           sum = (λ z. facts .count z + r .sum z) ∙ sym (length-append (t .out) (rest .out));
           parts = (done ∙ ap pos (facts .count ∙ sym (ap length part)), own, r .parts);

@@ -47,14 +47,14 @@ module _ (s : Storage) (out : List ℕ) (passes : Passes (s .disc) (s .area)) wh
       go false h = subst⁻¹ Right (short-round s out passes clock h) (refl, refl)
 
   call-leads : (c : Call) → Leads (kernelOf (s .area)) (s .disc) (eventsBy c out s (answer c (lending s out))) (kernelOf (answer c (lending s out) .area)) (answer c (lending s out) .disc)
-  call-leads (store name bytes) = one-event s out passes (store name bytes) [] tt
-  call-leads (retrieve name) = one-event s out passes (retrieve name) _ tt
-  call-leads (erase name) = one-event s out passes (erase name) [] tt
-  call-leads (run name) = one-event s out passes (run name) [] tt
-  call-leads files = one-event s out passes files _ tt
-  call-leads freeSpace = one-event s out passes freeSpace [] tt
-  call-leads list = one-event s out passes list _ tt
-  call-leads (command c id) = one-event s out passes (command c id) [] refl
+  call-leads (store name bytes) = one-event s out passes (store name bytes) [] (record { turns = tt; commands = tt; single = refl })
+  call-leads (retrieve name) = one-event s out passes (retrieve name) _ (record { turns = tt; commands = tt; single = refl })
+  call-leads (erase name) = one-event s out passes (erase name) [] (record { turns = tt; commands = tt; single = refl })
+  call-leads (run name) = one-event s out passes (run name) [] (record { turns = tt; commands = tt; single = refl })
+  call-leads files = one-event s out passes files _ (record { turns = tt; commands = tt; single = refl })
+  call-leads freeSpace = one-event s out passes freeSpace [] (record { turns = tt; commands = tt; single = refl })
+  call-leads list = one-event s out passes list _ (record { turns = tt; commands = tt; single = refl })
+  call-leads (command c id) = one-event s out passes (command c id) [] (record { turns = tt; commands = refl; single = refl })
   call-leads (turn slot clock) = turn-leads s out passes slot clock
   call-leads (round clock) = round-leads clock
 

@@ -24,30 +24,24 @@ use Rattle.machine.specs.Trace.{Event, Storage, event, lending, outputTe
 use Rattle.machine.specs.Turn.{programOf}
 use Rattle.machine.specs.declared.Kernel.{Kernel}
 use Rattle.machine.specs.declared.Process.{Process}
-use Rattle.machine.proofs.CallEffects.{Apart, Effects, isRound, call-effects, effects-gone, effects-spare}
+use Rattle.machine.proofs.CallEffects.{Effects, Elsewhere, OfCommand, OfTurn, Unwritten, isRound, call-effects, effects-gone, effects-program, effects-untouched}
 use Rattle.machine.proofs.Change.{GoodState}
-use Rattle.machine.proofs.ChangeKept.{NoWriteInto, no-place}
+use Rattle.machine.proofs.ChangeKept.{NoWriteInto, Untouched}
 use Rattle.buffer.proofs.Disjunctions.{or-false-left, or-false-right}
 use Rattle.machine.proofs.Following.{Follows, Holds, Tracks, on, off}
+use Rattle.machine.proofs.Gone.{Gone}
 use Rattle.machine.proofs.GoodCalls.{passes-good}
 use Rattle.machine.proofs.LiveRecords.{running-live}
 use Rattle.machine.proofs.OwnInputs.{Answers, Sheltered, command-answers, ended-answers, turn-answers}
 use Rattle.machine.proofs.Rounds.{turn-running}
 use Rattle.machine.proofs.Slots.{live-below-ten, place-is-slot, slot-at, slot-is}
-use Rattle.machine.proofs.Spared.{Spared}
 
--- what an event reports of the call it is: a turn is lent enough, and its text is what stands in the lent output; a round is no event
-abbrev pub Reports : Call → List ℕ → Answer → List ℕ → Type 0
-Reports (turn slot clock) out a text = (leb 32 (length out) ≡ true) × (text ≡ outputText a)
-Reports (command c id) out a text = text ≡ []
-Reports (round clock) out a text = ⊥
-Reports (store name bytes) out a text = Unit {0}
-Reports (retrieve name) out a text = Unit {0}
-Reports (erase name) out a text = Unit {0}
-Reports (run name) out a text = Unit {0}
-Reports files out a text = Unit {0}
-Reports freeSpace out a text = Unit {0}
-Reports list out a text = Unit {0}
+-- what an event reports of the call it is: a turn is lent enough, and its text is what stands in the lent output; a command has none; a round is
+-- no event
+pub record Reports (c : Call) (out : List ℕ) (a : Answer) (text : List ℕ) : Type 0 where
+  pub turns : OfTurn c (λ slot clock. (leb 32 (length out) ≡ true) × (text ≡ outputText a))
+  pub commands : OfCommand c (λ id. text ≡ [])
+  pub single : isRound c ≡ false
 
 -- what is asked of an event: after an input, the single process's answer; after any other, nothing has changed
 abbrev pub Keeps : ℕ → List ℕ → Single → Event → Option Input → Type 0
@@ -59,13 +53,14 @@ Keeps i prog q e (some x) =
 holds-as : {p r : Process} {v w : List Cell} {q : Single} → r ≡ p → w ≡ v → Holds p v q → Holds r w q
 holds-as {p} {r} {v} {w} {q} e f h = subst⁻¹ (λ (x : Process). Holds x w q) e (subst⁻¹ (λ (c : List Cell). Holds p c q) f h)
 
-pub spared-follows : {i : ℕ} {prog : List ℕ} {k j : Kernel} {disc after : List ℕ} {q : Single} (x : Follows i prog k disc q) → Spared (x .slot) k disc j after → Follows i prog j after q
-spared-follows {i} {prog} {k} {j} {disc} {after} {q} x u =
+pub untouched-follows : {i : ℕ} {prog : List ℕ} {k j : Kernel} {disc after : List ℕ} {q : Single} (x : Follows i prog k disc q) → Untouched (x .slot) k j
+    → programOf after (processAt k (x .slot)) ≡ programOf disc (processAt k (x .slot)) → Follows i prog j after q
+untouched-follows {i} {prog} {k} {j} {disc} {after} {q} x u program =
     record {
       slot = x .slot;
       live = ap isLive (u .process) ∙ x .live;
       named = ap (λ (p : Process). p .id) (u .process) ∙ x .named;
-      runs = ap (programOf after) (u .process) ∙ u .program ∙ x .runs;
+      runs = ap (programOf after) (u .process) ∙ program ∙ x .runs;
       holds = holds-as (u .process) (subst (λ (id : ℕ). owned (j .variables) id ≡ owned (k .variables) id) (x .named) (u .variables)) (x .holds);
     }
 
@@ -106,9 +101,16 @@ module _ (i : ℕ) (prog : List ℕ) (s : Storage) (out : List ℕ) (q : Single)
   effects c h = call-effects s out passes c h
 
   -- an event that is no input
-  kept : (c : Call) → isRound c ≡ false → ((x : Follows i prog k (s .disc) q) → Apart c (x .slot) s k (after c)) → Tracks i prog k (s .disc) q → Tracks i prog (after c) (answer c b .disc) q
-  kept c h away (on x) = on (spared-follows x (effects-spare good (x .slot) (x .live) c (away x) (effects c h)))
-  kept c h away (off gone over) = off (effects-gone good i c gone (effects c h)) over
+  others : (x : Follows i prog k (s .disc) q) (c : Call) → isRound c ≡ false → Elsewhere c (x .slot) k → Unwritten c (x .slot) s k (after c) → Follows i prog (after c) (answer c b .disc) q
+  others x c h away safe = untouched-follows x (effects-untouched good (x .slot) (x .live) c away (effects c h)) (effects-program good (x .slot) (x .live) c safe (effects c h))
+
+  gone : (c : Call) → isRound c ≡ false → Gone i k → q .state ≡ 0 → Tracks i prog (after c) (answer c b .disc) q
+  gone c h g over = off (effects-gone good i c g (effects c h)) over
+
+  -- a call that is of no process
+  kept : (c : Call) → isRound c ≡ false → ((x : Follows i prog k (s .disc) q) → Elsewhere c (x .slot) k × Unwritten c (x .slot) s k (after c)) → Tracks i prog k (s .disc) q → Tracks i prog (after c) (answer c b .disc) q
+  kept c h away (on x) = on (others x c h (away x .0) (away x .1))
+  kept c h away (off g over) = gone c h g over
 
   -- ---- commands
   command-step : (c : Command) (id : ℕ) → Tracks i prog k (s .disc) q → Keeps i prog q (event (command c id) s (answer (command c id) b) []) (inputIf (eqb id i) (given c))
@@ -121,7 +123,7 @@ module _ (i : ℕ) (prog : List ℕ) (s : Storage) (out : List ℕ) (q : Single)
       go : (f : Bool) → eqb id i ≡ f → Keeps i prog q (event (command c id) s (answer (command c id) b) []) (inputIf f (given c))
       go true e =
           subst⁻¹ (λ (n : ℕ). Keeps i prog q (event (command c n) s (answer (command c n) b) []) (some (given c))) (eqb-true id i e) (own t)
-      go false e = kept (command c id) refl (λ x at. eqb-false id i e (sym (slot-at k id (x .slot) at .2) ∙ x .named)) t
+      go false e = kept (command c id) refl (λ x. (record { turns = tt; commands = λ at. eqb-false id i e (sym (slot-at k id (x .slot) at .2) ∙ x .named) }, tt)) t
 
   -- ---- turns
   module _ (slot clock : ℕ) (room : leb 32 (length out) ≡ true) where
@@ -163,26 +165,26 @@ module _ (i : ℕ) (prog : List ℕ) (s : Storage) (out : List ℕ) (q : Single)
         true-not-false (and-both (eq-eqb _ _ byte) (and-both live (and-both (eq-eqb _ _ start) (eq-eqb _ _ len)))) (other-undisturbed i (x .slot) slot clock e other (supposed x h r))
 
     turn-step : Tracks i prog k (s .disc) q → isDoneBy (a .number) && turnDisturbsAt i (placeIn s i) slot clock e ≡ false → Keeps i prog q e (inputIf (isAt (placeIn s i) slot) (tick clock))
-    turn-step (off gone over) h =
-        subst⁻¹ (λ (f : Found). Keeps i prog q e (inputIf (isAt f slot) (tick clock))) (place-is-slot s i ∙ gone .none) (kept (turn slot clock) refl (λ x. absurd (no-place (sym (slot-is good (x .slot) i (x .live) (x .named)) ∙ gone .none))) (off gone over))
+    turn-step (off g over) h =
+        subst⁻¹ (λ (f : Found). Keeps i prog q e (inputIf (isAt f slot) (tick clock))) (place-is-slot s i ∙ g .none) (gone (turn slot clock) refl g over)
     turn-step (on x) h = subst⁻¹ (λ (f : Found). Keeps i prog q e (inputIf (isAt f slot) (tick clock))) (place-of x) (go (eqb (x .slot) slot) refl)
       where
         go : (f : Bool) → eqb (x .slot) slot ≡ f → Keeps i prog q e (inputIf f (tick clock))
         go true m = own-step x (eqb-true _ _ m) h
-        go false m = on (spared-follows x (effects-spare good (x .slot) (x .live) (turn slot clock) (eqb-false _ _ m, no-write x (eqb-false _ _ m) h) (effects (turn slot clock) refl)))
+        go false m = on (others x (turn slot clock) refl (record { turns = eqb-false _ _ m; commands = tt }) (no-write x (eqb-false _ _ m) h))
 
   -- ---- every event
   pub step : (c : Call) (text : List ℕ) → Reports c out (answer c b) text → Tracks i prog k (s .disc) q → disturbedBy i c (event c s (answer c b) text) ≡ false
       → Keeps i prog q (event c s (answer c b) text) (inputOf i c (placeIn s i))
-  step (store name bytes) text r t h = kept (store name bytes) refl (λ x. tt) t
-  step (retrieve name) text r t h = kept (retrieve name) refl (λ x. tt) t
-  step (erase name) text r t h = kept (erase name) refl (λ x. tt) t
-  step (run name) text r t h = kept (run name) refl (λ x. tt) t
-  step files text r t h = kept files refl (λ x. tt) t
-  step freeSpace text r t h = kept freeSpace refl (λ x. tt) t
-  step list text r t h = kept list refl (λ x. tt) t
-  step (command c id) text r t h = subst⁻¹ (λ (l : List ℕ). Keeps i prog q (event (command c id) s (answer (command c id) b) l) (inputIf (eqb id i) (given c))) r (command-step c id t)
+  step (store name bytes) text r t h = kept (store name bytes) refl (λ x. (record { turns = tt; commands = tt }, tt)) t
+  step (retrieve name) text r t h = kept (retrieve name) refl (λ x. (record { turns = tt; commands = tt }, tt)) t
+  step (erase name) text r t h = kept (erase name) refl (λ x. (record { turns = tt; commands = tt }, tt)) t
+  step (run name) text r t h = kept (run name) refl (λ x. (record { turns = tt; commands = tt }, tt)) t
+  step files text r t h = kept files refl (λ x. (record { turns = tt; commands = tt }, tt)) t
+  step freeSpace text r t h = kept freeSpace refl (λ x. (record { turns = tt; commands = tt }, tt)) t
+  step list text r t h = kept list refl (λ x. (record { turns = tt; commands = tt }, tt)) t
+  step (command c id) text r t h = subst⁻¹ (λ (l : List ℕ). Keeps i prog q (event (command c id) s (answer (command c id) b) l) (inputIf (eqb id i) (given c))) (r .commands) (command-step c id t)
   step (turn slot clock) text r t h =
-      subst⁻¹ (λ (l : List ℕ). Keeps i prog q (event (turn slot clock) s (answer (turn slot clock) b) l) (inputIf (isAt (placeIn s i) slot) (tick clock))) (r .1)
-      (turn-step slot clock (r .0) t (subst (λ (l : List ℕ). disturbedBy i (turn slot clock) (event (turn slot clock) s (answer (turn slot clock) b) l) ≡ false) (r .1) h))
-  step (round clock) text r t h = absurd r
+      subst⁻¹ (λ (l : List ℕ). Keeps i prog q (event (turn slot clock) s (answer (turn slot clock) b) l) (inputIf (isAt (placeIn s i) slot) (tick clock))) (r .turns .1)
+      (turn-step slot clock (r .turns .0) t (subst (λ (l : List ℕ). disturbedBy i (turn slot clock) (event (turn slot clock) s (answer (turn slot clock) b) l) ≡ false) (r .turns .1) h))
+  step (round clock) text r t h = absurd (true-not-false refl (r .single))
