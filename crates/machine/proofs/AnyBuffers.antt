@@ -39,7 +39,7 @@ from-start i (y ∷ ys) e es gives (inl c) = from-start i ys e es gives (c .1)
 from-start i (y ∷ ys) e es gives (inr c) = from-start i ys e es gives (linked (kernelOf (y .after .area)) (y .after .disc) (ys ++ (e ∷ es)) (c .4))
 
 -- ---- buffers that are not good
-passes-or-not : (disc area : List ℕ) → Passes disc area ⊎ (Passes disc area → ⊥)
+pub passes-or-not : (disc area : List ℕ) → Passes disc area ⊎ (Passes disc area → ⊥)
 passes-or-not disc area = go (isDiscLength (length disc) && isAreaLength (length area)) refl (goodDisc disc) refl (goodArea disc area) refl
   where
     go : (p : Bool) → isDiscLength (length disc) && isAreaLength (length area) ≡ p → (q : Bool) → goodDisc disc ≡ q → (r : Bool) → goodArea disc area ≡ r → Passes disc area ⊎ (Passes disc area → ⊥)
@@ -48,7 +48,7 @@ passes-or-not disc area = go (isDiscLength (length disc) && isAreaLength (length
     go true p false q t r = inr (λ x. true-not-false (x .disc-good) q)
     go false p f q t r = inr (λ x. true-not-false (x .sizes) p)
 
-bad-refused : (b : Buffers) (rest : Answer) → (Passes (b .disc) (b .area) → ⊥) → (n : ℕ) × (onGood b rest ≡ refused (suc n) b)
+pub bad-refused : (b : Buffers) (rest : Answer) → (Passes (b .disc) (b .area) → ⊥) → (n : ℕ) × (onGood b rest ≡ refused (suc n) b)
 bad-refused b rest bad = go (isDiscLength (length (b .disc)) && isAreaLength (length (b .area))) refl (goodDisc (b .disc)) refl (goodArea (b .disc) (b .area)) refl
   where
     go : (p : Bool) → isDiscLength (length (b .disc)) && isAreaLength (length (b .area)) ≡ p → (q : Bool) → goodDisc (b .disc) ≡ q → (r : Bool) → goodArea (b .disc) (b .area) ≡ r

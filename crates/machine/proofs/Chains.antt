@@ -46,7 +46,7 @@ module _ (s : Storage) (out : List ℕ) (passes : Passes (s .disc) (s .area)) wh
   one-event c text r = (refl, refl, passes, record { out = out; same = refl; reports = r }, (refl, refl))
 
   -- "calls lent too little output aside"
-  short-turn : (slot clock : ℕ) → leb 32 (length out) ≡ false → answer (turn slot clock) (lending s out) ≡ refused 4 (lending s out)
+  pub short-turn : (slot clock : ℕ) → leb 32 (length out) ≡ false → answer (turn slot clock) (lending s out) ≡ refused 4 (lending s out)
   unfolding answer
   short-turn slot clock h = rw (passes .sizes, passes .disc-good, passes .area-good, h)
 

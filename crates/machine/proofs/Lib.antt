@@ -62,6 +62,7 @@ pub mod RoundEvents
 pub mod Runs
 pub mod FreshStart
 pub mod AnyBuffers
+pub mod RunEvents
 pub mod Isolated
 -- the bench cases and the misreadings
 pub mod BenchCases

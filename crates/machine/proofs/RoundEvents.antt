@@ -7,25 +7,22 @@ use lib.Dec.{leb}
 use lib.IntN.{pos}
 use lib.ListN.{length}
 use lib.Seq.{take-at}
-use borrow.Author.Tests.{eqb-true}
 use Rattle.buffer.specs.Buffer.{overwrite}
 use Rattle.buffer.specs.Lists.{all}
 use Rattle.machine.specs.Answer.{Answer, Buffers, answer, round, turnedAnswer}
-use Rattle.machine.specs.Area.{AreBytes, kernelOf}
+use Rattle.machine.specs.Area.{Whole, kernelOf}
 use Rattle.machine.specs.Refusals.{Passes}
 use Rattle.machine.specs.Operations.{turnsOf}
 use Rattle.machine.specs.Trace.{Event, IsItsEvents, Storage, lending, tenSlots, outputText, turnEvents}
 use Rattle.machine.specs.Turn.{Turned}
-use Rattle.machine.proofs.Area.{kernel-encode-decode}
-use Rattle.machine.proofs.RoundParts.{Parts, Whole, turn-parts}
-use Rattle.machine.proofs.GoodCalls.{area-length}
+use Rattle.machine.proofs.RoundParts.{Parts, turn-parts}
 use Rattle.machine.proofs.Rounds.{round-done, round-passed}
 
 -- "A done round stands for its turns in order, each printing its part of the output."
-pub round-events : (s : Storage) (out : List ℕ) (clock n : ℕ) → AreBytes (s .area) → answer (round clock) (lending s out) .number ≡ pos n
+pub round-events : (s : Storage) (out : List ℕ) (clock n : ℕ) → Whole (s .area) → answer (round clock) (lending s out) .number ≡ pos n
     → IsItsEvents s out (answer (round clock) (lending s out)) (turnEvents tenSlots clock s (outputText (answer (round clock) (lending s out))))
 unfolding all
-round-events s out clock n bytes done = subst⁻¹ (λ (a : Answer). IsItsEvents s out a (turnEvents tenSlots clock s (outputText a))) (round-done b clock (passed .0) (passed .1)) of-turns
+round-events s out clock n whole done = subst⁻¹ (λ (a : Answer). IsItsEvents s out a (turnEvents tenSlots clock s (outputText a))) (round-done b clock (passed .0) (passed .1)) of-turns
   where
     b : Buffers
     b = lending s out
@@ -41,9 +38,6 @@ round-events s out clock n bytes done = subst⁻¹ (λ (a : Answer). IsItsEvents
 
     p : Parts s es u
     p = turn-parts tenSlots clock s (outputText (turnedAnswer u b)) refl (passed .0) (take-at (u .out) _ (length (u .out)) refl)
-
-    whole : Whole (s .area)
-    whole = kernel-encode-decode (s .area) bytes (eqb-true _ _ (area-length (passed .0)))
 
     of-turns : IsItsEvents s out (turnedAnswer u b) es
     of-turns = (λ z. record { disc = sym (p .disc) z; area = sym (p .area whole) z }, ap pos (sym (p .sum)), ap (overwrite out 0) (sym (p .texts)), p .parts)

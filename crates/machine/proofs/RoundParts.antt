@@ -10,7 +10,7 @@ use lib.Seq.{drop-at, take-at}
 use Rattle.buffer.specs.Lists.{all, consIf, flat}
 use Rattle.buffer.proofs.Bools.{and-left, and-right}
 use Rattle.machine.specs.Answer.{Answer, Buffers, turn, answer, refused}
-use Rattle.machine.specs.Area.{kernelBytes, kernelOf}
+use Rattle.machine.specs.Area.{Whole, kernelBytes, kernelOf}
 use Rattle.machine.specs.Operations.{turnIfRunning, turnsOf}
 use Rattle.machine.specs.Refusals.{Passes}
 use Rattle.machine.specs.State.{isRunning, processAt}
@@ -55,10 +55,6 @@ taken s slot clock low passes = go (isRunning (processAt k slot)) refl
     go false h =
         subst⁻¹ (λ (a : Answer). Taken s slot clock a (record { kernel = k; disc = s .disc; out = [] })) (turn-not-running (lent32 s) slot clock passes refl low h)
         (record { kernel = refl; disc = refl; count = refl; text = refl })
-
--- the area's bytes are those of what it says
-abbrev pub Whole : List ℕ → Type 0
-Whole area = kernelBytes (kernelOf area) ≡ area
 
 whole-kept : (s : Storage) (slot clock : ℕ) → ltb slot 10 ≡ true → Passes (s .disc) (s .area) → Whole (s .area) → Whole (answer (turn slot clock) (lent32 s) .area)
 whole-kept s slot clock low passes whole = go (isRunning (processAt k slot)) refl

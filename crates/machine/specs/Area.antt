@@ -8,6 +8,7 @@
 --     416  ten process records of 64: name 12, ID 2, state 1, fault 1, code start 2, code length 2, PC 2, loop 2,
 --          file start 2, file length 2, file offset 2, SP 1, spare 1, stack 32
 use Prim.Native.Nat.{ℕ, _+_, _*_, _<_}
+use mathlib.Core.Path.{_≡_}
 use mathlib.Core.Bool.{Bool}
 use mathlib.Core.List.{List, [], _∷_, _++_}
 use lib.Dec.{eqb}
@@ -75,3 +76,7 @@ unfoldable pub kernelBytes : Kernel → List ℕ
 kernelBytes k =
     k .variables .memory ++ flat variableBytes (k .variables .entries) ++ (k .variables .count ∷ []) ++ wordBytes (k .next) ++ k .zeros
     ++ flat processBytes (k .processes)
+
+-- the area's bytes are those of the state that it says
+abbrev pub Whole : List ℕ → Type 0
+Whole area = kernelBytes (kernelOf area) ≡ area

@@ -13,12 +13,12 @@ use Rattle.number.specs.declared.Number.{Number}
 use Rattle.store.specs.Directory.{fileCount, goodDisc, isDiscLength, taken}
 use Rattle.variable.specs.Table.{freed, isOf}
 use Rattle.machine.specs.Answer.{Answer, Buffers, Call, store, turn, round, answer, bootAnswer, formatAnswer, refused}
-use Rattle.machine.specs.Area.{AreBytes, isAreaLength, kernelOf}
+use Rattle.machine.specs.Area.{AreBytes, Whole, isAreaLength, kernelOf}
 use Rattle.machine.specs.Effect.{asks, assigns, opens}
 use Rattle.machine.specs.Ending.{Ends, Touched, effectAt}
 use Rattle.machine.specs.NoPlace.{Lacking, NewFileRefused, NoneFits}
 use Rattle.machine.specs.Refusals.{MayTurn, Names, Passes}
-use Rattle.machine.specs.Trace.{IsItsEvents, Storage, lending, tenSlots, outputText, turnEvents}
+use Rattle.machine.specs.Trace.{Invocation, IsItsEvents, Storage, afterCalls, events, lastStorage, lending, tenSlots, outputText, turnEvents}
 use Rattle.machine.specs.State.{Local, isRunning, processAt}
 use Rattle.machine.specs.declared.Kernel.{Kernel}
 
@@ -101,11 +101,18 @@ GoodKept =
 unfoldable pub RoundNeverRefused : Type 0
 RoundNeverRefused = (b : Buffers) (clock : ℕ) → Passes (b .disc) (b .area) → leb 320 (length (b .out)) ≡ true → (n : ℕ) × (answer (round clock) b .number ≡ pos n)
 
--- Document 01: "a turn for slots 0 to 9, each if running when reached, under one clock reading, outputs joined". The area lent is bytes.
+-- Document 01: "a turn for slots 0 to 9, each if running when reached, under one clock reading, outputs joined". 1,056 bytes are whole, and so is
+-- what every call leaves of them.
 unfoldable pub RoundIsTurns : Type 0
 RoundIsTurns =
-    (s : Storage) (out : List ℕ) (clock n : ℕ) → AreBytes (s .area) → answer (round clock) (lending s out) .number ≡ pos n
-    → IsItsEvents s out (answer (round clock) (lending s out)) (turnEvents tenSlots clock s (outputText (answer (round clock) (lending s out))))
+    ((s : Storage) (out : List ℕ) (clock n : ℕ) → Whole (s .area) → answer (round clock) (lending s out) .number ≡ pos n
+    → IsItsEvents s out (answer (round clock) (lending s out)) (turnEvents tenSlots clock s (outputText (answer (round clock) (lending s out)))))
+    × ((area : List ℕ) → AreBytes area → length area ≡ 1056 → Whole area)
+    × ((s : Storage) (out : List ℕ) (c : Call) → Whole (s .area) → Whole (answer c (lending s out) .area))
+
+-- the events of a run lead where its calls lead, whatever the buffers it begins on
+unfoldable pub EventsAreCalls : Type 0
+EventsAreCalls = (calls : List Invocation) (s : Storage) → AreBytes (s .area) → lastStorage s (events calls s) ≡ afterCalls calls s
 
 -- Document 01, Turn: "at least 32 output bytes" are enough. "Returns the bytes printed"
 unfoldable pub TurnPrintsLittle : Type 0

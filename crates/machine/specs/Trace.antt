@@ -91,10 +91,15 @@ unfoldable pub events : List Invocation → Storage → List Event
 events [] s = []
 events (i ∷ is) s = eventsBy (i .call) (i .out) s (answerOf i s) ++ events is (storageOf (answerOf i s))
 
--- ---- the events of a round and `answer` say the same
+-- ---- the events and `answer` say the same
 unfoldable pub lastStorage : Storage → List Event → Storage
 lastStorage s [] = s
 lastStorage s (e ∷ es) = lastStorage (e .after) es
+
+-- the two buffers after the last of these calls
+unfoldable pub afterCalls : List Invocation → Storage → Storage
+afterCalls [] s = s
+afterCalls (i ∷ is) s = afterCalls is (storageOf (answerOf i s))
 
 unfoldable pub total : List Event → ℕ
 total [] = 0

@@ -2,7 +2,7 @@
 use place::Run;
 use variable::Variables;
 ghost use Rattle.machine.specs.Cases.{Bench, Misreadings};
-ghost use Rattle.machine.specs.Demands.{FaultTouchesOwn, GoodKept, PlacesRefusedOnly, RefusedUnchanged, RoundIsTurns, RoundNeverRefused, TurnPrintsLittle};
+ghost use Rattle.machine.specs.Demands.{FaultTouchesOwn, GoodKept, PlacesRefusedOnly, RefusedUnchanged, EventsAreCalls, RoundIsTurns, RoundNeverRefused, TurnPrintsLittle};
 ghost use Rattle.machine.specs.Isolation.{Isolation};
 
 // The file that a process has open, and how far it has read or written. Length 0: none.
@@ -78,6 +78,11 @@ pub fn round_never_refused()
 // A done round is exactly its turns, in slot order, on the buffers as each finds them.
 pub fn round_is_turns()
     ensures { λ _. ⌜ RoundIsTurns ⌝ }
+{}
+
+// A run as its events, which demand 3 speaks of, and as its calls.
+pub fn events_are_calls()
+    ensures { λ _. ⌜ EventsAreCalls ⌝ }
 {}
 
 // A done turn returns at most 32: the 32 bytes of output that it asks for are enough.
