@@ -3,7 +3,6 @@ use Prim.Native.Nat.{ℕ, suc}
 use mathlib.Core.Path.{_≡_, refl, sym, ap, _∙_}
 use mathlib.Core.Bool.{true}
 use mathlib.Core.List.{List, [], _∷_, _++_, append-nil}
-use mathlib.Core.Option.{some}
 use lib.Dec.{ltb}
 use lib.ListN.{drop, getD, length, take}
 use lib.Seq.{split-at}
@@ -39,9 +38,9 @@ use Rattle.isolation_example.specs.Example.{Example, alone, beside, empt
 use Rattle.machine.specs.Exec.{exec, performs}
 use Rattle.machine.specs.GoodArea.{goodFile, goodHeader, goodKernel, goodLive, goodProcess, goodRegisters, isProgram, otherId}
 use Rattle.machine.specs.Instruction.{find, instructionOf}
-use Rattle.machine.specs.Isolation.{Isolation, Started, contentsAt, givesOut, startName}
+use Rattle.machine.specs.Isolation.{Isolation, Started, fileNamed, givesOut, startName}
 use Rattle.machine.specs.Suppositions.{Undisturbed, lacksSpace, turnDisturbs, writeLands}
-use Rattle.machine.specs.Observation.{Observation, declined, done, inputs, observations, watch}
+use Rattle.machine.specs.Observation.{placeIn, Observation, declined, inputs, notRefused, observations, watch}
 use Rattle.machine.specs.Operations.{commanded, inUse, turnIfRunning, turnsOf}
 use Rattle.machine.specs.Single.{single}
 use Rattle.machine.specs.Stack.{pop, popNumber, popString, wellFormed}
@@ -58,11 +57,10 @@ none = event files empty (record { number = negsuc 0; disc = []; area = []; out 
 record Computed (i n : ℕ) (calls : List Invocation) (rest : List Event) : Type 0 where
   rest-is : rest ≡ drop (suc n) (events calls empty)
   inside : ltb n (length (events calls empty)) ≡ true
-  given : givesOut i (getD (events calls empty) n none) ≡ true
-  program : contentsAt (lookup (getD (events calls empty) n none .before .disc) (startName (getD (events calls empty) n none .call) (getD (events calls empty) n none .before))) (getD (events calls empty) n none .before .disc)
-      ≡ some hours
+  gives : givesOut i (getD (events calls empty) n none) ≡ true
+  program : fileNamed (getD (events calls empty) n none .before .disc) (startName (getD (events calls empty) n none .call) (getD (events calls empty) n none .before)) ≡ hours
   undisturbed : Undisturbed i rest
-  inputs-are : inputs (done (watch i rest)) ≡ fed
+  inputs-are : inputs (notRefused (watch i rest)) ≡ fed
 
 started : (i n : ℕ) (calls : List Invocation) (rest : List Event) → Computed i n calls rest → Started i hours (events calls empty) rest
 started i n calls rest c =
@@ -72,31 +70,31 @@ started i n calls rest c =
       start = getD es n none;
       later = [];
       splits = split-at es n none (ltb-true n (length es) (c .inside)) ∙ ap (λ (l : List Event). take n es ++ (getD es n none ∷ l)) (sym (c .rest-is) ∙ sym (append-nil rest));
-      given = c .given;
+      gives = c .gives;
       program = c .program;
     }
 
-runs : Computed 1 1 alone restAlone × Computed 3 5 beside restBeside × (length (watch 1 restAlone) ≡ 11) × (getD (observations (done (watch 1 restAlone))) 7 (declined (pos 0)) ≡ printed)
-unfolding none restAlone restBeside givesOut lacksSpace turnDisturbs writeLands events turnEvents watch answer storeAnswer checked lookup index entryAt tab goodDisc goodFiles goodEntry goodField goodName besideEntry all pairs apart fits lowest place placeOf admission entered erased writtenAt readAt goodArea goodKernel goodHeader goodProcess goodLive goodRegisters goodFile isProgram otherId goodVariables goodVariable goodSize besideVariable kernelOf kernelBytes variablesOf flat inUse any keep ended turned carriedOut answered owned freed assigned placeFor placing added exec performs find instructionOf operatorOf lookupOperator takenBy operates settle pop popNumber popString wellFormed trimmed same unary binary whole wrapped wholeBits convertedFloat numberOf textOf printedOf wholeOf lastDigits ofBits ofFields trailingZeros commanded turnIfRunning turnsOf single starting endedSlot slotOf
+runs : Computed 1 1 alone restAlone × Computed 5 12 beside restBeside × (length (watch 1 restAlone) ≡ 11) × (getD (observations (notRefused (watch 1 restAlone))) 7 (declined (pos 0)) ≡ printed)
+unfolding none restAlone restBeside placeIn givesOut lacksSpace turnDisturbs writeLands events turnEvents watch answer storeAnswer checked lookup index entryAt tab goodDisc goodFiles goodEntry goodField goodName besideEntry all pairs apart fits lowest place placeOf admission entered erased writtenAt readAt goodArea goodKernel goodHeader goodProcess goodLive goodRegisters goodFile isProgram otherId goodVariables goodVariable goodSize besideVariable kernelOf kernelBytes variablesOf flat inUse any keep ended turned carriedOut answered owned freed assigned placeFor placing added exec performs find instructionOf operatorOf lookupOperator takenBy operates settle pop popNumber popString wellFormed trimmed same unary binary whole wrapped wholeBits convertedFloat numberOf textOf printedOf wholeOf lastDigits ofBits ofFields trailingZeros commanded turnIfRunning turnsOf single starting endedSlot slotOf
 runs = (
-  record { rest-is = refl; inside = refl; given = refl; program = refl; undisturbed = refl; inputs-are = refl },
-  record { rest-is = refl; inside = refl; given = refl; program = refl; undisturbed = refl; inputs-are = refl },
+  record { rest-is = refl; inside = refl; gives = refl; program = refl; undisturbed = refl; inputs-are = refl },
+  record { rest-is = refl; inside = refl; gives = refl; program = refl; undisturbed = refl; inputs-are = refl },
   refl,
   refl,
 )
 
 -- so the two are alike in all that is observed, by the theorem
-alike : observations (done (watch 1 restAlone)) ≡ observations (done (watch 3 restBeside))
+alike : observations (notRefused (watch 1 restAlone)) ≡ observations (notRefused (watch 5 restBeside))
 unfolding Isolation
 alike =
-    isolated empty empty alone beside 1 3 hours restAlone restBeside (started 1 1 alone restAlone (runs .0)) (started 3 5 beside restBeside (runs .1)) (runs .0 .undisturbed) (runs .1 .undisturbed)
+    isolated empty empty alone beside 1 5 hours restAlone restBeside (started 1 1 alone restAlone (runs .0)) (started 5 12 beside restBeside (runs .1)) (runs .0 .undisturbed) (runs .1 .undisturbed)
     (runs .0 .inputs-are ∙ sym (runs .1 .inputs-are)) .0
 
 pub example-holds : Example
 unfolding Example
 example-holds = (
   started 1 1 alone restAlone (runs .0),
-  started 3 5 beside restBeside (runs .1),
+  started 5 12 beside restBeside (runs .1),
   runs .0 .undisturbed,
   runs .1 .undisturbed,
   runs .0 .inputs-are,

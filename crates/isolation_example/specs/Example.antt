@@ -1,5 +1,5 @@
--- Two runs in which all that demand 3 supposes holds, so that the claim is not empty: one process alone, and the same program under another name, ID
--- and slot beside neighbours that use its variable's name, print, fork and write a file.
+-- Two runs in which all that demand 3 supposes holds, so that the claim is not empty: one process alone, started by run, and the same program under
+-- another name, ID and slot, started by another's FORK within a round, beside neighbours that use its variable's name, print, fork and write a file.
 use Prim.Native.Nat.{ℕ}
 use mathlib.Core.Path.{_≡_}
 use mathlib.Core.List.{List, [], _∷_}
@@ -8,7 +8,7 @@ use lib.ListN.{drop, getD, length, replicate}
 use Rattle.machine.specs.Answer.{Call, store, run, command, turn, round, booted}
 use Rattle.machine.specs.Isolation.{Started}
 use Rattle.machine.specs.Suppositions.{Undisturbed}
-use Rattle.machine.specs.Observation.{Observation, declined, seen, done, inputs, observations, watch}
+use Rattle.machine.specs.Observation.{Observation, declined, seen, inputs, notRefused, observations, watch}
 use Rattle.machine.specs.Operations.{suspend, resume, kill}
 use Rattle.machine.specs.Single.{Input, tick, given}
 use Rattle.machine.specs.Trace.{Event, Invocation, Storage, events}
@@ -25,6 +25,10 @@ lamp = 65 ∷ 45 ∷ 5 ∷ 97 ∷ 6 ∷ 97 ∷ 51 ∷ 66 ∷ []
 abbrev pub meddler : List ℕ
 meddler = 3 ∷ 108 ∷ 0 ∷ 68 ∷ 3 ∷ 108 ∷ 0 ∷ 2 ∷ 0 ∷ 1 ∷ 53 ∷ 1 ∷ 45 ∷ 55 ∷ []
 
+-- STRING "c", FORK, STOP
+abbrev pub starter : List ℕ
+starter = 3 ∷ 99 ∷ 0 ∷ 68 ∷ 67 ∷ []
+
 abbrev pub empty : Storage
 empty = record { disc = replicate 1024 0; area = booted }
 
@@ -38,11 +42,12 @@ alone =
     lend (turn 0 1) ∷ lend (command suspend 1) ∷ lend (command suspend 1) ∷ lend (command resume 1) ∷
     lend (turn 0 2) ∷ lend (turn 0 3) ∷ lend (turn 0 4) ∷ lend (turn 0 5) ∷ lend (turn 0 6) ∷ lend (turn 0 7) ∷ lend (command kill 1) ∷ []
 
--- ID 3 in slot 2, by rounds
+-- ID 5 in slot 4, by rounds: in the second one the meddler forks ID 4 and the starter ID 5, which has its first turn in that round
 abbrev pub beside : List Invocation
 beside =
-    lend (store (108 ∷ []) lamp) ∷ lend (store (109 ∷ []) meddler) ∷ lend (store (99 ∷ []) hours) ∷ lend (run (108 ∷ [])) ∷ lend (run (109 ∷ [])) ∷ lend (run (99 ∷ [])) ∷
-    lend (round 1) ∷ lend (command suspend 3) ∷ lend (round 99) ∷ lend (command resume 3) ∷
+    lend (store (108 ∷ []) lamp) ∷ lend (store (109 ∷ []) meddler) ∷ lend (store (99 ∷ []) hours) ∷ lend (store (115 ∷ []) starter) ∷
+    lend (run (108 ∷ [])) ∷ lend (run (109 ∷ [])) ∷ lend (run (115 ∷ [])) ∷
+    lend (round 50) ∷ lend (round 1) ∷ lend (command suspend 5) ∷ lend (round 99) ∷ lend (command resume 5) ∷
     lend (round 2) ∷ lend (round 3) ∷ lend (round 4) ∷ lend (round 5) ∷ lend (round 6) ∷ lend (round 7) ∷ []
 
 -- what follows the start
@@ -50,7 +55,7 @@ unfoldable pub restAlone : List Event
 restAlone = drop 2 (events alone empty)
 
 unfoldable pub restBeside : List Event
-restBeside = drop 6 (events beside empty)
+restBeside = drop 13 (events beside empty)
 
 -- what both are fed and do not refuse
 abbrev pub fed : List Input
@@ -75,11 +80,11 @@ printed =
 unfoldable pub Example : Type 0
 Example =
     Started 1 hours (events alone empty) restAlone
-    × Started 3 hours (events beside empty) restBeside
+    × Started 5 hours (events beside empty) restBeside
     × Undisturbed 1 restAlone
-    × Undisturbed 3 restBeside
-    × (inputs (done (watch 1 restAlone)) ≡ fed)
-    × (inputs (done (watch 3 restBeside)) ≡ fed)
-    × (observations (done (watch 1 restAlone)) ≡ observations (done (watch 3 restBeside)))
+    × Undisturbed 5 restBeside
+    × (inputs (notRefused (watch 1 restAlone)) ≡ fed)
+    × (inputs (notRefused (watch 5 restBeside)) ≡ fed)
+    × (observations (notRefused (watch 1 restAlone)) ≡ observations (notRefused (watch 5 restBeside)))
     × (length (watch 1 restAlone) ≡ 11)
-    × (getD (observations (done (watch 3 restBeside))) 7 (declined (pos 0)) ≡ printed)
+    × (getD (observations (notRefused (watch 5 restBeside))) 7 (declined (pos 0)) ≡ printed)
