@@ -52,10 +52,10 @@ abbrev pub onOutput : Reported → Buffers → Answer
 onOutput r b = record { number = r .number; disc = b .disc; area = b .area; out = r .out }
 
 -- ---- operations that take both
--- Document 01: "Every operation tries 1, 2, 3, 4 first, in that order"
 unfoldable pub goodArea : List ℕ → List ℕ → Bool
 goodArea disc area = goodKernel (entries disc) (kernelOf area)
 
+-- Document 01: "Every operation tries 1, 2, 3, 4 first, in that order"
 abbrev pub onGood : Buffers → Answer → Answer
 onGood b rest =
     unless (isDiscLength (length (b .disc)) && isAreaLength (length (b .area))) (refused 1 b)
@@ -63,6 +63,7 @@ onGood b rest =
     (unless (goodArea (b .disc) (b .area)) (refused 3 b)
     rest))
 
+-- Document 01: "4: output shorter than needed."
 abbrev pub withRoom : ℕ → Buffers → Answer → Answer
 withRoom n b rest = unless (leb n (length (b .out))) (refused 4 b) rest
 
@@ -70,6 +71,7 @@ withRoom n b rest = unless (leb n (length (b .out))) (refused 4 b) rest
 abbrev pub done : ℕ → Kernel → List ℕ → List ℕ → Buffers → Answer
 done n k disc text b = record { number = pos n; disc = disc; area = kernelBytes k; out = overwrite (b .out) 0 text }
 
+-- Document 01, Erase: "10; 11 a live process runs it or has it open."
 abbrev pub eraseAt : Found → Kernel → Buffers → Answer
 eraseAt Nowhere k b = refused 10 b
 eraseAt (At i) k b =
@@ -98,6 +100,7 @@ turnAnswer slot clock k b =
     (unless (ltb slot 10 && isRunning (processAt k slot)) (refused 16 b)
     (turnedAnswer (turned k slot clock (b .disc)) b))
 
+-- Document 01, Round: "needs 320 bytes"
 abbrev pub roundAnswer : ℕ → Kernel → Buffers → Answer
 roundAnswer clock k b = withRoom 320 b (turnedAnswer (turnsOf slots k clock (b .disc)) b)
 

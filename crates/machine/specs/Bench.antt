@@ -8,6 +8,8 @@ use lib.ListN.{length, replicate}
 use Rattle.buffer.specs.declared.Found.{Found}
 use Rattle.buffer.specs.declared.Found.the-variants.{At, Nowhere}
 use Rattle.store.specs.Directory.{entryAt, lookup}
+use Rattle.store.specs.Name.{padded}
+use Rattle.store.specs.declared.Entry.{Entry}
 use Rattle.machine.specs.Answer.{Answer, Buffers, Call, answer, booted, formatAnswer, store}
 use Rattle.machine.specs.Area.{kernelOf}
 use Rattle.machine.specs.Single.{Single, Response, refusedBy, did, fresh, single, tick}
@@ -52,9 +54,11 @@ seenAlone stopped = refused
 abbrev pub alone : List ℕ → ℕ → Seen
 alone program n = seenAlone (turns (λ s. responded (single program s (tick 0))) fresh n)
 
--- ---- of the kernel: started in slot 0, on a disc that holds the program from 0 on
+-- ---- of the kernel: started in slot 0, on a disc that holds the program where data begin
 abbrev pub loaded : List ℕ → Turned
-loaded program = record { kernel = started (kernelOf booted) 0 (record { name = []; start = 0; len = length program }); disc = program; out = [] }
+loaded program =
+    let file : Entry = record { name = padded (110 ∷ []); start = 161; len = length program } in
+    record { kernel = started (kernelOf booted) 0 file; disc = replicate 161 0 ++ program; out = [] }
 
 abbrev pub turnOfFirst : Turned → Progress Turned
 turnOfFirst t = let u = turned (t .kernel) 0 0 (t .disc) in cond (isRunning (processAt (t .kernel) 0)) (reached (u .out) u) stopped
@@ -97,11 +101,14 @@ startOf disc letter = startAt disc (lookup disc (letter ∷ []))
 pub data Row : Type 0 where
   -- a program, how many turns it takes, and what is seen after them
   runs : (program : List ℕ) (n : ℕ) → Seen → Row
+  -- the same of the kernel alone: to the single process "fault 10 never comes"
+  runsInKernel : (program : List ℕ) (n : ℕ) → Seen → Row
   -- calls on formatted buffers; n bytes stored after them go to that start
   stores : (calls : List Call) (n start : ℕ) → Row
 
 abbrev pub Holds : Row → Type 0
 Holds (runs program n seen) = (alone program n ≡ seen) × (inKernel program n ≡ seen)
+Holds (runsInKernel program n seen) = inKernel program n ≡ seen
 Holds (stores calls n start) = startOf (after (storing 110 n ∷ []) (after calls formatted) .disc) 110 ≡ At start
 
 abbrev pub Every : List Row → Type 0

@@ -81,6 +81,7 @@ module _ (k : Kernel) (slot : ℕ) (disc : List ℕ) where
   abbrev pub inside : ℕ → Answered → Answered
   inside n rest = unlessBreaks (leb (ownFile .offset + n) (ownFile .len)) 12 rest
 
+  -- Document 01: "WRITE and variable memory keep a value's bytes in stack order, without length and type."
   abbrev pub written : List ℕ → Local → Answered
   written bytes l = withOpenFile (inside (length bytes) (continues l (advanced ownFile (length bytes)) (writtenAt disc (fileRun ownFile) (ownFile .offset) bytes)))
 

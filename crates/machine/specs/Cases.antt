@@ -2,8 +2,9 @@
 use Prim.Native.Nat.{ℕ}
 use mathlib.Core.List.{List, [], _∷_, _++_}
 use lib.ListN.{replicate}
+use Rattle.buffer.specs.Lists.{flat, tab}
 use Rattle.machine.specs.Answer.{Call, erase}
-use Rattle.machine.specs.Bench.{Every, Row, runs, shows, stores, storing}
+use Rattle.machine.specs.Bench.{Every, Row, runs, runsInKernel, shows, stores, storing}
 
 abbrev pub letters : ℕ → List ℕ
 letters n = replicate n 97
@@ -47,6 +48,10 @@ cases =
 abbrev pub down : List ℕ
 down = 2 ∷ 0 ∷ 3 ∷ 5 ∷ 110 ∷ 6 ∷ 110 ∷ 63 ∷ 2 ∷ 8 ∷ 6 ∷ 110 ∷ 52 ∷ 6 ∷ 110 ∷ 8 ∷ 5 ∷ 110 ∷ 64 ∷ 67 ∷ []
 
+-- CHAR 7, SET under each of the names 0 to n − 1
+abbrev pub assignments : ℕ → List ℕ
+assignments n = flat (λ i. 1 ∷ 7 ∷ 5 ∷ i ∷ []) (tab (λ i. i) n)
+
 -- Document 01, 'Misreadings of the guide'
 abbrev pub misreadings : List Row
 misreadings =
@@ -57,6 +62,9 @@ misreadings =
     runs (1 ∷ 0 ∷ 63 ∷ 1 ∷ 2 ∷ 1 ∷ 9 ∷ 64 ∷ 1 ∷ 7 ∷ []) 3 (shows (7 ∷ 1 ∷ []) 0 []) ∷
     -- "A.3.4 adds the condition length twice": ENDWHILE goes back to the condition
     runs down 29 (shows [] 0 (51 ∷ 10 ∷ 50 ∷ 10 ∷ 49 ∷ 10 ∷ [])) ∷
+    -- "Testing for a full variable table before freeing the old value (6.8)": one of 25 is set again; "a 26th variable gives fault 10"
+    runs (assignments 25 ++ (1 ∷ 9 ∷ 5 ∷ 0 ∷ 6 ∷ 0 ∷ [])) 53 (shows (9 ∷ 1 ∷ []) 0 []) ∷
+    runsInKernel (assignments 26) 52 (shows [] 10 []) ∷
     -- "A jump measured from the instruction byte and not past its arguments": IF 2 on zero skips CHAR 9; it leaves what it looks at
     runs (1 ∷ 0 ∷ 60 ∷ 2 ∷ 1 ∷ 9 ∷ 1 ∷ 7 ∷ []) 3 (shows (0 ∷ 1 ∷ 7 ∷ 1 ∷ []) 0 []) ∷
     runs (1 ∷ 1 ∷ 61 ∷ 2 ∷ 1 ∷ 9 ∷ 1 ∷ 7 ∷ []) 3 (shows (1 ∷ 1 ∷ 7 ∷ 1 ∷ []) 0 []) ∷

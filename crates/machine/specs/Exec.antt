@@ -1,11 +1,10 @@
 -- One instruction, as a function of the process alone: its program bytes, the clock, its own state and its own variables.
 -- The order of faults is the order of the lines.
 use Prim.Native.Nat.{ℕ, _+_, _-_, _/_, _%_}
-use mathlib.Core.Bool.{Bool, cond}
+use mathlib.Core.Bool.{Bool, Bool·beq, cond}
 use mathlib.Core.List.{List, [], _∷_, _++_}
 use lib.Dec.{eqb, leb, ltb}
 use lib.ListN.{length, getD, drop, take}
-use mathlib.Core.Bool.{Bool·beq}
 use Rattle.buffer.specs.Buffer.{part}
 use Rattle.buffer.specs.Lists.{index}
 use Rattle.buffer.specs.declared.Found.the-variants.{At}
@@ -35,7 +34,7 @@ module _ (prog : List ℕ) (clock : ℕ) where
   abbrev pub pushLiteral : Local → ℕ → ℕ → Effect
   pushLiteral l pc kind = withArguments pc kind (onward l (pc + kind) (push (l .stack) kind (part prog pc kind)) [])
 
-  -- "STRING without its zero inside the code" is fault 2
+  -- fault 2 also where no zero follows inside the code
   abbrev pub pushText : Local → ℕ → Effect
   pushText l pc =
       let text = trimmed (drop pc prog) in
@@ -48,6 +47,7 @@ module _ (prog : List ℕ) (clock : ℕ) where
       (withPopped (pop aValue (l .stack)) λ x rest.
       assigns (argument pc) (x .kind) (x .bytes) (record { stack = rest; pc = pc + 1; loopstart = l .loopstart }))
 
+  -- Document 01: "9 no such variable"
   abbrev pub gets : Local → ℕ → List Cell → Effect
   gets l pc own =
       withArguments pc 1
@@ -61,6 +61,7 @@ module _ (prog : List ℕ) (clock : ℕ) where
       withPopped (pop aNumber (l .stack)) λ x rest.
       cond (exceeds (number x) (clockInt clock)) (goes l []) (onward l pc rest [])
 
+  -- MILLIS pushes the milliseconds counter as an INT (guide 9.5) of 16 bits (A.4): document 01's "the clock's low 16 bits taken as INT"
   abbrev pub pushClock : Local → ℕ → Effect
   pushClock l pc = onward l pc (push (l .stack) 2 (clock % 65536 / 256 ∷ clock % 256 ∷ [])) []
 
@@ -69,7 +70,7 @@ module _ (prog : List ℕ) (clock : ℕ) where
   prints l pc ends = withPopped (pop aValue (l .stack)) λ x rest. onward l pc rest (printed x ++ newline ends)
 
   -- ---- flow. Jumps count from past the arguments.
-  -- "IF and ELSE look at a number and leave its bytes as they are"
+  -- IF and ELSE look at a number and leave it as it lies.
   abbrev pub jumpsIf : Local → ℕ → Bool → Effect
   jumpsIf l pc zero =
       withArguments pc 1
@@ -79,7 +80,7 @@ module _ (prog : List ℕ) (clock : ℕ) where
   abbrev pub drops : Local → ℕ → Effect
   drops l pc = withPopped (pop aNumber (l .stack)) λ x rest. onward l pc rest []
 
-  -- Document 01: "WHILE c b pops; zero skips b + 1; otherwise the raw byte c + b + 4 is pushed."
+  -- Document 01: "WHILE c b pops; zero skips b + 1; otherwise the raw byte c + b + 4 is pushed."; fault 8: "c + b above 251 on a value not zero"
   abbrev pub whiles : Local → ℕ → Effect
   whiles l pc =
       let c = argument pc in

@@ -41,7 +41,7 @@ commandAt (At slot) suspend k = changed k slot paused
 commandAt (At slot) resume k = changed k slot running
 commandAt (At slot) kill k = becomes (ended k slot 0)
 
--- Document 01: "14 no live process of that ID"
+-- Document 01: "14 no live process of that ID"; "Kill: 14."
 unfoldable pub commanded : Command → ℕ → Kernel → Commanded
 commanded c id k = commandAt (slotOf k id) c k
 

@@ -55,6 +55,7 @@ module _ (k : Kernel) (slot : ℕ) (disc : List ℕ) where
   carriedOut (asks r) = answering (answered k slot disc r)
 
 -- the bytes of a process's program: the part of the disc that its record names
+-- Document 01: "An instruction reads its argument bytes from the program's own part of the disc."; "PC and loop are offsets from the code start."
 abbrev pub programOf : List ℕ → Process → List ℕ
 programOf disc p = contents disc (p .code)
 

@@ -35,7 +35,7 @@ pub struct Kernel {
     pub processes: [Process; 10],
 }
 
-// Document 01: the bench cases K1 to K12, "proved together, in one table with one statement".
+// Document 01: the bench cases K1 to K12, "Proved together, in one table with one statement".
 pub fn bench()
     ensures { λ _. ⌜ Bench ⌝ }
 {}

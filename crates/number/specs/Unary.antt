@@ -36,7 +36,7 @@ absolute (Char x) = Char (wrapped w8 (pos (natAbs x)))
 absolute (Int x) = Int (wrapped w16 (pos (natAbs x)))
 absolute (Float x) = Float (magnitude x)
 
--- Document 01: "of a whole number it is the whole root"; "8 .. negative whole root".
+-- Document 01: "of a whole number it is the whole root"; "8 [..] negative whole root".
 abbrev pub wholeSquareRoot : (ℤ → Number) → ℤ → Outcome
 wholeSquareRoot k (pos n) = Value (k (pos (wholeRoot n)))
 wholeSquareRoot k (negsuc n) = OutOfRange
