@@ -43,6 +43,7 @@ pub mod Commanding
 -- the demands
 pub mod Refused
 pub mod Lasting
+pub mod AnswerFaults
 pub mod Faulting
 pub mod Openings
 pub mod Places

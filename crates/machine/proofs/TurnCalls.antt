@@ -31,7 +31,7 @@ use Rattle.machine.proofs.LiveRecords.{running-live, within-local}
 use Rattle.machine.proofs.Places.{turn-open-refused, turn-set-lacking}
 use Rattle.machine.proofs.Rounds.{below-not-done, turn-running}
 use Rattle.machine.proofs.Slots.{live-inside}
-use Rattle.machine.proofs.Turning.{turn-prints}
+use Rattle.machine.proofs.Turning.{SoundAt, turn-prints}
 
 module _ (b : Buffers) (slot clock : ℕ) (may : MayTurn b slot) where
   abbrev step : Turned
@@ -45,6 +45,9 @@ module _ (b : Buffers) (slot clock : ℕ) (may : MayTurn b slot) where
 
   inside : slot < length (stateOf b .processes)
   inside = live-inside (stateOf b) slot (running-live (processAt (stateOf b) slot) (may .running))
+
+  sound : SoundAt (stateOf b) slot clock (b .disc)
+  sound = exec-sound _ clock _ _ (within-local good slot (running-live (processAt (stateOf b) slot) (may .running)))
 
   pub turn-done : answer (turn slot clock) b ≡ turnedAnswer step b
   turn-done = turn-running b slot clock (may .passes) (may .room) (may .low) (may .running)
@@ -63,7 +66,7 @@ module _ (b : Buffers) (slot clock : ℕ) (may : MayTurn b slot) where
       )
 
   pub ends-or-runs : ((n : ℕ) × Ends (stateOf b) slot clock (b .disc) n) ⊎ Running (turnedState b slot clock) true
-  ends-or-runs = subst⁻¹ (λ (j : Kernel). ((n : ℕ) × Ends (stateOf b) slot clock (b .disc) n) ⊎ Running j true) state-after (ends-or-goes (stateOf b) slot clock (b .disc) (may .running) inside)
+  ends-or-runs = subst⁻¹ (λ (j : Kernel). ((n : ℕ) × Ends (stateOf b) slot clock (b .disc) n) ⊎ Running j true) state-after (ends-or-goes (stateOf b) slot clock (b .disc) (may .running) inside sound)
 
   -- ---- places
   stopped : StopsRunning b slot clock → Running (step .kernel) false
@@ -79,7 +82,7 @@ module _ (b : Buffers) (slot clock : ℕ) (may : MayTurn b slot) where
 
   -- ---- output
   pub prints-little : length (step .out) ≤ 32
-  prints-little = turn-prints (stateOf b) slot clock (b .disc) good (may .running) (exec-sound _ clock _ _ (within-local good slot (running-live (processAt (stateOf b) slot) (may .running))))
+  prints-little = turn-prints (stateOf b) slot clock (b .disc) good (may .running) sound
 
 -- ---- a turn that is done has passed the tests
 pub turn-passed : (b : Buffers) (slot clock n : ℕ) → answer (turn slot clock) b .number ≡ pos n → MayTurn b slot
