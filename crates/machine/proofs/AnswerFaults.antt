@@ -4,6 +4,7 @@ use mathlib.Core.Path.{_≡_, refl, subst}
 use mathlib.Core.Bool.{Bool, true, false, cond}
 use mathlib.Core.List.{List}
 use mathlib.Core.Logic.{_⊎_, inl, inr}
+use native.Mathlib.Omega.{arith}
 use lib.Dec.{eqb, leb}
 use lib.ListN.{length}
 use Rattle.buffer.specs.declared.Found.{Found}
@@ -82,3 +83,34 @@ module _ (k : Kernel) (slot : ℕ) (disc : List ℕ) where
 
   pub answer-fault : (r : Request) (n : ℕ) → answered k slot disc r ≡ breaks n → FaultOf r n
   answer-fault r n e = subst (Breaks (FaultOf r)) e (answer-breaks r)
+
+-- ---- by the fault
+pub fault-number : (r : Request) (n : ℕ) → FaultOf r n → (n ≡ 13) ⊎ ((n ≡ 4) ⊎ ((n ≡ 11) ⊎ (n ≡ 12)))
+fault-number (opens name size l) n h = inl h
+fault-number (closes l) n h = absurd h
+fault-number (writes bytes l) n h = inr (inr h)
+fault-number (reads kind l) n h = inr h
+fault-number (readsString l) n h = inr h
+fault-number (forks name l) n h = absurd h
+fault-number (awaits id stay go) n h = absurd h
+
+-- 13 is OPEN's alone
+pub thirteen-opens : (r : Request) (n : ℕ) → n ≡ 13 → FaultOf r n → (name : List ℕ) × (size : Number) × (l : Local) × (r ≡ opens name size l)
+thirteen-opens r n thirteen h = go r h
+  where
+    past-end : (n ≡ 11) ⊎ (n ≡ 12) → ⊥
+    past-end (inl e) = omega arith
+    past-end (inr e) = omega arith
+
+    read : (n ≡ 4) ⊎ ((n ≡ 11) ⊎ (n ≡ 12)) → ⊥
+    read (inl e) = omega arith
+    read (inr e) = past-end e
+
+    go : (q : Request) → FaultOf q n → (name : List ℕ) × (size : Number) × (l : Local) × (q ≡ opens name size l)
+    go (opens name size l) h = (name, size, l, refl)
+    go (closes l) h = absurd h
+    go (writes bytes l) h = absurd (past-end h)
+    go (reads kind l) h = absurd (read h)
+    go (readsString l) h = absurd (read h)
+    go (forks name l) h = absurd h
+    go (awaits id stay on) h = absurd h

@@ -51,6 +51,7 @@ pub mod Rounds
 pub mod GoodCalls
 pub mod Booted
 pub mod TurnCalls
+pub mod EndFaults
 -- isolation
 pub mod CallEffects
 pub mod Following
