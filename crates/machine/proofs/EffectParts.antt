@@ -31,17 +31,17 @@ use Rattle.machine.proofs.Sound.{Asked, Within}
 abbrev pub instructionByte : List ℕ → Local → ℕ
 instructionByte prog l = getD prog (l .pc) 0
 
--- an effect that is sound where the process fits its record, and asks only by a byte that may
+-- an effect that is sound where the process fits its record, assigns only by SET's byte, 5, and asks only by a byte that may
 unfoldable pub Does : List ℕ → Local → Effect → Type 0
 Does prog l (goes m out) = Within (length prog) l → Within (length prog) m × (length out ≤ 32)
-Does prog l (assigns name kind bytes m) = Within (length prog) l → Within (length prog) m × (goodSize kind (length bytes) ≡ true)
+Does prog l (assigns name kind bytes m) = (instructionByte prog l ≡ 5) × (Within (length prog) l → Within (length prog) m × (goodSize kind (length bytes) ≡ true))
 Does prog l stops = Unit {0}
-Does prog l (faults n) = (1 ≤ n) × (n ≤ 13)
+Does prog l (faults n) = (1 ≤ n) × (n ≤ 9)
 Does prog l (asks r) = (reaching (instructionByte prog l) ≡ true) × (Within (length prog) l → Asked prog l r)
 
 module _ (prog : List ℕ) (l : Local) where
   -- ---- the parts that instructions are made of
-  pub unless-does : (b : Bool) (n : ℕ) (e : Effect) → (1 ≤ n) × (n ≤ 13) → (b ≡ true → Does prog l e) → Does prog l (unlessFaults b n e)
+  pub unless-does : (b : Bool) (n : ℕ) (e : Effect) → (1 ≤ n) × (n ≤ 9) → (b ≡ true → Does prog l e) → Does prog l (unlessFaults b n e)
   unfolding Does
   unless-does true n e f h = h refl
   unless-does false n e f h = f

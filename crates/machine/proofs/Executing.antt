@@ -60,7 +60,7 @@ module _ (prog : List ℕ) (clock : ℕ) (l : Local) (pc : ℕ) (inside : pc ≤
   performs-does setVariable own h =
       arguments 1 _ λ a.
       popped-does prog l aValue (l .stack) _ λ x rest e t.
-      λ w. (record { stack = omega (arith, w .stack, t .lay); pc = a; loop = w .loop }, value-good-size (l .stack) x rest t (w .stack))
+      (eqb-true _ _ h, λ w. (record { stack = omega (arith, w .stack, t .lay); pc = a; loop = w .loop }, value-good-size (l .stack) x rest t (w .stack)))
   performs-does getVariable own h = arguments 1 _ λ a. cell-does prog l (index (λ c. eqb (c .name) (getD prog pc 0)) own) own _ λ c. onward-does prog l _ _
   performs-does (operate o) own h = operates-does prog l o (l .stack) _ λ s. onward-does prog l _ s
   performs-does delayUntil own h =
@@ -99,7 +99,7 @@ exec-sound prog clock l own w = go (exec prog clock l own) (exec-does prog clock
   where
     go : (e : Effect) → Does prog l e → Sound prog l e
     go (goes m out) d = d w
-    go (assigns name kind bytes m) d = d w
+    go (assigns name kind bytes m) d = d .1 w
     go stops d = tt
     go (faults n) d = d
     go (asks r) d = d .1 w
@@ -110,3 +110,11 @@ unfolding Does
 exec-quiet prog clock l own q r e =
     let d : Does prog l (asks r) = subst (λ (x : Effect). Does prog l x) e (exec-does prog clock l own) in
     true-not-false (d .0) q
+
+-- only SET assigns
+pub exec-sets-byte : (prog : List ℕ) (clock : ℕ) (l : Local) (own : List Cell) (name kind : ℕ) (bytes : List ℕ) (m : Local)
+    → exec prog clock l own ≡ assigns name kind bytes m → getD prog (l .pc) 0 ≡ 5
+unfolding Does
+exec-sets-byte prog clock l own name kind bytes m e =
+    let d : Does prog l (assigns name kind bytes m) = subst (λ (x : Effect). Does prog l x) e (exec-does prog clock l own) in
+    d .0

@@ -2,28 +2,34 @@
 -- leaves it running.
 use Prim.Native.Nat.{ℕ, _<_}
 use mathlib.Core.Path.{_≡_, refl, sym, ap, subst⁻¹, _∙_}
-use mathlib.Core.Bool.{true}
+use mathlib.Core.Bool.{true, not}
 use mathlib.Core.List.{List}
 use mathlib.Core.Logic.{_⊎_, inl, inr}
 use lib.ListN.{length}
 use lib.Seq.{getD-set-other, getD-set-same}
-use Rattle.variable.specs.Table.{ownedBy}
+use Rattle.buffer.specs.Lists.{keep}
+use Rattle.buffer.proofs.Kept.{keep-keep}
+use Rattle.variable.specs.Table.{counted, freedAll, ownedBy}
 use Rattle.variable.specs.declared.Assigned.{Assigned}
 use Rattle.variable.specs.declared.Placing.{Placing}
 use Rattle.variable.specs.declared.Placing.the-variants.{Address, NoEntry, NoRun}
-use Rattle.variable.proofs.Freeing.{freed-memory, owned-freed-all, owned-freed-all-other}
+use Rattle.variable.specs.declared.Variable.{Variable}
+use Rattle.variable.specs.declared.Variables.{Variables}
+use Rattle.variable.proofs.Freeing.{freed-counted, freed-memory, owned-freed-all, owned-freed-all-other}
 use Rattle.machine.specs.Beyond.{Answered, carriesOn, breaks, answered}
 use Rattle.machine.specs.Effect.{Effect, goes, assigns, stops, faults, asks, Request}
-use Rattle.machine.specs.Ending.{Ends, stopped, faulted, unplaced, broken, Touched, effectAt, placed}
-use Rattle.machine.specs.State.{Local, ended, endedProcess, isRunning, noProcess, processAt}
-use Rattle.machine.specs.Turn.{Turned, answering, carriedOut, finished, setting, turned}
+use Rattle.machine.specs.Ending.{Ends, stopped, faulted, unplaced, broken, Touched, effectAt, entriesOfOthers, placed}
+use Rattle.machine.specs.State.{Local, ended, endedProcess, isRunning, localOf, noProcess, processAt}
+use Rattle.machine.specs.Turn.{Turned, answering, carriedOut, finished, programOf, setting, turned}
 use Rattle.machine.specs.declared.Kernel.{Kernel}
 use Rattle.machine.proofs.Lasting.{LeftRunning, answer-left, moved-running}
+use Rattle.machine.proofs.Sound.{Sound}
+use Rattle.machine.proofs.Turning.{SoundAt}
 
 pub turn-ends : {k : Kernel} {slot clock : ℕ} {disc : List ℕ} {n : ℕ} → Ends k slot clock disc n → turned k slot clock disc ≡ finished k slot disc n
 unfolding turned carriedOut
 turn-ends {k} {slot} {clock} {disc} {n} (stopped e z) = ap (carriedOut k slot disc) e ∙ ap (finished k slot disc) (sym z)
-turn-ends {k} {slot} {clock} {disc} {n} (faulted e) = ap (carriedOut k slot disc) e
+turn-ends {k} {slot} {clock} {disc} {n} (faulted e some few) = ap (carriedOut k slot disc) e
 turn-ends {k} {slot} {clock} {disc} {n} (unplaced name kind bytes l e p z) = ap (carriedOut k slot disc) e ∙ none p ∙ ap (finished k slot disc) (sym z)
   where
     a : Assigned
@@ -35,10 +41,10 @@ turn-ends {k} {slot} {clock} {disc} {n} (unplaced name kind bytes l e p z) = ap 
 turn-ends {k} {slot} {clock} {disc} {n} (broken r e q) = ap (carriedOut k slot disc) e ∙ ap (answering k slot disc) q
 
 -- ---- what does not end it leaves it running
-pub ends-or-goes : (k : Kernel) (slot clock : ℕ) (disc : List ℕ) → isRunning (processAt k slot) ≡ true → slot < length (k .processes)
+pub ends-or-goes : (k : Kernel) (slot clock : ℕ) (disc : List ℕ) → isRunning (processAt k slot) ≡ true → slot < length (k .processes) → SoundAt k slot clock disc
     → ((n : ℕ) × Ends k slot clock disc n) ⊎ (isRunning (processAt (turned k slot clock disc .kernel) slot) ≡ true)
-unfolding turned carriedOut
-ends-or-goes k slot clock disc running low = go (effectAt k slot clock disc) refl
+unfolding turned carriedOut Sound
+ends-or-goes k slot clock disc running low sound = go (effectAt k slot clock disc) refl sound
   where
     set-left : (name kind : ℕ) (bytes : List ℕ) (l : Local) → effectAt k slot clock disc ≡ assigns name kind bytes l → (q : Placing) → placed k slot name kind bytes .placing ≡ q
         → ((n : ℕ) × Ends k slot clock disc n) ⊎ (isRunning (processAt (setting k slot disc q (placed k slot name kind bytes .variables) l .kernel) slot) ≡ true)
@@ -51,14 +57,20 @@ ends-or-goes k slot clock disc running low = go (effectAt k slot clock disc) ref
     asked r e (carriesOn j after) h left = inr left
     asked r e (breaks n) h left = inl (n, broken r e h)
 
-    go : (e : Effect) → effectAt k slot clock disc ≡ e → ((n : ℕ) × Ends k slot clock disc n) ⊎ (isRunning (processAt (carriedOut k slot disc e .kernel) slot) ≡ true)
-    go (goes l out) e = inr (moved-running k slot running low l)
-    go (assigns name kind bytes l) e = set-left name kind bytes l e (placed k slot name kind bytes .placing) refl
-    go stops e = inl (0, stopped e refl)
-    go (faults n) e = inl (n, faulted e)
-    go (asks r) e = asked r e (answered k slot disc r) refl (answer-left k slot running low disc r)
+    go : (e : Effect) → effectAt k slot clock disc ≡ e → Sound (programOf disc (processAt k slot)) (localOf (processAt k slot)) e
+        → ((n : ℕ) × Ends k slot clock disc n) ⊎ (isRunning (processAt (carriedOut k slot disc e .kernel) slot) ≡ true)
+    go (goes l out) e h = inr (moved-running k slot running low l)
+    go (assigns name kind bytes l) e h = set-left name kind bytes l e (placed k slot name kind bytes .placing) refl
+    go stops e h = inl (0, stopped e refl)
+    go (faults n) e h = inl (n, faulted e (h .0) (h .1))
+    go (asks r) e h = asked r e (answered k slot disc r) refl (answer-left k slot running low disc r)
 
 -- ---- what ending touches: the own record and the entries of the own variables
+others-stay : (v : Variables) (id : ℕ) → entriesOfOthers id (freedAll v id) ≡ entriesOfOthers id v
+others-stay v id =
+    ap (λ (l : List Variable). keep (λ e. not (ownedBy id e)) l) (freed-counted v (ownedBy id))
+    ∙ keep-keep (λ e. not (ownedBy id e)) (λ e. not (ownedBy id e)) (counted v) (λ e h. h)
+
 pub ended-touches : (k : Kernel) (slot n : ℕ) → slot < length (k .processes) → Touched k slot n (ended k slot n)
 unfolding ended
 ended-touches k slot n h =
@@ -67,6 +79,7 @@ ended-touches k slot n h =
       others = λ i d. getD-set-other (k .processes) slot i (endedProcess (processAt k slot) n) noProcess d;
       own = getD-set-same (k .processes) slot (endedProcess (processAt k slot) n) noProcess h;
       other-variables = λ id d. owned-freed-all-other (k .variables) (processAt k slot .id) id d;
+      other-entries = others-stay (k .variables) (processAt k slot .id);
       own-variables = owned-freed-all (k .variables) (processAt k slot .id);
       next = refl;
       zeros = refl;

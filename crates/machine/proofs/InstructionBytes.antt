@@ -32,11 +32,11 @@ pub reads-by : (b : ℕ) → eqb b 56 || (eqb b 57 || eqb b 58) ≡ true → (b 
 reads-by b h =
     ⊎-elim (λ e. inl (eqb-true b 56 e)) (λ o. inr (⊎-elim (λ e. inl (eqb-true b 57 e)) (λ e. inr (eqb-true b 58 e)) (or-cases (eqb b 57) (eqb b 58) o))) (or-cases (eqb b 56) (eqb b 57 || eqb b 58) h)
 
--- the byte of an instruction that asks; every other instruction asks nothing
+-- the byte of SET, and of an instruction that asks; every other instruction assigns and asks nothing
 abbrev pub asksBy : ℕ → Instruction → Bool
 asksBy b (literal kind) = true
 asksBy b stringLiteral = true
-asksBy b setVariable = true
+asksBy b setVariable = eqb b 5
 asksBy b getVariable = true
 asksBy b (operate o) = true
 asksBy b delayUntil = true

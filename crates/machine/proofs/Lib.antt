@@ -43,6 +43,7 @@ pub mod Commanding
 -- the demands
 pub mod Refused
 pub mod Lasting
+pub mod AnswerFaults
 pub mod Faulting
 pub mod Openings
 pub mod Places
@@ -50,6 +51,7 @@ pub mod Rounds
 pub mod GoodCalls
 pub mod Booted
 pub mod TurnCalls
+pub mod EndFaults
 -- isolation
 pub mod CallEffects
 pub mod Following

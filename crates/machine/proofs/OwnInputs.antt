@@ -1,14 +1,14 @@
 -- A turn or a command of a process that follows the single process: what is observed is what the single process answers, and it follows on.
 use Prim.Native.Nat.{ℕ}
 use mathlib.Core.Path.{_≡_, refl, sym, subst, subst⁻¹, _∙_}
-use mathlib.Core.Bool.{Bool, true, false, cond}
+use mathlib.Core.Bool.{Bool, true, false, cond, _&&_}
 use mathlib.Core.List.{List, []}
 use mathlib.Core.Logic.{⊎-elim}
 use lib.Dec.{eqb, leb, ltb}
 use lib.IntN.{pos}
 use lib.ListN.{getD, length}
 use lib.Seq.{take-at}
-use borrow.Author.Tests.{eqb-true, lt-ltb}
+use borrow.Author.Tests.{eq-eqb, eqb-true, lt-ltb}
 use Rattle.buffer.specs.declared.Found.{Found}
 use Rattle.buffer.specs.declared.Found.the-variants.{At}
 use Rattle.variable.specs.Table.{owned}
@@ -28,8 +28,9 @@ use Rattle.machine.specs.declared.Kernel.{Kernel}
 use Rattle.machine.specs.declared.Process.{Process}
 use Rattle.machine.proofs.Change.{GoodState}
 use Rattle.machine.proofs.Commanding.{command-own}
+use Rattle.buffer.proofs.Bools.{and-false-right}
 use Rattle.buffer.proofs.Disjunctions.{or-cases}
-use Rattle.machine.proofs.Executing.{exec-quiet}
+use Rattle.machine.proofs.Executing.{exec-quiet, exec-sets-byte}
 use Rattle.machine.proofs.Following.{Agrees, Follows, Tracks, on, off, own-effect, own-ends, own-exec, own-goes, own-sets, own-state}
 use Rattle.machine.proofs.Gone.{Gone}
 use Rattle.machine.proofs.GoodCalls.{good-back, on-good, passes-good, turn-good}
@@ -89,8 +90,8 @@ module _ (i : ℕ) (prog : List ℕ) (s : Storage) (out : List ℕ) (q : Single)
       unfolding carriedOut
       turn-agrees h = subst⁻¹ (λ (t : Turned). Agrees i prog (x .slot) q t (singleEffect q e)) (own-effect i prog k (s .disc) q good x clock) (go e refl)
         where
-          lacks : isLacking e (k .variables) i ≡ false
-          lacks = subst (λ (f : Effect). isLacking f (k .variables) i ≡ false) (own-exec i prog k (s .disc) q good x clock) (h .space)
+          lacks : eqb (getD prog (q .loc .pc) 0) 5 && isLacking e (k .variables) i ≡ false
+          lacks = sym (λ z. eqb (getD (x .runs z) (x .holds .pc z) 0) 5 && isLacking (own-exec i prog k (s .disc) q good x clock z) (k .variables) i) ∙ h .space
 
           quiet : isBarred (getD prog (q .loc .pc) 0) ≡ false
           quiet = sym (λ z. isBarred (getD (x .runs z) (x .holds .pc z) 0)) ∙ h .quiet
@@ -98,8 +99,10 @@ module _ (i : ℕ) (prog : List ℕ) (s : Storage) (out : List ℕ) (q : Single)
           go : (f : Effect) → e ≡ f → Agrees i prog (x .slot) q (carriedOut k (x .slot) (s .disc) f) (singleEffect q f)
           go (goes l text) d = own-goes i prog k (s .disc) q good x l text
           go (assigns name kind bytes l) d =
+              let set = eq-eqb _ _ (exec-sets-byte prog clock (q .loc) (q .cells) name kind bytes l d) in
+              let space : isLacking e (k .variables) i ≡ false = and-false-right (eqb (getD prog (q .loc .pc) 0) 5) _ set lacks in
               let free : lacksSpace (k .variables) name (p .id) (length bytes) ≡ false =
-              subst⁻¹ (λ (id : ℕ). lacksSpace (k .variables) name id (length bytes) ≡ false) (x .named) (subst (λ (f : Effect). isLacking f (k .variables) i ≡ false) d lacks) in
+              subst⁻¹ (λ (id : ℕ). lacksSpace (k .variables) name id (length bytes) ≡ false) (x .named) (subst (λ (f : Effect). isLacking f (k .variables) i ≡ false) d space) in
               let r = room-found (k .variables) name (p .id) (valueOf kind bytes) free in
               own-sets i prog k (s .disc) q good x name kind bytes l (r .0) (r .1)
           go stops d = own-ends i prog k (s .disc) q good x 0

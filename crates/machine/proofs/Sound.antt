@@ -1,5 +1,5 @@
 -- What an instruction leaves of a process that fits its record: at most 32 bytes of stack, PC and loop at most the program's length, at most 32
--- bytes printed, a value of a good size, a fault from 1 to 13; and which bytes of the program ask.
+-- bytes printed, a value of a good size, a fault from 1 to 9; and which bytes of the program ask.
 use Prim.Native.Nat.{ℕ, _+_, _≤_}
 use mathlib.Core.Path.{_≡_}
 use mathlib.Core.Bool.{true}
@@ -32,5 +32,5 @@ unfolding Asked
 Sound prog l (goes m out) = Within (length prog) m × (length out ≤ 32)
 Sound prog l (assigns name kind bytes m) = Within (length prog) m × (goodSize kind (length bytes) ≡ true)
 Sound prog l stops = Unit {0}
-Sound prog l (faults n) = (1 ≤ n) × (n ≤ 13)
+Sound prog l (faults n) = (1 ≤ n) × (n ≤ 9)
 Sound prog l (asks r) = Asked prog l r

@@ -1,5 +1,5 @@
 -- A turn as a call: what holds of the state that it steps to holds of the work area that it leaves.
-use Prim.Native.Nat.{ℕ, _-_, _≤_, _<_}
+use Prim.Native.Nat.{ℕ, _≤_, _<_}
 use mathlib.Core.Path.{_≡_, refl, sym, ap, subst, subst⁻¹, _∙_}
 use mathlib.Core.Bool.{Bool, true, false, _&&_}
 use mathlib.Core.List.{List}
@@ -8,19 +8,14 @@ use lib.Dec.{leb, ltb}
 use lib.IntN.{pos}
 use lib.ListN.{length}
 use Rattle.buffer.proofs.Bools.{and-left, and-right}
-use Rattle.number.specs.Compare.{sizeWithin}
-use Rattle.number.specs.declared.Number.{Number}
 use Rattle.store.specs.Directory.{goodDisc, isDiscLength}
 use Rattle.store.specs.File.{unless}
-use Rattle.variable.specs.Table.{freed, isOf}
 use Rattle.machine.specs.Answer.{Answer, Buffers, answer, goodArea, refused, turn, turnedAnswer}
 use Rattle.machine.specs.Area.{isAreaLength, kernelOf}
-use Rattle.machine.specs.Demands.{EndedOnly, StopsRunning, stateOf, turnedState}
-use Rattle.machine.specs.Effect.{asks, assigns, opens}
-use Rattle.machine.specs.Ending.{Ends, Touched, effectAt}
-use Rattle.machine.specs.NoPlace.{Lacking, NewFileRefused}
+use Rattle.machine.specs.Demands.{EndedOnly, stateOf, turnedState}
+use Rattle.machine.specs.Ending.{Ends, Touched}
 use Rattle.machine.specs.Refusals.{MayTurn}
-use Rattle.machine.specs.State.{Local, isRunning, processAt}
+use Rattle.machine.specs.State.{isRunning, processAt}
 use Rattle.machine.specs.Turn.{Turned, finished, turned}
 use Rattle.machine.specs.declared.Kernel.{Kernel}
 use Rattle.machine.proofs.Change.{GoodState}
@@ -28,10 +23,9 @@ use Rattle.machine.proofs.Executing.{exec-sound}
 use Rattle.machine.proofs.Faulting.{ends-or-goes, turn-ends, turn-touches}
 use Rattle.machine.proofs.GoodCalls.{good-back, passes-good, turn-good}
 use Rattle.machine.proofs.LiveRecords.{running-live, within-local}
-use Rattle.machine.proofs.Places.{turn-open-refused, turn-set-lacking}
 use Rattle.machine.proofs.Rounds.{below-not-done, turn-running}
 use Rattle.machine.proofs.Slots.{live-inside}
-use Rattle.machine.proofs.Turning.{turn-prints}
+use Rattle.machine.proofs.Turning.{SoundAt, turn-prints}
 
 module _ (b : Buffers) (slot clock : ℕ) (may : MayTurn b slot) where
   abbrev step : Turned
@@ -45,6 +39,9 @@ module _ (b : Buffers) (slot clock : ℕ) (may : MayTurn b slot) where
 
   inside : slot < length (stateOf b .processes)
   inside = live-inside (stateOf b) slot (running-live (processAt (stateOf b) slot) (may .running))
+
+  sound : SoundAt (stateOf b) slot clock (b .disc)
+  sound = exec-sound _ clock _ _ (within-local good slot (running-live (processAt (stateOf b) slot) (may .running)))
 
   pub turn-done : answer (turn slot clock) b ≡ turnedAnswer step b
   turn-done = turn-running b slot clock (may .passes) (may .room) (may .low) (may .running)
@@ -63,23 +60,11 @@ module _ (b : Buffers) (slot clock : ℕ) (may : MayTurn b slot) where
       )
 
   pub ends-or-runs : ((n : ℕ) × Ends (stateOf b) slot clock (b .disc) n) ⊎ Running (turnedState b slot clock) true
-  ends-or-runs = subst⁻¹ (λ (j : Kernel). ((n : ℕ) × Ends (stateOf b) slot clock (b .disc) n) ⊎ Running j true) state-after (ends-or-goes (stateOf b) slot clock (b .disc) (may .running) inside)
-
-  -- ---- places
-  stopped : StopsRunning b slot clock → Running (step .kernel) false
-  stopped = subst (λ (j : Kernel). Running j false) state-after
-
-  pub set-refused-only : (name kind : ℕ) (bytes : List ℕ) (l : Local) → effectAt (stateOf b) slot clock (b .disc) ≡ assigns name kind bytes l → StopsRunning b slot clock
-      → Lacking (freed (stateOf b .variables) (isOf name (processAt (stateOf b) slot .id))) (length bytes)
-  set-refused-only name kind bytes l e h = turn-set-lacking (stateOf b) slot (may .running) clock (b .disc) name kind bytes l e (stopped h)
-
-  pub open-refused-only : (name : List ℕ) (size : Number) (l : Local) → effectAt (stateOf b) slot clock (b .disc) ≡ asks (opens name size l) → StopsRunning b slot clock
-      → NewFileRefused (b .disc) name (sizeWithin (length (b .disc) - 161) size)
-  open-refused-only name size l e h = turn-open-refused (stateOf b) slot (may .running) clock (b .disc) (good .long) (good .sound) name size l e (stopped h)
+  ends-or-runs = subst⁻¹ (λ (j : Kernel). ((n : ℕ) × Ends (stateOf b) slot clock (b .disc) n) ⊎ Running j true) state-after (ends-or-goes (stateOf b) slot clock (b .disc) (may .running) inside sound)
 
   -- ---- output
   pub prints-little : length (step .out) ≤ 32
-  prints-little = turn-prints (stateOf b) slot clock (b .disc) good (may .running) (exec-sound _ clock _ _ (within-local good slot (running-live (processAt (stateOf b) slot) (may .running))))
+  prints-little = turn-prints (stateOf b) slot clock (b .disc) good (may .running) sound
 
 -- ---- a turn that is done has passed the tests
 pub turn-passed : (b : Buffers) (slot clock n : ℕ) → answer (turn slot clock) b .number ≡ pos n → MayTurn b slot
@@ -99,8 +84,8 @@ turn-passed b slot clock n =
     go true p false q v r w s u t h = below-not-done h
     go false p x q v r w s u t h = below-not-done h
 
-pub turn-returns-little : (b : Buffers) (slot clock n : ℕ) → answer (turn slot clock) b .number ≡ pos n → n ≤ 32
-turn-returns-little b slot clock n done =
+pub turn-output-bound : (b : Buffers) (slot clock n : ℕ) → answer (turn slot clock) b .number ≡ pos n → n ≤ 32
+turn-output-bound b slot clock n done =
     let may = turn-passed b slot clock n done in
     let same : pos (length (turned (stateOf b) slot clock (b .disc) .out)) ≡ pos n = sym (ap (λ (a : Answer). a .number) (turn-done b slot clock may)) ∙ done in
     let size : length (turned (stateOf b) slot clock (b .disc) .out) ≡ n = cc in

@@ -53,37 +53,35 @@ FaultTouchesOwn =
 
 -- ---- places
 -- Document 01, store: "8 ten files already"
-abbrev pub FullOnly : Type 0
-FullOnly = (b : Buffers) (name bytes : List ℕ) → answer (store name bytes) b .number ≡ negℤ (pos 8) → fileCount (b .disc) ≡ 10
+abbrev pub StoreFull : Type 0
+StoreFull = (b : Buffers) (name bytes : List ℕ) → answer (store name bytes) b .number ≡ negℤ (pos 8) → fileCount (b .disc) ≡ 10
 
 -- Document 01, store: "9 no free run long enough"
-abbrev pub NoRunOnly : Type 0
-NoRunOnly = (b : Buffers) (name bytes : List ℕ) → answer (store name bytes) b .number ≡ negℤ (pos 9) → NoneFits (taken (b .disc)) 161 (length (b .disc)) (length bytes)
+abbrev pub StoreNoRun : Type 0
+StoreNoRun = (b : Buffers) (name bytes : List ℕ) → answer (store name bytes) b .number ≡ negℤ (pos 9) → NoneFits (taken (b .disc)) 161 (length (b .disc)) (length bytes)
 
--- the process runs no more after its turn
-abbrev pub StopsRunning : Buffers → ℕ → ℕ → Type 0
-StopsRunning b slot clock = isRunning (processAt (turnedState b slot clock) slot) ≡ false
+-- after its turn the process runs no more, and its record has that fault
+abbrev pub EndsWith : Buffers → ℕ → ℕ → ℕ → Type 0
+EndsWith b slot clock n = (isRunning (processAt (turnedState b slot clock) slot) ≡ false) × (processAt (turnedState b slot clock) slot .fault ≡ n)
 
--- a SET that has met no fault before and ends its process, which is fault 10. Document 01: "SET first frees the old variable"; of the others there are
--- 25, or no address fits
-abbrev pub LackingOnly : Type 0
-LackingOnly =
-    (b : Buffers) (slot clock : ℕ) → MayTurn b slot → (name kind : ℕ) (bytes : List ℕ) (l : Local)
-    → effectAt (stateOf b) slot clock (b .disc) ≡ assigns name kind bytes l
-    → StopsRunning b slot clock
-    → Lacking (freed (stateOf b .variables) (isOf name (processAt (stateOf b) slot .id))) (length bytes)
+-- Document 01, fault 10: "no variable entry or run". It comes of a SET alone. "SET first frees the old variable"; of the others there are 25, or no
+-- address fits
+abbrev pub SetNoPlace : Type 0
+SetNoPlace =
+    (b : Buffers) (slot clock : ℕ) → MayTurn b slot → EndsWith b slot clock 10
+    → (name : ℕ) × (kind : ℕ) × (bytes : List ℕ) × (l : Local) × (effectAt (stateOf b) slot clock (b .disc) ≡ assigns name kind bytes l)
+    × Lacking (freed (stateOf b .variables) (isOf name (processAt (stateOf b) slot .id))) (length bytes)
 
--- an OPEN that has met no fault before and ends its process, which is fault 13
-abbrev pub NewFileOnly : Type 0
-NewFileOnly =
-    (b : Buffers) (slot clock : ℕ) → MayTurn b slot → (name : List ℕ) (size : Number) (l : Local)
-    → effectAt (stateOf b) slot clock (b .disc) ≡ asks (opens name size l)
-    → StopsRunning b slot clock
-    → NewFileRefused (b .disc) name (sizeWithin (length (b .disc) - 161) size)
+-- Document 01, fault 13: "OPEN's new file refused by name, size or store's 8 or 9". It comes of an OPEN alone
+abbrev pub OpenRefused : Type 0
+OpenRefused =
+    (b : Buffers) (slot clock : ℕ) → MayTurn b slot → EndsWith b slot clock 13
+    → (name : List ℕ) × (size : Number) × (l : Local) × (effectAt (stateOf b) slot clock (b .disc) ≡ asks (opens name size l))
+    × NewFileRefused (b .disc) name (sizeWithin (length (b .disc) - 161) size)
 
 -- a place is refused only where there is none: document 01, strictness c, shuts out a "no run" or a "table full" "said too early"
 unfoldable pub PlacesRefusedOnly : Type 0
-PlacesRefusedOnly = FullOnly × NoRunOnly × LackingOnly × NewFileOnly
+PlacesRefusedOnly = StoreFull × StoreNoRun × SetNoPlace × OpenRefused
 
 -- ---- goodness
 abbrev pub RightLengths : Buffers → Type 0
@@ -115,5 +113,5 @@ unfoldable pub EventsAreCalls : Type 0
 EventsAreCalls = (calls : List Invocation) (s : Storage) → AreBytes (s .area) → lastStorage s (events calls s) ≡ afterCalls calls s
 
 -- Document 01, Turn: "at least 32 output bytes" are enough. "Returns the bytes printed"
-unfoldable pub TurnPrintsLittle : Type 0
-TurnPrintsLittle = (b : Buffers) (slot clock n : ℕ) → answer (turn slot clock) b .number ≡ pos n → n ≤ 32
+unfoldable pub TurnOutputBound : Type 0
+TurnOutputBound = (b : Buffers) (slot clock n : ℕ) → answer (turn slot clock) b .number ≡ pos n → n ≤ 32

@@ -1,10 +1,14 @@
 -- What ends a process in its turn, and what its ending touches.
-use Prim.Native.Nat.{ℕ}
+use Prim.Native.Nat.{ℕ, _≤_}
 use mathlib.Core.Path.{_≡_}
+use mathlib.Core.Bool.{not}
 use mathlib.Core.List.{List, []}
 use mathlib.Core.Logic.{_⊎_}
+use Rattle.buffer.specs.Lists.{keep}
 use Rattle.variable.specs.Assign.{assigned}
-use Rattle.variable.specs.Table.{owned}
+use Rattle.variable.specs.Table.{counted, owned, ownedBy}
+use Rattle.variable.specs.declared.Variable.{Variable}
+use Rattle.variable.specs.declared.Variables.{Variables}
 use Rattle.variable.specs.declared.Assigned.{Assigned}
 use Rattle.variable.specs.declared.Placing.the-variants.{NoEntry, NoRun}
 use Rattle.machine.specs.Beyond.{breaks, answered}
@@ -22,13 +26,17 @@ effectAt k slot clock disc = exec (programOf disc (processAt k slot)) clock (loc
 abbrev pub placed : Kernel → ℕ → (name kind : ℕ) → List ℕ → Assigned
 placed k slot name kind bytes = assigned (k .variables) name (processAt k slot .id) (valueOf kind bytes)
 
--- with the fault: STOP's 0, a fault of the instruction itself, SET's "10 no variable entry or run", a fault that disc or table answer
+-- with the fault: STOP's 0, a fault of the instruction itself, 1 to 9, SET's "10 no variable entry or run", a fault that disc or table answer
 pub data Ends (k : Kernel) (slot clock : ℕ) (disc : List ℕ) (n : ℕ) : Type 0 where
   stopped : effectAt k slot clock disc ≡ stops → n ≡ 0 → Ends k slot clock disc n
-  faulted : effectAt k slot clock disc ≡ faults n → Ends k slot clock disc n
+  faulted : effectAt k slot clock disc ≡ faults n → 1 ≤ n → n ≤ 9 → Ends k slot clock disc n
   unplaced : (name kind : ℕ) (bytes : List ℕ) (l : Local) → effectAt k slot clock disc ≡ assigns name kind bytes l
       → (placed k slot name kind bytes .placing ≡ NoEntry) ⊎ (placed k slot name kind bytes .placing ≡ NoRun) → n ≡ 10 → Ends k slot clock disc n
   broken : (r : Request) → effectAt k slot clock disc ≡ asks r → answered k slot disc r ≡ breaks n → Ends k slot clock disc n
+
+-- the entries that are not of that process, in table order, addresses included
+abbrev pub entriesOfOthers : ℕ → Variables → List Variable
+entriesOfOthers id v = keep (λ e. not (ownedBy id e)) (counted v)
 
 -- j is k but for the record of that slot and the entries of its process's variables
 pub record Touched (k : Kernel) (slot n : ℕ) (j : Kernel) : Type 0 where
@@ -38,6 +46,7 @@ pub record Touched (k : Kernel) (slot n : ℕ) (j : Kernel) : Type 0 where
   -- Document 01: "Its record keeps name, ID and fault (0 unless a fault) and is otherwise zero."
   pub own : processAt j slot ≡ endedProcess (processAt k slot) n
   pub other-variables : (id : ℕ) → (id ≡ processAt k slot .id → ⊥) → owned (j .variables) id ≡ owned (k .variables) id
+  pub other-entries : entriesOfOthers (processAt k slot .id) (j .variables) ≡ entriesOfOthers (processAt k slot .id) (k .variables)
   -- Document 01: "Ending (STOP, kill, fault) frees the process's variables."
   pub own-variables : owned (j .variables) (processAt k slot .id) ≡ []
   pub next : j .next ≡ k .next

@@ -47,7 +47,7 @@ lacksSpace v name i n =
     let others = keep (λ e. not (isOf name i e)) (counted v) in
     leb 25 (length others) || not (any (fits (map runOf others) 0 256 n) (tab (λ a. a) 256))
 
--- a SET that meets no earlier fault
+-- what a SET (5) would set, where it meets no earlier fault
 abbrev pub isLacking : Effect → Variables → ℕ → Bool
 isLacking (goes l out) v i = false
 isLacking (assigns name kind bytes l) v i = lacksSpace v name i (length bytes)
@@ -59,7 +59,7 @@ abbrev pub setLacks : ℕ → ℕ → ℕ → Storage → Bool
 setLacks i slot clock s =
     let p = processIn s slot in
     let v = kernelOf (s .area) .variables in
-    isLacking (exec (programOf (s .disc) p) clock (localOf p) (owned v i)) v i
+    eqb (executedBy s slot) 5 && isLacking (exec (programOf (s .disc) p) clock (localOf p) (owned v i)) v i
 
 -- ---- a write that lands
 -- Document 01: "A write lands when another process with that program file open does a WRITE without fault", so it is still live

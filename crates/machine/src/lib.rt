@@ -2,7 +2,7 @@
 use place::Run;
 use variable::Variables;
 ghost use Rattle.machine.specs.Cases.{Bench, Misreadings};
-ghost use Rattle.machine.specs.Demands.{FaultTouchesOwn, GoodKept, PlacesRefusedOnly, RefusedUnchanged, EventsAreCalls, RoundIsTurns, RoundNeverRefused, TurnPrintsLittle};
+ghost use Rattle.machine.specs.Demands.{EventsAreCalls, FaultTouchesOwn, GoodKept, PlacesRefusedOnly, RefusedUnchanged, RoundIsTurns, RoundNeverRefused, TurnOutputBound};
 ghost use Rattle.machine.specs.Isolation.{Isolation};
 
 // The file that a process has open, and how far it has read or written. Length 0: none.
@@ -86,6 +86,6 @@ pub fn events_are_calls()
 {}
 
 // A done turn returns at most 32: the 32 bytes of output that it asks for are enough.
-pub fn turn_prints_little()
-    ensures { λ _. ⌜ TurnPrintsLittle ⌝ }
+pub fn turn_output_bound()
+    ensures { λ _. ⌜ TurnOutputBound ⌝ }
 {}
