@@ -66,7 +66,7 @@ pub turn-good : (k : Kernel) (slot clock : ℕ) (disc : List ℕ) → GoodState 
 turn-good k slot clock disc g h = change-good _ slot k disc _ _ g (turn-is-change k slot clock disc g h)
 
 -- ---- a round
-turn-if-running-good : (k : Kernel) (slot clock : ℕ) (disc : List ℕ) → GoodState k disc → GoodState (turnIfRunning k slot clock disc .kernel) (turnIfRunning k slot clock disc .disc)
+pub turn-if-running-good : (k : Kernel) (slot clock : ℕ) (disc : List ℕ) → GoodState k disc → GoodState (turnIfRunning k slot clock disc .kernel) (turnIfRunning k slot clock disc .disc)
 unfolding turnIfRunning
 turn-if-running-good k slot clock disc g = go (isRunning (processAt k slot)) refl
   where

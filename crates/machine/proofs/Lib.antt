@@ -52,6 +52,8 @@ pub mod GoodCalls
 pub mod Booted
 pub mod TurnCalls
 pub mod EndFaults
+pub mod DueCalls
+pub mod Lengths
 -- isolation
 pub mod CallEffects
 pub mod Following

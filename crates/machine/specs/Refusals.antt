@@ -1,7 +1,7 @@
 -- Which refusals each operation has, and the tests that an operation on both buffers makes first.
 use Prim.Native.Nat.{ℕ}
 use mathlib.Core.Path.{_≡_}
-use mathlib.Core.Bool.{true, _&&_}
+use mathlib.Core.Bool.{Bool, true, _&&_, not}
 use mathlib.Core.List.{List, [], _∷_}
 use lib.Dec.{eqb, leb, ltb}
 use lib.ListN.{length}
@@ -9,8 +9,9 @@ use Rattle.buffer.specs.Lists.{any}
 use Rattle.store.specs.Directory.{goodDisc, isDiscLength}
 use Rattle.machine.specs.Answer.{Buffers, Call, store, retrieve, erase, run, files, freeSpace, list, command, turn, round, goodArea}
 use Rattle.machine.specs.Area.{isAreaLength, kernelOf}
-use Rattle.machine.specs.Operations.{suspend, resume, kill}
+use Rattle.machine.specs.Operations.{Command, suspend, resume, kill}
 use Rattle.machine.specs.State.{isRunning, processAt}
+use Rattle.machine.specs.declared.Process.{Process}
 
 -- the numbers that document 01 names for each operation in the order they are tried, the buffers' 1 to 4 with them
 abbrev pub refusals : Call → List ℕ
@@ -42,3 +43,9 @@ pub record MayTurn (b : Buffers) (slot : ℕ) : Type 0 where
   pub room : leb 32 (length (b .out)) ≡ true
   pub low : ltb slot 10 ≡ true
   pub running : isRunning (processAt (kernelOf (b .area)) slot) ≡ true
+
+-- a live process that is not in the state already that the command gives it; kill gives it none
+abbrev pub takes : Command → Process → Bool
+takes suspend p = isRunning p
+takes resume p = not (isRunning p)
+takes kill p = true

@@ -2,7 +2,7 @@
 use place::Run;
 use variable::Variables;
 ghost use Rattle.machine.specs.Cases.{Bench, Misreadings};
-ghost use Rattle.machine.specs.Demands.{EventsAreCalls, FaultTouchesOwn, GoodKept, PlacesRefusedOnly, RefusedUnchanged, RoundIsTurns, RoundNeverRefused, TurnOutputBound};
+ghost use Rattle.machine.specs.Demands.{DoneWhenDue, EventsAreCalls, FaultTouchesOwn, GoodKept, LengthsKept, PlacesRefusedOnly, RefusedUnchanged, RoundIsTurns, RoundNeverRefused, TurnOutputBound};
 ghost use Rattle.machine.specs.Isolation.{Isolation};
 
 // The file that a process has open, and how far it has read or written. Length 0: none.
@@ -63,6 +63,16 @@ pub fn fault_touches_own()
 // A place is refused only when its table is full or no run of free bytes is long enough; to OPEN's new file also by name or size.
 pub fn places_refused_only()
     ensures { λ _. ⌜ PlacesRefusedOnly ⌝ }
+{}
+
+// What no refusal speaks against is done: store, run, erase, suspend, resume, kill and a turn; and free space is what a file may have.
+pub fn done_when_due()
+    ensures { λ _. ⌜ DoneWhenDue ⌝ }
+{}
+
+// No call changes the length of the disc, the work area or the output.
+pub fn lengths_kept()
+    ensures { λ _. ⌜ LengthsKept ⌝ }
 {}
 
 // Every call keeps good buffers good; format and boot make them.
