@@ -24,7 +24,7 @@ use Rattle.machine.specs.State.{Local}
 use Rattle.machine.specs.declared.Kernel.{Kernel}
 use Rattle.machine.proofs.FileAnswers.{numberRead, textAhead, textRead}
 
--- "4 stack above 32 bytes", "11 no open file; 12 past the file's end", "13 OPEN's new file refused"
+-- Document 01: "4 stack above 32", "11 no open file; 12 past the file's end", and 13, "OPEN's new file refused by name, size or store's 8 or 9"
 abbrev pub FaultOf : Request → ℕ → Type 0
 FaultOf (opens name size l) n = n ≡ 13
 FaultOf (closes l) n = ⊥
