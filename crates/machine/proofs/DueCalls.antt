@@ -22,10 +22,10 @@ use Rattle.store.proofs.Effects.{store-done}
 use Rattle.store.proofs.LookupChanges.{erased-missing}
 use Rattle.store.proofs.Lookups.{lookup-at}
 use Rattle.machine.specs.Answer.{Answer, Buffers, store, erase, run, freeSpace, command, turn, answer, commandAnswer}
-use Rattle.machine.specs.Demands.{Holds, Usable, stateOf}
+use Rattle.machine.specs.Due.{Holds, Usable}
 use Rattle.machine.specs.NoPlace.{NoneFits}
 use Rattle.machine.specs.Operations.{Command, suspend, resume, kill, commandAt, commanded, inUse}
-use Rattle.machine.specs.Refusals.{MayTurn, Passes, takes}
+use Rattle.machine.specs.Refusals.{stateOf, MayTurn, Passes, takes}
 use Rattle.machine.specs.Start.{starting}
 use Rattle.machine.specs.State.{endedSlot, paused, processAt, running, slotOf}
 use Rattle.machine.specs.declared.Process.{Process}

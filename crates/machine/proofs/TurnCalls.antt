@@ -11,9 +11,9 @@ use Rattle.store.specs.Directory.{goodDisc, isDiscLength}
 use Rattle.store.specs.File.{unless}
 use Rattle.machine.specs.Answer.{Answer, Buffers, answer, goodArea, refused, turn, turnedAnswer}
 use Rattle.machine.specs.Area.{isAreaLength, kernelOf}
-use Rattle.machine.specs.Demands.{EndedOnly, stateOf, turnedState}
+use Rattle.machine.specs.Demands.{EndedOnly, turnedState}
 use Rattle.machine.specs.Ending.{Ends, Touched}
-use Rattle.machine.specs.Refusals.{MayTurn}
+use Rattle.machine.specs.Refusals.{stateOf, MayTurn}
 use Rattle.machine.specs.State.{isRunning, processAt}
 use Rattle.machine.specs.Turn.{Turned, finished, turned}
 use Rattle.machine.specs.declared.Kernel.{Kernel}

@@ -22,6 +22,7 @@ pub mod Observation
 pub mod Refusals
 pub mod Ending
 pub mod NoPlace
+pub mod Due
 pub mod Demands
 pub mod Suppositions
 pub mod Isolation

@@ -12,6 +12,7 @@ use Rattle.machine.specs.Area.{isAreaLength, kernelOf}
 use Rattle.machine.specs.Operations.{Command, suspend, resume, kill}
 use Rattle.machine.specs.State.{isRunning, processAt}
 use Rattle.machine.specs.declared.Process.{Process}
+use Rattle.machine.specs.declared.Kernel.{Kernel}
 
 -- the numbers that document 01 names for each operation in the order they are tried, the buffers' 1 to 4 with them
 abbrev pub refusals : Call → List ℕ
@@ -36,6 +37,10 @@ pub record Passes (disc area : List ℕ) : Type 0 where
   pub sizes : isDiscLength (length disc) && isAreaLength (length area) ≡ true
   pub disc-good : goodDisc disc ≡ true
   pub area-good : goodArea disc area ≡ true
+
+-- the state that the work area says
+abbrev pub stateOf : Buffers → Kernel
+stateOf b = kernelOf (b .area)
 
 -- nothing refuses a turn: good buffers, "at least 32 output bytes", and not "16 slot above 9 or not running"
 pub record MayTurn (b : Buffers) (slot : ℕ) : Type 0 where

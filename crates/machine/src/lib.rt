@@ -2,7 +2,8 @@
 use place::Run;
 use variable::Variables;
 ghost use Rattle.machine.specs.Cases.{Bench, Misreadings};
-ghost use Rattle.machine.specs.Demands.{DoneWhenDue, EventsAreCalls, FaultTouchesOwn, GoodKept, LengthsKept, PlacesRefusedOnly, RefusedUnchanged, RoundIsTurns, RoundNeverRefused, TurnOutputBound};
+ghost use Rattle.machine.specs.Demands.{EventsAreCalls, FaultTouchesOwn, GoodKept, LengthsKept, PlacesRefusedOnly, RefusedUnchanged, RoundIsTurns, RoundNeverRefused, TurnOutputBound};
+ghost use Rattle.machine.specs.Due.{DoneWhenDue};
 ghost use Rattle.machine.specs.Isolation.{Isolation};
 
 // The file that a process has open, and how far it has read or written. Length 0: none.

@@ -1,5 +1,5 @@
 -- `machine::done_when_due` meets its contract: what no refusal speaks against is done.
-use Rattle.machine.specs.Demands.{DoneWhenDue}
+use Rattle.machine.specs.Due.{DoneWhenDue}
 use Rattle.machine.proofs.DueCalls.{command-due, erase-due, free-space-due, run-due, store-due, turn-due}
 use Rattle.machine.proofs.done_when_due.Statement.{statement}
 use Rattle.machine.proofs.done_when_due.Tie as tie
