@@ -13,11 +13,11 @@ use Rattle.variable.specs.Table.{freed, isOf}
 use Rattle.machine.specs.Answer.{Buffers}
 use Rattle.machine.specs.Demands.{EndsWith, turnedState}
 use Rattle.machine.specs.Effect.{asks, assigns, opens}
-use Rattle.machine.specs.Ending.{Ends, stopped, faulted, unplaced, broken, effectAt}
+use Rattle.machine.specs.Ending.{Ends, stopped, faulted, unplaced, broken}
 use Rattle.machine.specs.NoPlace.{Lacking, NewFileRefused}
 use Rattle.machine.specs.Refusals.{stateOf, MayTurn}
 use Rattle.machine.specs.State.{Local, endedProcess, isRunning, processAt}
-use Rattle.machine.specs.Turn.{turned}
+use Rattle.machine.specs.Turn.{effectAt, turned}
 use Rattle.machine.specs.declared.Kernel.{Kernel}
 use Rattle.machine.specs.declared.Process.{Process}
 use Rattle.machine.proofs.AnswerFaults.{answer-fault, fault-number, thirteen-opens}

@@ -32,10 +32,9 @@ use Rattle.variable.specs.declared.Value.{Value}
 use Rattle.variable.specs.declared.Variables.{Variables}
 use Rattle.machine.specs.Answer.{Buffers, answer, store}
 use Rattle.machine.specs.Effect.{Effect, asks, assigns, opens}
-use Rattle.machine.specs.Ending.{effectAt}
 use Rattle.machine.specs.NoPlace.{Lacking, NewFileRefused, NoneFits}
 use Rattle.machine.specs.State.{Local, isRunning, noProcess, processAt, withFile, withLocal, withProcess}
-use Rattle.machine.specs.Turn.{answering, carriedOut, setting, turned, valueOf}
+use Rattle.machine.specs.Turn.{effectAt, answering, carriedOut, setting, turned, valueOf}
 use Rattle.machine.specs.declared.Kernel.{Kernel}
 use Rattle.machine.specs.declared.Process.{Process}
 use Rattle.machine.proofs.LiveRecords.{running-live}

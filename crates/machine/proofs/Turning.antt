@@ -11,10 +11,9 @@ use Rattle.variable.specs.declared.Placing.the-variants.{Address, NoEntry, NoRu
 use Rattle.variable.specs.declared.Variables.{Variables}
 use Rattle.machine.specs.Beyond.{Answered, carriesOn, breaks, answered}
 use Rattle.machine.specs.Effect.{Effect, goes, assigns, stops, faults, asks}
-use Rattle.machine.specs.Ending.{effectAt}
 use Rattle.machine.specs.Stack.{topString}
 use Rattle.machine.specs.State.{Local, isLive, isRunning, localOf, processAt}
-use Rattle.machine.specs.Turn.{answering, carriedOut, programOf, setting, turned, valueOf}
+use Rattle.machine.specs.Turn.{effectAt, answering, carriedOut, programOf, setting, turned, valueOf}
 use Rattle.machine.specs.declared.Kernel.{Kernel}
 use Rattle.machine.proofs.Answering.{answer-change}
 use Rattle.machine.proofs.Carrying.{assigns-here, ends-here, moves-local}

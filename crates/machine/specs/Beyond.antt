@@ -51,6 +51,10 @@ pushed l stack = record { stack = stack; pc = l .pc; loopstart = l .loopstart }
 abbrev pub pushId : Local → ℕ → Local
 pushId l id = pushed l (push (l .stack) 2 (id / 256 ∷ id % 256 ∷ []))
 
+-- the size that OPEN's new file may have: what fits between byte 161 and the disc's end
+abbrev pub newFileSize : List ℕ → Number → Size
+newFileSize disc size = sizeWithin (length disc - 161) size
+
 module _ (k : Kernel) (slot : ℕ) (disc : List ℕ) where
   abbrev pub ownFile : OpenFile
   ownFile = processAt k slot .file
@@ -72,7 +76,7 @@ module _ (k : Kernel) (slot : ℕ) (disc : List ℕ) where
   -- Document 01: "size [..] matters only for a new file, whose bytes stay as found"
   abbrev pub openedAt : Found → List ℕ → Number → Local → Answered
   openedAt (At i) name size l = continues l (opened (record { start = entryAt disc i .start; len = entryAt disc i .len })) disc
-  openedAt Nowhere name size l = created (sizeWithin (length disc - 161) size) name l
+  openedAt Nowhere name size l = created (newFileSize disc size) name l
 
   -- ---- WRITE and the READs: "11 no open file; 12 past the file's end"
   abbrev pub withOpenFile : Answered → Answered

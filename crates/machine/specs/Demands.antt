@@ -1,5 +1,5 @@
 -- What is demanded of every call beyond its own answer, each in one statement. Demand 3 has a file of its own, Isolation.
-use Prim.Native.Nat.{ℕ, _-_, _≤_, _<_}
+use Prim.Native.Nat.{ℕ, _≤_, _<_}
 use mathlib.Core.Path.{_≡_}
 use mathlib.Core.Bool.{true, false, _&&_}
 use mathlib.Core.List.{List}
@@ -8,14 +8,15 @@ use lib.Dec.{leb}
 use lib.IntN.{pos, negℤ}
 use lib.ListN.{length}
 use lib.Signed.{_<ℤ_}
-use Rattle.number.specs.Compare.{sizeWithin}
 use Rattle.number.specs.declared.Number.{Number}
 use Rattle.store.specs.Directory.{fileCount, goodDisc, isDiscLength, taken}
 use Rattle.variable.specs.Table.{freed, isOf}
 use Rattle.machine.specs.Answer.{Answer, Buffers, Call, store, turn, round, answer, bootAnswer, formatAnswer, refused}
 use Rattle.machine.specs.Area.{AreBytes, Whole, isAreaLength, kernelOf}
+use Rattle.machine.specs.Beyond.{newFileSize}
 use Rattle.machine.specs.Effect.{asks, assigns, opens}
-use Rattle.machine.specs.Ending.{Ends, Touched, effectAt}
+use Rattle.machine.specs.Ending.{Ends, Touched}
+use Rattle.machine.specs.Turn.{effectAt}
 use Rattle.machine.specs.NoPlace.{Lacking, NewFileRefused, NoneFits}
 use Rattle.machine.specs.Refusals.{stateOf, MayTurn, Names, Passes}
 use Rattle.machine.specs.Trace.{Invocation, IsItsEvents, Storage, afterCalls, events, lastStorage, lending, outputText, tenSlots, turnEvents}
@@ -74,7 +75,7 @@ abbrev pub OpenRefused : Type 0
 OpenRefused =
     (b : Buffers) (slot clock : ℕ) → MayTurn b slot → EndsWith b slot clock 13
     → (name : List ℕ) × (size : Number) × (l : Local) × (effectAt (stateOf b) slot clock (b .disc) ≡ asks (opens name size l))
-    × NewFileRefused (b .disc) name (sizeWithin (length (b .disc) - 161) size)
+    × NewFileRefused (b .disc) name (newFileSize (b .disc) size)
 
 -- a place is refused only where there is none: document 01, strictness c, shuts out a "no run" or a "table full" "said too early"
 unfoldable pub PlacesRefusedOnly : Type 0

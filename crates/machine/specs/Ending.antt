@@ -12,15 +12,10 @@ use Rattle.variable.specs.declared.Variables.{Variables}
 use Rattle.variable.specs.declared.Assigned.{Assigned}
 use Rattle.variable.specs.declared.Placing.the-variants.{NoEntry, NoRun}
 use Rattle.machine.specs.Beyond.{breaks, answered}
-use Rattle.machine.specs.Effect.{Effect, assigns, stops, faults, asks, Request}
-use Rattle.machine.specs.Exec.{exec}
-use Rattle.machine.specs.State.{Local, endedProcess, localOf, processAt}
-use Rattle.machine.specs.Turn.{programOf, valueOf}
+use Rattle.machine.specs.Effect.{assigns, stops, faults, asks, Request}
+use Rattle.machine.specs.State.{Local, endedProcess, processAt}
+use Rattle.machine.specs.Turn.{effectAt, valueOf}
 use Rattle.machine.specs.declared.Kernel.{Kernel}
-
--- what the instruction of the process in that slot does
-abbrev pub effectAt : Kernel → ℕ → ℕ → List ℕ → Effect
-effectAt k slot clock disc = exec (programOf disc (processAt k slot)) clock (localOf (processAt k slot)) (owned (k .variables) (processAt k slot .id))
 
 -- the place that a SET finds
 abbrev pub placed : Kernel → ℕ → (name kind : ℕ) → List ℕ → Assigned

@@ -1,4 +1,4 @@
--- Demand 3, in one piece: no neighbour, no order of turns and no call shifts a process.
+-- Demand 3, in one piece: nothing but its own turns and commands shifts a process.
 use Prim.Native.Nat.{ℕ}
 use mathlib.Core.Path.{_≡_}
 use mathlib.Core.Bool.{Bool, true, false, _&&_, not}

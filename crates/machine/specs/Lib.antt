@@ -14,18 +14,18 @@ pub mod Turn
 -- every call
 pub mod Operations
 pub mod Answer
--- a run of calls, and the single process
-pub mod Trace
+-- isolation: the single process, a run as its events, what is observed, what is supposed, the claim
 pub mod Single
+pub mod Trace
 pub mod Observation
--- what is demanded of every call and of every run
+pub mod Suppositions
+pub mod Isolation
+-- the other demands, of every call
 pub mod Refusals
 pub mod Ending
 pub mod NoPlace
 pub mod Due
 pub mod Demands
-pub mod Suppositions
-pub mod Isolation
 -- the bench cases and the misreadings
 pub mod Bench
 pub mod Cases

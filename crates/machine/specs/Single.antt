@@ -10,7 +10,8 @@ use Rattle.machine.specs.Exec.{exec}
 use Rattle.machine.specs.Operations.{Command, suspend, resume, kill}
 use Rattle.machine.specs.State.{Local, noLoop, paused, running}
 
--- "a state, fault, PC, loop, SP, 32 stack bytes and any number of variables: name, type, value bytes, one per name"
+-- "a state, fault, PC, loop, SP, 32 stack bytes and any number of variables: name, type, value bytes, one per name". The stack is the list of the
+-- bytes below SP: SP is its length, and above it are zeros.
 pub record Single : Type 0 where
   pub state : ℕ
   pub fault : ℕ
@@ -42,7 +43,7 @@ pub data Response : Type 0 where
   refusedBy : ℕ → Response
   did : (out : List ℕ) → Single → Response
 
--- "Turn while running: the instruction at PC of those bytes, as above, printing what that prints."
+-- "Turn while running: the instruction at PC of those bytes, as above, printing what that prints." "STOP, or a fault, ends it."
 -- What it does at a file, FORK or WAITUNTILDONE instruction is free: here it stays as it is.
 abbrev pub singleEffect : Single → Effect → Response
 singleEffect s (goes l out) = did out (advancedTo s l (s .cells))
@@ -51,10 +52,11 @@ singleEffect s stops = did [] (over 0)
 singleEffect s (faults n) = did [] (over n)
 singleEffect s (asks r) = did [] s
 
+-- "Suspend: running becomes paused; resume: back"
 abbrev pub inState : Single → ℕ → Response
 inState s state = did [] (record { state = state; fault = s .fault; loc = s .loc; cells = s .cells })
 
--- "a command once ended (14), suspend while paused and resume while running (15)"
+-- "kill ends it". "a command once ended (14), suspend while paused and resume while running (15)"; the first argument: has it ended?
 abbrev pub singleCommand : Bool → Single → Command → Response
 singleCommand true s c = refusedBy 14
 singleCommand false s suspend = cond (eqb (s .state) paused) (refusedBy 15) (inState s paused)

@@ -76,6 +76,7 @@ turnDisturbs i own slot clock e =
     (eqb own slot && (isBarred (executedBy (e .before) slot) || setLacks i slot clock (e .before)))
     || (not (eqb own slot) && writeLands own slot e)
 
+-- "between this one's start and end": while it is live
 abbrev pub turnDisturbsAt : ℕ → Found → ℕ → ℕ → Event → Bool
 turnDisturbsAt i Nowhere slot clock e = false
 turnDisturbsAt i (At own) slot clock e = turnDisturbs i own slot clock e

@@ -53,7 +53,7 @@ abbrev pub outputText : Answer → List ℕ
 outputText a = take (counts (a .number)) (a .out)
 
 -- Document 01: "A done round stands for its turns in order, each printing its part of the output." A turn of a round is the call `turn` on the
--- buffers as they are when its slot is reached; text is what the round printed from this turn on.
+-- buffers as they are when its slot is reached, lent any 32 bytes; text is what the round printed from this turn on.
 unfoldable pub turnEvents : List ℕ → ℕ → Storage → List ℕ → List Event
 turnEvents [] clock s text = []
 turnEvents (slot ∷ slots) clock s text =
@@ -61,6 +61,7 @@ turnEvents (slot ∷ slots) clock s text =
     let n = counts (a .number) in
     consIf (isRunning (processAt (kernelOf (s .area)) slot)) (event (turn slot clock) s a (take n text)) (turnEvents slots clock (storageOf a) (drop n text))
 
+-- not `slots` of the definition of a round: a round that left one out would have to show here
 abbrev pub tenSlots : List ℕ
 tenSlots = 0 ∷ 1 ∷ 2 ∷ 3 ∷ 4 ∷ 5 ∷ 6 ∷ 7 ∷ 8 ∷ 9 ∷ []
 

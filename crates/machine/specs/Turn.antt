@@ -59,9 +59,11 @@ module _ (k : Kernel) (slot : ℕ) (disc : List ℕ) where
 abbrev pub programOf : List ℕ → Process → List ℕ
 programOf disc p = contents disc (p .code)
 
+-- what the instruction of the process in that slot does
+abbrev pub effectAt : Kernel → ℕ → ℕ → List ℕ → Effect
+effectAt k slot clock disc = exec (programOf disc (processAt k slot)) clock (localOf (processAt k slot)) (owned (k .variables) (processAt k slot .id))
+
 -- Document 01: "Turn, one instruction of one slot"
 unfoldable pub turned : Kernel → ℕ → ℕ → List ℕ → Turned
 unfolding carriedOut
-turned k slot clock disc =
-    let p = processAt k slot in
-    carriedOut k slot disc (exec (programOf disc p) clock (localOf p) (owned (k .variables) (p .id)))
+turned k slot clock disc = carriedOut k slot disc (effectAt k slot clock disc)

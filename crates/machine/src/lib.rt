@@ -46,7 +46,7 @@ pub fn misreadings()
     ensures { λ _. ⌜ Misreadings ⌝ }
 {}
 
-// Demand 3 in one piece: no neighbour, no order of turns and no call shifts a process's stack, variables, place, output or end.
+// Demand 3 in one piece: nothing but its own turns and commands shifts a process's stack, variables, place, output or end.
 pub fn isolation()
     ensures { λ _. ⌜ Isolation ⌝ }
 {}
