@@ -10,6 +10,8 @@ use Rattle.buffer.proofs.Bools.{true-not-false}
 use Rattle.number.specs.Compare.{sizeWithin}
 use Rattle.number.specs.declared.Number.{Number}
 use Rattle.variable.specs.Table.{freed, isOf}
+use Rattle.store.specs.Directory.{lookup}
+use Rattle.buffer.specs.declared.Found.the-variants.{Nowhere}
 use Rattle.machine.specs.Answer.{Buffers}
 use Rattle.machine.specs.Demands.{EndsWith, turnedState}
 use Rattle.machine.specs.Effect.{asks, assigns, opens}
@@ -61,20 +63,21 @@ module _ (b : Buffers) (slot clock : ℕ) (may : MayTurn b slot) where
 
   pub open-refused : EndsWith b slot clock 13
       → (name : List ℕ) × (size : Number) × (l : Local) × (effectAt (stateOf b) slot clock (b .disc) ≡ asks (opens name size l))
-      × NewFileRefused (b .disc) name (sizeWithin (length (b .disc) - 161) size)
+      × (lookup (b .disc) name ≡ Nowhere) × NewFileRefused (b .disc) name (sizeWithin (length (b .disc) - 161) size)
   open-refused h = go (ended-by 13 h)
     where
-      refused : (name : List ℕ) (size : Number) (l : Local) → effectAt (stateOf b) slot clock (b .disc) ≡ asks (opens name size l) → NewFileRefused (b .disc) name (sizeWithin (length (b .disc) - 161) size)
+      refused : (name : List ℕ) (size : Number) (l : Local) → effectAt (stateOf b) slot clock (b .disc) ≡ asks (opens name size l) → (lookup (b .disc) name ≡ Nowhere) × NewFileRefused (b .disc) name (sizeWithin (length (b .disc) - 161) size)
       refused name size l e =
           let good = passes-good (b .disc) (b .area) (may .passes) in
           turn-open-refused (stateOf b) slot (may .running) clock (b .disc) (good .long) (good .sound) name size l e (stopped-then 13 h)
 
       go : EndsBy 13 → (name : List ℕ) × (size : Number) × (l : Local) × (effectAt (stateOf b) slot clock (b .disc) ≡ asks (opens name size l))
-          × NewFileRefused (b .disc) name (sizeWithin (length (b .disc) - 161) size)
+          × (lookup (b .disc) name ≡ Nowhere) × NewFileRefused (b .disc) name (sizeWithin (length (b .disc) - 161) size)
       go (stopped e z) = absurd (omega arith)
       go (faulted e some few) = absurd (omega arith)
       go (unplaced name kind bytes l e p z) = absurd (omega arith)
       go (broken r e q) =
           let o = thirteen-opens r 13 refl (answer-fault (stateOf b) slot (b .disc) r 13 q) in
           let f : effectAt (stateOf b) slot clock (b .disc) ≡ asks (opens (o .0) (o .1) (o .2)) = e ∙ ap asks (o .3) in
-          (o .0, o .1, o .2, f, refused (o .0) (o .1) (o .2) f)
+          let r = refused (o .0) (o .1) (o .2) f in
+          (o .0, o .1, o .2, f, r .0, r .1)

@@ -75,23 +75,19 @@ module _ (k : Kernel) (slot : ℕ) (disc name : List ℕ) (l : Local) (long : is
   -- OPEN goes on with some file, or its new file is refused, which is fault 13
   pub open-cases : (size : Number) (P : Answered → Type 0)
       → ((f : OpenFile) (after : List ℕ) → P (continues k slot disc l f after))
-      → (NewFileRefused disc name (sizeWithin (length disc - 161) size) → P (breaks 13))
+      → (lookup disc name ≡ Nowhere → NewFileRefused disc name (sizeWithin (length disc - 161) size) → P (breaks 13))
       → P (answered k slot disc (opens name size l))
   unfolding answered
   open-cases size P goes refused = found (lookup disc name) refl
     where
       create : lookup disc name ≡ Nowhere → (n : ℕ) → sizeWithin (length disc - 161) size ≡ Is n → (a : Admission) → admission disc name n ≡ a → P (createdAt k slot disc a name n l)
       create new n e (Start s) a = goes (opened (runFrom s n)) (entered disc name n s)
-      create new n e (Denied r) a = refused (denial-refuses n _ e (size-within (length disc - 161) n size e) new r a (denied disc name n r a))
+      create new n e (Denied r) a = refused new (denial-refuses n _ e (size-within (length disc - 161) n size e) new r a (denied disc name n r a))
 
       judged : lookup disc name ≡ Nowhere → (s : Size) → sizeWithin (length disc - 161) size ≡ s → P (created k slot disc s name l)
-      judged new Improper e = refused (by-size e)
+      judged new Improper e = refused new (by-size e)
       judged new (Is n) e = create new n e (admission disc name n) refl
 
       found : (f : Found) → lookup disc name ≡ f → P (openedAt k slot disc f name size l)
       found (At i) e = goes (opened (runFrom (entryAt disc i .start) (entryAt disc i .len))) disc
       found Nowhere e = judged e (sizeWithin (length disc - 161) size) refl
-
-  pub open-refused : (size : Number) (fault : ℕ) → answered k slot disc (opens name size l) ≡ breaks fault → NewFileRefused disc name (sizeWithin (length disc - 161) size)
-  open-refused size fault =
-      open-cases size (λ a. a ≡ breaks fault → NewFileRefused disc name (sizeWithin (length disc - 161) size)) (λ f after h. absurd (let z : _≡_ {A = ℕ} 0 1 = cc in omega arith)) (λ r h. r)

@@ -20,7 +20,7 @@ use Rattle.place.specs.Place.{place}
 use Rattle.place.specs.declared.Run.{Run}
 use Rattle.place.proofs.Place.{no-place-none-fits}
 use Rattle.store.specs.Answer.{Updated, storeAnswer}
-use Rattle.store.specs.Directory.{fileCount, goodDisc, isDiscLength, taken}
+use Rattle.store.specs.Directory.{fileCount, goodDisc, isDiscLength, taken, lookup}
 use Rattle.store.proofs.Checks.{by-checks}
 use Rattle.store.proofs.Calls.{store-admission, store-refused-full, store-refused-no-run}
 use Rattle.variable.specs.Assign.{addressOr, assigned, assignAt, entryLimit, highEnd, ifEntry, lowEnd, placeFor, placing, placingFault, takenRuns}
@@ -104,11 +104,11 @@ module _ (k : Kernel) (slot : ℕ) (h : isRunning (processAt k slot) ≡ true) w
         go NoFreeRun q r = set-lacking (k .variables) name (processAt k slot .id) (valueOf kind bytes) (ap placingFault q)
 
     pub turn-open-refused : isDiscLength (length disc) ≡ true → goodDisc disc ≡ true → (name : List ℕ) (size : Number) (l : Local) → effectAt k slot clock disc ≡ asks (opens name size l)
-        → isRunning (processAt (turned k slot clock disc .kernel) slot) ≡ false → NewFileRefused disc name (sizeWithin (length disc - 161) size)
+        → isRunning (processAt (turned k slot clock disc .kernel) slot) ≡ false → (lookup disc name ≡ Nowhere) × NewFileRefused disc name (sizeWithin (length disc - 161) size)
     unfolding turned carriedOut
     turn-open-refused long good name size l e ends =
         open-cases k slot disc name l long good size
-        (λ a. isRunning (processAt (answering k slot disc a .kernel) slot) ≡ false → NewFileRefused disc name (sizeWithin (length disc - 161) size))
+        (λ a. isRunning (processAt (answering k slot disc a .kernel) slot) ≡ false → (lookup disc name ≡ Nowhere) × NewFileRefused disc name (sizeWithin (length disc - 161) size))
         (λ f after r. absurd (true-not-false (still-running (withFile (withLocal (processAt k slot) l) f) h) r))
-        (λ refused r. refused)
+        (λ new refused r. (new, refused))
         (subst Ends e ends)

@@ -38,23 +38,23 @@ module _ {S : Type 0} where
   turns step s (suc n) = oneMore step (turns step s n)
 
 -- what is seen then: the stack, bottom first, the fault and what was printed
-pub data Seen : Type 0 where
-  shows : (stack : List ℕ) (fault : ℕ) (text : List ℕ) → Seen
-  refused : Seen
+pub data Result : Type 0 where
+  shows : (stack : List ℕ) (fault : ℕ) (text : List ℕ) → Result
+  refused : Result
 
 -- ---- of the single process
 abbrev pub responded : Response → Progress Single
 responded (refusedBy n) = stopped
 responded (did text s) = reached text s
 
-abbrev pub seenAlone : Progress Single → Seen
+abbrev pub seenAlone : Progress Single → Result
 seenAlone (reached text s) = shows (s .loc .stack) (s .fault) text
 seenAlone stopped = refused
 
-abbrev pub alone : List ℕ → ℕ → Seen
+abbrev pub alone : List ℕ → ℕ → Result
 alone program n = seenAlone (turns (λ s. responded (single program s (tick 0))) fresh n)
 
--- ---- of the kernel: started in slot 0, on a disc that holds the program where data begin
+-- ---- of the kernel: started in slot 0, on a list of 161 zeros and then the program. It is no good disc; `turned` reads only the program's part of it.
 abbrev pub loaded : List ℕ → Turned
 loaded program =
     let file : Entry = record { name = padded (110 ∷ []); start = 161; len = length program } in
@@ -63,14 +63,14 @@ loaded program =
 abbrev pub turnOfFirst : Turned → Progress Turned
 turnOfFirst t = let u = turned (t .kernel) 0 0 (t .disc) in cond (isRunning (processAt (t .kernel) 0)) (reached (u .out) u) stopped
 
-abbrev pub shown : Process → List ℕ → Seen
+abbrev pub shown : Process → List ℕ → Result
 shown p text = shows (localOf p .stack) (p .fault) text
 
-abbrev pub seenInKernel : Progress Turned → Seen
+abbrev pub seenInKernel : Progress Turned → Result
 seenInKernel (reached text t) = shown (processAt (t .kernel) 0) text
 seenInKernel stopped = refused
 
-abbrev pub inKernel : List ℕ → ℕ → Seen
+abbrev pub inKernel : List ℕ → ℕ → Result
 inKernel program n = seenInKernel (turns turnOfFirst (loaded program) n)
 
 -- ---- calls one after another
@@ -100,17 +100,17 @@ startOf disc letter = startAt disc (lookup disc (letter ∷ []))
 -- ---- a row, and when it holds
 pub data Row : Type 0 where
   -- a program, how many turns it takes, and what is seen after them
-  runs : (program : List ℕ) (n : ℕ) → Seen → Row
+  runs : (program : List ℕ) (n : ℕ) → Result → Row
   -- the same of the kernel alone: to the single process "fault 10 never comes"
-  runsInKernel : (program : List ℕ) (n : ℕ) → Seen → Row
+  runsInKernel : (program : List ℕ) (n : ℕ) → Result → Row
   -- calls on formatted buffers; n bytes stored after them go to that start
   stores : (calls : List Call) (n start : ℕ) → Row
 
-abbrev pub Holds : Row → Type 0
-Holds (runs program n seen) = (alone program n ≡ seen) × (inKernel program n ≡ seen)
-Holds (runsInKernel program n seen) = inKernel program n ≡ seen
-Holds (stores calls n start) = startOf (after (storing 110 n ∷ []) (after calls formatted) .disc) 110 ≡ At start
+abbrev pub RowHolds : Row → Type 0
+RowHolds (runs program n seen) = (alone program n ≡ seen) × (inKernel program n ≡ seen)
+RowHolds (runsInKernel program n seen) = inKernel program n ≡ seen
+RowHolds (stores calls n start) = startOf (after (storing 110 n ∷ []) (after calls formatted) .disc) 110 ≡ At start
 
 abbrev pub Every : List Row → Type 0
 Every [] = Unit
-Every (row ∷ rows) = Holds row × Every rows
+Every (row ∷ rows) = RowHolds row × Every rows

@@ -9,8 +9,9 @@ use lib.IntN.{pos, negℤ}
 use lib.ListN.{length}
 use lib.Signed.{_<ℤ_}
 use Rattle.number.specs.declared.Number.{Number}
-use Rattle.store.specs.Directory.{fileCount, goodDisc, isDiscLength, taken}
+use Rattle.store.specs.Directory.{fileCount, goodDisc, isDiscLength, taken, lookup}
 use Rattle.variable.specs.Table.{freed, isOf}
+use Rattle.buffer.specs.declared.Found.the-variants.{Nowhere}
 use Rattle.machine.specs.Answer.{Answer, Buffers, Call, store, turn, round, answer, bootAnswer, formatAnswer, refused}
 use Rattle.machine.specs.Area.{AreBytes, Whole, isAreaLength, kernelOf}
 use Rattle.machine.specs.Beyond.{newFileSize}
@@ -70,12 +71,12 @@ SetNoPlace =
     → (name : ℕ) × (kind : ℕ) × (bytes : List ℕ) × (l : Local) × (effectAt (stateOf b) slot clock (b .disc) ≡ assigns name kind bytes l)
     × Lacking (freed (stateOf b .variables) (isOf name (processAt (stateOf b) slot .id))) (length bytes)
 
--- Document 01, fault 13: "OPEN's new file refused by name, size or store's 8 or 9". It comes of an OPEN alone
+-- Document 01, fault 13: "OPEN's new file refused by name, size or store's 8 or 9". It comes of an OPEN alone, of a name that is no file's
 abbrev pub OpenRefused : Type 0
 OpenRefused =
     (b : Buffers) (slot clock : ℕ) → MayTurn b slot → EndsWith b slot clock 13
     → (name : List ℕ) × (size : Number) × (l : Local) × (effectAt (stateOf b) slot clock (b .disc) ≡ asks (opens name size l))
-    × NewFileRefused (b .disc) name (newFileSize (b .disc) size)
+    × (lookup (b .disc) name ≡ Nowhere) × NewFileRefused (b .disc) name (newFileSize (b .disc) size)
 
 -- a place is refused only where there is none: document 01, strictness c, shuts out a "no run" or a "table full" "said too early"
 unfoldable pub PlacesRefusedOnly : Type 0
@@ -93,7 +94,7 @@ LengthsKept = ((c : Call) (b : Buffers) → SameLengths (answer c b) b) × ((b :
 abbrev pub RightLengths : Buffers → Type 0
 RightLengths b = isDiscLength (length (b .disc)) && isAreaLength (length (b .area)) ≡ true
 
--- good buffers stay good under every call; format makes good buffers of any, boot of those with a good disc
+-- good buffers stay good under every call; format makes good buffers of any of the right lengths, boot of those that also have a good disc
 unfoldable pub GoodKept : Type 0
 GoodKept =
     ((c : Call) (b : Buffers) → Passes (b .disc) (b .area) → Passes (answer c b .disc) (answer c b .area))
@@ -114,7 +115,7 @@ RoundIsTurns =
     × ((area : List ℕ) → AreBytes area → length area ≡ 1056 → Whole area)
     × ((s : Storage) (out : List ℕ) (c : Call) → Whole (s .area) → Whole (answer c (lending s out) .area))
 
--- the events of a run lead where its calls lead, whatever the buffers it begins on
+-- the events of a run lead where its calls lead, from any disc and any area of bytes, good or not, of any length
 unfoldable pub EventsAreCalls : Type 0
 EventsAreCalls = (calls : List Invocation) (s : Storage) → AreBytes (s .area) → lastStorage s (events calls s) ≡ afterCalls calls s
 

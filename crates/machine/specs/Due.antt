@@ -1,4 +1,4 @@
--- What no refusal speaks against is done.
+-- A turn, store, run, FORK, erase, suspend, resume and kill that no refusal speaks against are done; free space is the longest run that has a place.
 use Prim.Native.Nat.{ℕ, _<_}
 use mathlib.Core.Path.{_≡_}
 use mathlib.Core.Bool.{true, false}
@@ -10,11 +10,14 @@ use Rattle.place.specs.Place.{fits}
 use Rattle.store.specs.Directory.{contents, entryAt, fileCount, goodDisc, isDiscLength, lookup, runOf, taken}
 use Rattle.store.specs.File.{goodSize}
 use Rattle.store.specs.Name.{goodName}
+use Rattle.machine.specs.Turn.{effectAt}
+use Rattle.machine.specs.Effect.{asks, forks}
 use Rattle.machine.specs.Answer.{Buffers, store, erase, run, freeSpace, command, turn, answer}
 use Rattle.machine.specs.NoPlace.{NoneFits}
+use Rattle.machine.specs.Area.{kernelOf}
 use Rattle.machine.specs.Operations.{Command, inUse}
 use Rattle.machine.specs.Refusals.{stateOf, MayTurn, Passes, takes}
-use Rattle.machine.specs.State.{endedSlot, processAt, slotOf}
+use Rattle.machine.specs.State.{endedSlot, processAt, slotOf, Local}
 
 -- Document 01: neither "1: a buffer has the wrong length" nor "2: disc not good"
 abbrev pub Usable : List ℕ → Type 0
@@ -35,11 +38,19 @@ StoreDue =
     → fits (taken (b .disc)) 161 (length (b .disc)) (length bytes) start ≡ true
     → (answer (store name bytes) b .number ≡ pos 0) × Holds (answer (store name bytes) b .disc) name bytes
 
--- an ended slot, a file of that name, an ID left
+-- an ended slot, a file of that name, an ID left: the number is next ID, and a live process in that slot has it
 abbrev pub RunDue : Type 0
 RunDue =
     (b : Buffers) (name : List ℕ) (slot i : ℕ) → Passes (b .disc) (b .area)
-    → endedSlot (stateOf b) ≡ At slot → lookup (b .disc) name ≡ At i → (stateOf b .next ≡ 32768 → ⊥) → answer (run name) b .number ≡ pos (stateOf b .next)
+    → endedSlot (stateOf b) ≡ At slot → lookup (b .disc) name ≡ At i → (stateOf b .next ≡ 32768 → ⊥)
+    → (answer (run name) b .number ≡ pos (stateOf b .next)) × (slotOf (kernelOf (answer (run name) b .area)) (stateOf b .next) ≡ At slot)
+
+-- the same of FORK: where run would not refuse, the child is started
+abbrev pub ForkDue : Type 0
+ForkDue =
+    (b : Buffers) (slot clock : ℕ) (name : List ℕ) (l : Local) (child i : ℕ) → MayTurn b slot → effectAt (stateOf b) slot clock (b .disc) ≡ asks (forks name l)
+    → endedSlot (stateOf b) ≡ At child → lookup (b .disc) name ≡ At i → (stateOf b .next ≡ 32768 → ⊥)
+    → slotOf (kernelOf (answer (turn slot clock) b .area)) (stateOf b .next) ≡ At child
 
 -- a file of that name that no live process uses
 abbrev pub EraseDue : Type 0
@@ -60,7 +71,7 @@ CommandDue =
     (b : Buffers) (c : Command) (id slot : ℕ) → Passes (b .disc) (b .area) → slotOf (stateOf b) id ≡ At slot → takes c (processAt (stateOf b) slot) ≡ true
     → answer (command c id) b .number ≡ pos 0
 
--- what no refusal speaks against is done: document 01, strictness c, shuts out refusals said too early, an invented free space, a store that declines
--- everything
+-- Document 01, strictness c, shuts out refusals said too early, an invented free space and a store that declines everything. Retrieve, files and
+-- list rest on their definitions.
 unfoldable pub DoneWhenDue : Type 0
-DoneWhenDue = TurnDue × StoreDue × RunDue × EraseDue × FreeSpaceDue × CommandDue
+DoneWhenDue = TurnDue × StoreDue × RunDue × ForkDue × EraseDue × FreeSpaceDue × CommandDue

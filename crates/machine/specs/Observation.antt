@@ -17,10 +17,10 @@ use Rattle.machine.specs.State.{isLive, processAt}
 use Rattle.machine.specs.Trace.{Event, Storage}
 use Rattle.machine.specs.declared.Process.{Process}
 
--- the slot of the live process that has that ID
 abbrev pub isLiveAs : ℕ → Process → Bool
 isLiveAs i p = isLive p && eqb (p .id) i
 
+-- the slot of the live process that has that ID; not `slotOf`, so that a command that overlooks a slot shows here
 unfoldable pub placeIn : Storage → ℕ → Found
 placeIn s i = index (isLiveAs i) (kernelOf (s .area) .processes)
 

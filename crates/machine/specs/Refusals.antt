@@ -49,7 +49,7 @@ pub record MayTurn (b : Buffers) (slot : ℕ) : Type 0 where
   pub low : ltb slot 10 ≡ true
   pub running : isRunning (processAt (kernelOf (b .area)) slot) ≡ true
 
--- a live process that is not in the state already that the command gives it; kill gives it none
+-- of a live process: the command is not refused by 15. Kill never is.
 abbrev pub takes : Command → Process → Bool
 takes suspend p = isRunning p
 takes resume p = not (isRunning p)

@@ -47,7 +47,7 @@ lacksSpace v name i n =
     let others = keep (λ e. not (isOf name i e)) (counted v) in
     leb 25 (length others) || not (any (fits (map runOf others) 0 256 n) (tab (λ a. a) 256))
 
--- what a SET (5) would set, where it meets no earlier fault
+-- whether a SET that meets no earlier fault lacks space for its value; any other effect lacks none
 abbrev pub isLacking : Effect → Variables → ℕ → Bool
 isLacking (goes l out) v i = false
 isLacking (assigns name kind bytes l) v i = lacksSpace v name i (length bytes)

@@ -32,8 +32,8 @@ abbrev pub answerOf : Invocation → Storage → Answer
 answerOf i s = answer (i .call) (lending s (i .out))
 
 -- ---- events
--- one call, or one turn of a round (a round itself is never an event): the two buffers before and after it, the number it returns, and the bytes of the lent output that the number
--- counts, as they stand there
+-- one call, or one turn of a round (a round itself is never an event): the two buffers before and after it, the number it returns, and what
+-- retrieve, files, list or a turn wrote into the lent output, as it stands there
 pub record Event : Type 0 where
   pub call : Call
   pub before : Storage
@@ -53,7 +53,7 @@ abbrev pub outputText : Answer → List ℕ
 outputText a = take (counts (a .number)) (a .out)
 
 -- Document 01: "A done round stands for its turns in order, each printing its part of the output." A turn of a round is the call `turn` on the
--- buffers as they are when its slot is reached, lent any 32 bytes; text is what the round printed from this turn on.
+-- buffers as they are when its slot is reached, lent 32 zeros; text is what the round printed from this turn on.
 unfoldable pub turnEvents : List ℕ → ℕ → Storage → List ℕ → List Event
 turnEvents [] clock s text = []
 turnEvents (slot ∷ slots) clock s text =

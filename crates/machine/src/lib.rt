@@ -1,4 +1,4 @@
-// What the kernel is. The definitions stand in specs/, their consequences in proofs/; the code that does it is above.
+// What the kernel is: definitions in specs/, their consequences in proofs/. The code of the work area and of the turn comes in crates that use this one.
 use place::Run;
 use variable::Variables;
 ghost use Rattle.machine.specs.Cases.{Bench, Misreadings};
@@ -91,7 +91,7 @@ pub fn round_is_turns()
     ensures { λ _. ⌜ RoundIsTurns ⌝ }
 {}
 
-// A run as its events, which demand 3 speaks of, and as its calls.
+// The events of a run, which demand 3 speaks of, lead to the same disc and work area as its calls.
 pub fn events_are_calls()
     ensures { λ _. ⌜ EventsAreCalls ⌝ }
 {}
