@@ -1,17 +1,17 @@
 -- What no refusal speaks against is done.
-use Prim.Native.Nat.{ℕ, _<_}
+use Prim.Native.Nat.{ℕ, _<_, _≤_}
 use mathlib.Core.Path.{_≡_, refl, ap, subst⁻¹, _∙_, subst}
 use mathlib.Core.Bool.{true, false}
 use mathlib.Core.List.{List}
 use lib.Dec.{eqb}
 use lib.IntN.{pos}
 use lib.ListN.{length}
-use borrow.Author.Tests.{eqb-true, ne-eqb, not-true}
+use borrow.Author.Tests.{eqb-true, ne-eqb, not-true, le-leb}
 use Rattle.buffer.specs.declared.Found.the-variants.{At, Nowhere}
 use Rattle.place.specs.Place.{fits, longest}
 use Rattle.place.proofs.Place.{is-fits, no-place-none-fits, place-fits}
-use Rattle.store.specs.Answer.{Updated, freeSpaceAnswer, storeAnswer, storeAt}
-use Rattle.store.specs.Directory.{entryAt, fileCount, lookup, taken}
+use Rattle.store.specs.Answer.{Updated, freeSpaceAnswer, storeAnswer, storeAt, Reported, filesAnswer, reported, retrieveAnswer}
+use Rattle.store.specs.Directory.{entryAt, fileCount, lookup, taken, contents, runOf}
 use Rattle.store.specs.File.{erased, goodSize, placeOf}
 use Rattle.store.specs.Name.{goodName}
 use Rattle.store.specs.declared.Admission.{Admission}
@@ -23,6 +23,8 @@ use Rattle.store.proofs.LookupChanges.{erased-missing}
 use Rattle.store.proofs.Lookups.{lookup-at}
 use Rattle.store.specs.declared.Entry.{Entry}
 use Rattle.buffer.proofs.Bools.{true-not-false}
+use Rattle.buffer.specs.Buffer.{overwrite}
+use Rattle.store.specs.declared.Answer.the-variants.{Done}
 use Rattle.machine.proofs.Replaced.{put-other}
 use Rattle.machine.proofs.LiveRecords.{running-live}
 use Rattle.machine.specs.Turn.{answering, carriedOut, effectAt, turned}
@@ -34,10 +36,10 @@ use Rattle.machine.proofs.Change.{GoodState, begins}
 use Rattle.machine.proofs.Begins.{started-new, starting-begins}
 use Rattle.machine.specs.declared.Kernel.{Kernel}
 use Rattle.machine.specs.Area.{kernelOf}
-use Rattle.machine.specs.Answer.{Answer, Buffers, store, erase, run, freeSpace, command, turn, answer, commandAnswer, runAt}
-use Rattle.machine.specs.Due.{Holds, Usable}
+use Rattle.machine.specs.Answer.{Answer, Buffers, store, erase, run, freeSpace, command, turn, answer, commandAnswer, runAt, retrieve, files, list}
+use Rattle.machine.specs.Due.{Holds, Usable, Writes, filesText}
 use Rattle.machine.specs.NoPlace.{NoneFits}
-use Rattle.machine.specs.Operations.{Command, suspend, resume, kill, commandAt, commanded, inUse}
+use Rattle.machine.specs.Operations.{Command, suspend, resume, kill, commandAt, commanded, inUse, listText}
 use Rattle.machine.specs.Refusals.{stateOf, MayTurn, Passes, takes}
 use Rattle.machine.specs.Start.{starting, Starting, starts, started, startedProcess}
 use Rattle.machine.specs.State.{endedSlot, paused, processAt, running, slotOf, isLive, Local, withLocal, withProcess}
@@ -127,6 +129,28 @@ free-space-due b u =
     )
 
 -- ---- processes
+pub retrieve-due : (b : Buffers) (name : List ℕ) (i : ℕ) → Usable (b .disc) → lookup (b .disc) name ≡ At i → entryAt (b .disc) i .len ≤ length (b .out)
+    → Writes (entryAt (b .disc) i .len) (contents (b .disc) (runOf (entryAt (b .disc) i))) b (answer (retrieve name) b)
+unfolding answer retrieveAnswer
+retrieve-due b name i u e fit =
+    let whole : retrieveAnswer (b .disc) name (b .out) ≡ reported (Done (entryAt (b .disc) i .len)) (overwrite (b .out) 0 (contents (b .disc) (runOf (entryAt (b .disc) i)))) =
+    rw (is-usable (b .disc) (u .0) (u .1), e, le-leb _ _ fit) in
+    (ap (λ (r : Reported). r .number) whole, ap (λ (r : Reported). r .out) whole)
+
+pub files-due : (b : Buffers) → Usable (b .disc) → length (filesText b) ≤ length (b .out) → Writes (length (filesText b)) (filesText b) b (answer files b)
+unfolding answer filesAnswer
+files-due b u fit =
+    let whole : filesAnswer (b .disc) (b .out) ≡ reported (Done (length (filesText b))) (overwrite (b .out) 0 (filesText b)) = rw (is-usable (b .disc) (u .0) (u .1), le-leb _ _ fit) in
+    (ap (λ (r : Reported). r .number) whole, ap (λ (r : Reported). r .out) whole)
+
+pub list-due : (b : Buffers) → Passes (b .disc) (b .area) → length (listText (stateOf b)) ≤ length (b .out)
+    → Writes (length (listText (stateOf b))) (listText (stateOf b)) b (answer list b)
+unfolding answer
+list-due b passes fit =
+    let whole : answer list b ≡ record { number = pos (length (listText (stateOf b))); disc = b .disc; area = b .area; out = overwrite (b .out) 0 (listText (stateOf b)) } =
+    on-good b _ passes ∙ rw (le-leb _ _ fit) in
+    (ap (λ (a : Answer). a .number) whole, ap (λ (a : Answer). a .out) whole)
+
 pub run-due : (b : Buffers) (name : List ℕ) (slot i : ℕ) → Passes (b .disc) (b .area)
     → endedSlot (stateOf b) ≡ At slot → lookup (b .disc) name ≡ At i → (stateOf b .next ≡ 32768 → ⊥)
     → (answer (run name) b .number ≡ pos (stateOf b .next)) × (slotOf (kernelOf (answer (run name) b .area)) (stateOf b .next) ≡ At slot)

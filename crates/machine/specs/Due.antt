@@ -1,5 +1,5 @@
--- A turn, store, run, FORK, erase, suspend, resume and kill that no refusal speaks against are done; free space is the longest run that has a place.
-use Prim.Native.Nat.{ℕ, _<_}
+-- A call that no refusal speaks against is done; free space is the longest run that has a place.
+use Prim.Native.Nat.{ℕ, _<_, _≤_}
 use mathlib.Core.Path.{_≡_}
 use mathlib.Core.Bool.{true, false}
 use mathlib.Core.List.{List}
@@ -7,15 +7,18 @@ use lib.IntN.{pos}
 use lib.ListN.{length}
 use Rattle.buffer.specs.declared.Found.the-variants.{At, Nowhere}
 use Rattle.place.specs.Place.{fits}
-use Rattle.store.specs.Directory.{contents, entryAt, fileCount, goodDisc, isDiscLength, lookup, runOf, taken}
+use Rattle.store.specs.Directory.{contents, entryAt, fileCount, goodDisc, isDiscLength, lookup, runOf, taken, files as entries}
 use Rattle.store.specs.File.{goodSize}
 use Rattle.store.specs.Name.{goodName}
+use Rattle.buffer.specs.Buffer.{overwrite}
+use Rattle.buffer.specs.Lists.{flat}
+use Rattle.store.specs.Answer.{fileLine}
 use Rattle.machine.specs.Turn.{effectAt}
 use Rattle.machine.specs.Effect.{asks, forks}
-use Rattle.machine.specs.Answer.{Buffers, store, erase, run, freeSpace, command, turn, answer}
+use Rattle.machine.specs.Answer.{Buffers, store, erase, run, freeSpace, command, turn, answer, Answer, retrieve, files, list}
 use Rattle.machine.specs.NoPlace.{NoneFits}
 use Rattle.machine.specs.Area.{kernelOf}
-use Rattle.machine.specs.Operations.{Command, inUse}
+use Rattle.machine.specs.Operations.{Command, inUse, listText}
 use Rattle.machine.specs.Refusals.{stateOf, MayTurn, Passes, takes}
 use Rattle.machine.specs.State.{endedSlot, processAt, slotOf, Local}
 
@@ -27,6 +30,13 @@ Usable disc = (isDiscLength (length disc) ≡ true) × (goodDisc disc ≡ true)
 abbrev pub Holds : (disc name bytes : List ℕ) → Type 0
 Holds disc name bytes = (i : ℕ) × (lookup disc name ≡ At i) × (contents disc (runOf (entryAt disc i)) ≡ bytes)
 
+-- done with that number, these bytes written
+abbrev pub Writes : ℕ → List ℕ → Buffers → Answer → Type 0
+Writes n text b a = (a .number ≡ pos n) × (a .out ≡ overwrite (b .out) 0 text)
+
+abbrev pub filesText : Buffers → List ℕ
+filesText b = flat fileLine (entries (b .disc))
+
 abbrev pub TurnDue : Type 0
 TurnDue = (b : Buffers) (slot clock : ℕ) → MayTurn b slot → (n : ℕ) × (answer (turn slot clock) b .number ≡ pos n)
 
@@ -37,6 +47,21 @@ StoreDue =
     → goodName name ≡ true → goodSize (b .disc) (length bytes) ≡ true → fileCount (b .disc) < 10 → lookup (b .disc) name ≡ Nowhere
     → fits (taken (b .disc)) 161 (length (b .disc)) (length bytes) start ≡ true
     → (answer (store name bytes) b .number ≡ pos 0) × Holds (answer (store name bytes) b .disc) name bytes
+
+-- Document 01, retrieve: "Returns the length, its bytes written."
+abbrev pub RetrieveDue : Type 0
+RetrieveDue =
+    (b : Buffers) (name : List ℕ) (i : ℕ) → Usable (b .disc) → lookup (b .disc) name ≡ At i → entryAt (b .disc) i .len ≤ length (b .out)
+    → Writes (entryAt (b .disc) i .len) (contents (b .disc) (runOf (entryAt (b .disc) i))) b (answer (retrieve name) b)
+
+-- files and list: an output that holds their text
+abbrev pub FilesDue : Type 0
+FilesDue = (b : Buffers) → Usable (b .disc) → length (filesText b) ≤ length (b .out) → Writes (length (filesText b)) (filesText b) b (answer files b)
+
+abbrev pub ListDue : Type 0
+ListDue =
+    (b : Buffers) → Passes (b .disc) (b .area) → length (listText (stateOf b)) ≤ length (b .out)
+    → Writes (length (listText (stateOf b))) (listText (stateOf b)) b (answer list b)
 
 -- an ended slot, a file of that name, an ID left: the number is next ID, and a live process in that slot has it
 abbrev pub RunDue : Type 0
@@ -71,7 +96,6 @@ CommandDue =
     (b : Buffers) (c : Command) (id slot : ℕ) → Passes (b .disc) (b .area) → slotOf (stateOf b) id ≡ At slot → takes c (processAt (stateOf b) slot) ≡ true
     → answer (command c id) b .number ≡ pos 0
 
--- Document 01, strictness c, shuts out refusals said too early, an invented free space and a store that declines everything. Retrieve, files and
--- list rest on their definitions.
+-- Document 01, strictness c, shuts out refusals said too early, an invented free space and a store that declines everything
 unfoldable pub DoneWhenDue : Type 0
-DoneWhenDue = TurnDue × StoreDue × RunDue × ForkDue × EraseDue × FreeSpaceDue × CommandDue
+DoneWhenDue = TurnDue × StoreDue × RetrieveDue × FilesDue × ListDue × RunDue × ForkDue × EraseDue × FreeSpaceDue × CommandDue

@@ -66,7 +66,7 @@ pub fn places_refused_only()
     ensures { λ _. ⌜ PlacesRefusedOnly ⌝ }
 {}
 
-// What no refusal speaks against is done: store, run, erase, suspend, resume, kill and a turn; and free space is what a file may have.
+// A call that no refusal speaks against is done, and free space is what a file may have.
 pub fn done_when_due()
     ensures { λ _. ⌜ DoneWhenDue ⌝ }
 {}
