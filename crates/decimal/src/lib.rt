@@ -2,13 +2,14 @@
 use buffer::text::Text;
 ghost use mathlib.Core.Path.{_≡_};
 ghost use Prim.Native.Nat.{_+_, _<_, _≤_};
-ghost use mathlib.Core.List.{_++_};
-ghost use Rattle.buffer.specs.Text.{written};
-ghost use Rattle.decimal.specs.Decimal.{decimal, shown};
+ghost use Rattle.buffer.specs.Text.{appended, textSize};
+ghost use Rattle.decimal.specs.Decimal.{decimal, digitsOf, maxDigits};
+
+pub const MAX_DIGITS: usize = 10;
 
 // The digits stand at the end of bytes, from start on.
 pub struct Digits {
-    pub bytes: [u8; 10],
+    pub bytes: [u8; MAX_DIGITS],
     pub start: usize,
 }
 
@@ -20,10 +21,10 @@ fn digit(n: u32) -> u8
 }
 
 pub fn digits_of(n: u32) -> Digits
-    ensures { λ r. ⌜ (r .start ≤ 9) × (shown r ≡ decimal n) ⌝ }
+    ensures { λ r. ⌜ (r ≡ digitsOf n) × (r .start < maxDigits) ⌝ }
 {
-    let mut bytes = [0u8; 10];
-    let mut start: usize = 9;
+    let mut bytes = [0u8; MAX_DIGITS];
+    let mut start: usize = MAX_DIGITS - 1;
     let mut rest = n;
     bytes[start] = digit(rest % 10);
     while 10 <= rest {
@@ -38,8 +39,8 @@ pub fn digits_of(n: u32) -> Digits
 }
 
 pub fn append_decimal(text: Text, n: u32) -> Text
-    requires { ⌜ text .len + 10 ≤ 256 ⌝ }
-    ensures { λ r. ⌜ (r .len ≤ text .len + 10) × (written r ≡ written text ++ decimal n) ⌝ }
+    requires { ⌜ text .len + maxDigits ≤ textSize ⌝ }
+    ensures { λ r. ⌜ (r ≡ appended text (decimal n)) × (r .len ≤ text .len + maxDigits) ⌝ }
 {
     let digits = digits_of(n);
     let bytes = digits.bytes;

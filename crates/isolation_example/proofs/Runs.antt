@@ -48,7 +48,7 @@ use Rattle.machine.specs.Start.{starting}
 use Rattle.machine.specs.State.{ended, endedSlot, slotOf}
 use Rattle.machine.specs.Trace.{Event, Invocation, event, events, turnEvents}
 use Rattle.machine.specs.Turn.{carriedOut, turned}
-use Rattle.machine.proofs.Isolated.{isolated}
+use Rattle.machine.proofs.Traces.Isolated.{isolated}
 
 -- ---- what is computed of a run: the n-th event starts the process i
 none : Event

@@ -1,15 +1,27 @@
 -- Places for runs of bytes. Files on the disc and variables in memory are placed by the same definitions.
 use Prim.Native.Nat.{ℕ, zero, suc, _+_, _-_}
 use mathlib.Core.Bool.{Bool, true, false, _&&_, _||_}
-use mathlib.Core.List.{List}
+use mathlib.Core.List.{List, [], _++_}
 use lib.Dec.{leb}
+use lib.ListN.{length, replicate}
 use Rattle.buffer.specs.Lists.{all}
 use Rattle.buffer.specs.declared.Found.{Found}
 use Rattle.buffer.specs.declared.Found.the-variants.{At, Nowhere}
 use Rattle.place.specs.declared.Run.{Run}
 
+-- as many runs as may be taken: ten files, or 25 variables and the ten runs that a later request holds back
+abbrev pub maxRuns : ℕ
+maxRuns = 35
+
 abbrev pub runFrom : ℕ → ℕ → Run
 runFrom start n = record { start = start; len = n }
+
+abbrev pub noRun : Run
+noRun = runFrom 0 0
+
+-- these runs first, and nothing behind them
+abbrev pub filled : List Run → List Run
+filled runs = runs ++ replicate (maxRuns - length runs) noRun
 
 -- one ends before the other starts: they share no byte
 unfoldable pub apart : Run → Run → Bool

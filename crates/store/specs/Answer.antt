@@ -11,7 +11,8 @@ use Rattle.buffer.specs.declared.Found.the-variants.{At, Nowhere}
 use Rattle.decimal.specs.Decimal.{decimal}
 use Rattle.place.specs.Place.{longest, runFrom}
 use Rattle.store.specs.Directory.{contents, entryAt, files, goodDisc, isDiscLength, lookup, runOf, taken}
-use Rattle.store.specs.File.{admission, entered, erased, unless, writtenAt}
+use Rattle.store.specs.File.{admission, entered, unless, writtenAt}
+use Rattle.store.specs.Layout.{dataStart}
 use Rattle.store.specs.Name.{trimmed}
 use Rattle.store.specs.declared.Admission.{Admission}
 use Rattle.store.specs.declared.Admission.the-variants.{Start, Denied}
@@ -90,16 +91,6 @@ retrieveAnswer disc name out =
     ifUsable (checked disc) (λ r. reported (Refused r) out)
     (retrieveAt (lookup disc name) disc out)
 
--- ---- erase, the disc's part: whether a process uses the file comes from above
-abbrev pub eraseAt : Found → List ℕ → Updated
-eraseAt Nowhere disc = updated (Refused NoSuchFile) disc
-eraseAt (At i) disc = updated (Done 0) (erased disc i)
-
-unfoldable pub eraseAnswer : List ℕ → List ℕ → Updated
-eraseAnswer disc name =
-    ifUsable (checked disc) (λ r. updated (Refused r) disc)
-    (eraseAt (lookup disc name) disc)
-
 -- ---- files: "a line per file, name, space, length, newline; returns the bytes written"
 unfoldable pub fileLine : Entry → List ℕ
 fileLine e = trimmed (e .name) ++ (32 ∷ []) ++ decimal (e .len) ++ (10 ∷ [])
@@ -116,4 +107,4 @@ filesAnswer disc out =
 unfoldable pub freeSpaceAnswer : List ℕ → ℤ
 freeSpaceAnswer disc =
     ifUsable (checked disc) (λ r. answerNumber (Refused r))
-    (answerNumber (Done (longest (taken disc) 161 (length disc))))
+    (answerNumber (Done (longest (taken disc) dataStart (length disc))))

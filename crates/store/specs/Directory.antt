@@ -1,8 +1,4 @@
 -- The disc: its directory and its files.
---
---     0    ten entries of 16 bytes: name 12, start 2, length 2
---     160  the file count
---     161  data, to the disc's end
 use Prim.Native.Nat.{ℕ, _+_, _*_, _≤_}
 use mathlib.Core.Bool.{Bool, true, false, _&&_, not}
 use mathlib.Core.List.{List, _++_, map}
@@ -14,26 +10,27 @@ use Rattle.buffer.specs.declared.Found.{Found}
 use Rattle.buffer.specs.declared.Found.the-variants.{Nowhere}
 use Rattle.place.specs.Place.{apart}
 use Rattle.place.specs.declared.Run.{Run}
+use Rattle.store.specs.Layout.{countAt, dataStart, discLength, entrySize, maxFiles, nameSize}
 use Rattle.store.specs.Name.{goodField, goodName, padded}
 use Rattle.store.specs.declared.Entry.{Entry}
 
 -- Document 01: "Disc, 1,024 bytes."
 abbrev pub isDiscLength : ℕ → Bool
-isDiscLength n = eqb n 1024
+isDiscLength n = eqb n discLength
 
 -- Document 01: "Ten directory entries of 16 bytes from 0: name 12, start 2, length 2."
 abbrev pub entryOf : List ℕ → Entry
-entryOf bytes = record { name = take 12 bytes; start = wordAt bytes 12; len = wordAt bytes 14 }
+entryOf bytes = record { name = take nameSize bytes; start = wordAt bytes nameSize; len = wordAt bytes (nameSize + 2) }
 
 abbrev pub entryBytes : Entry → List ℕ
 entryBytes e = e .name ++ wordBytes (e .start) ++ wordBytes (e .len)
 
 unfoldable pub entryAt : List ℕ → ℕ → Entry
-entryAt disc i = entryOf (part disc (i * 16) 16)
+entryAt disc i = entryOf (part disc (i * entrySize) entrySize)
 
 -- Document 01: "Byte 160 is the file count"
 abbrev pub fileCount : List ℕ → ℕ
-fileCount disc = getD disc 160 0
+fileCount disc = getD disc countAt 0
 
 -- Document 01: "The first count entries are files in order of storing."
 abbrev pub files : List ℕ → List Entry
@@ -65,7 +62,7 @@ lookup disc name = nowhereUnless (goodName name) (index (named name) (files disc
 -- ---- good disc
 -- Document 01: "lengths from 1, and [..] files inside the data bytes", which end where the disc does
 unfoldable pub goodEntry : ℕ → Entry → Bool
-goodEntry end e = goodField (e .name) && (leb 1 (e .len) && (leb 161 (e .start) && leb (e .start + e .len) end))
+goodEntry end e = goodField (e .name) && (leb 1 (e .len) && (leb dataStart (e .start) && leb (e .start + e .len) end))
 
 -- Document 01: "distinct names [..] and disjoint files"
 unfoldable pub beside : Entry → Entry → Bool
@@ -76,10 +73,10 @@ goodFiles end es = all (goodEntry end) es && pairs beside es
 
 -- Document 01: "Byte 160 is the file count, at most 10." "A good disc has distinct names, lengths from 1, and disjoint files inside the data bytes."
 unfoldable pub goodDisc : List ℕ → Bool
-goodDisc disc = leb (fileCount disc) 10 && goodFiles (length disc) (files disc)
+goodDisc disc = leb (fileCount disc) maxFiles && goodFiles (length disc) (files disc)
 
 -- what code needs to know of a disc to read its directory, and to hold its places in 16 bits
 pub record Readable (disc : List ℕ) : Type 0 where
-  pub low : 161 ≤ length disc
+  pub low : dataStart ≤ length disc
   pub high : length disc ≤ 65535
-  pub few : fileCount disc ≤ 10
+  pub few : fileCount disc ≤ maxFiles

@@ -10,6 +10,7 @@ use Rattle.buffer.specs.declared.Found.the-variants.{At, Nowhere}
 use Rattle.place.specs.Place.{place}
 use Rattle.place.specs.declared.Run.{Run}
 use Rattle.store.specs.Directory.{contents, entryBytes, fileCount, lookup, taken}
+use Rattle.store.specs.Layout.{countAt, dataStart, entrySize, maxFiles}
 use Rattle.store.specs.Name.{goodName, padded}
 use Rattle.store.specs.declared.Admission.{Admission}
 use Rattle.store.specs.declared.Admission.the-variants.{Start, Denied}
@@ -23,11 +24,11 @@ unless false refusal rest = refusal
 
 -- Document 01: "data length 0 or above 863" is refused: what does not fit between 161 and the disc's end
 abbrev pub goodSize : List ℕ → ℕ → Bool
-goodSize disc n = leb 1 n && leb n (length disc - 161)
+goodSize disc n = leb 1 n && leb n (length disc - dataStart)
 
 -- Document 01: "The file takes the lowest start that fits."
 unfoldable pub placeOf : List ℕ → ℕ → Found
-placeOf disc n = place (taken disc) 161 (length disc) n
+placeOf disc n = place (taken disc) dataStart (length disc) n
 
 abbrev pub startOr : Found → Admission
 startOr (At s) = Start s
@@ -42,7 +43,7 @@ unfoldable pub admission : List ℕ → List ℕ → ℕ → Admission
 admission disc name n =
     unless (goodName name) (Denied BadName)
     (unless (goodSize disc n) (Denied BadSize)
-    (unless (ltb (fileCount disc) 10) (Denied DirectoryFull)
+    (unless (ltb (fileCount disc) maxFiles) (Denied DirectoryFull)
     (denyIfFound (lookup disc name)
     (startOr (placeOf disc n)))))
 
@@ -51,11 +52,14 @@ newEntry name n start = record { name = padded name; start = start; len = n }
 
 -- a file of n bytes enters the directory last; its data bytes stay as they are
 unfoldable pub entered : List ℕ → List ℕ → ℕ → ℕ → List ℕ
-entered disc name n start = overwrite (overwrite disc (fileCount disc * 16) (entryBytes (newEntry name n start))) 160 ((fileCount disc + 1) ∷ [])
+entered disc name n start =
+    overwrite (overwrite disc (fileCount disc * entrySize) (entryBytes (newEntry name n start))) countAt ((fileCount disc + 1) ∷ [])
 
 -- Document 01: "Later entries move up, the vacated entry becomes zero, data bytes remain."
 unfoldable pub erased : List ℕ → ℕ → List ℕ
-erased disc i = overwrite (overwrite disc (i * 16) (part disc (i * 16 + 16) ((fileCount disc - 1 - i) * 16) ++ replicate 16 0)) 160 ((fileCount disc - 1) ∷ [])
+erased disc i =
+    let later = part disc (i * entrySize + entrySize) ((fileCount disc - 1 - i) * entrySize) in
+    overwrite (overwrite disc (i * entrySize) (later ++ replicate entrySize 0)) countAt ((fileCount disc - 1) ∷ [])
 
 -- bytes written at an offset of a file, and n bytes read there
 unfoldable pub writtenAt : List ℕ → Run → ℕ → List ℕ → List ℕ

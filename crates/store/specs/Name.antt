@@ -5,17 +5,18 @@ use mathlib.Core.List.{List, [], _∷_, _++_}
 use lib.Dec.{eqb, leb}
 use lib.ListN.{length, replicate}
 use Rattle.buffer.specs.Lists.{all, same}
+use Rattle.store.specs.Layout.{maxName, nameSize}
 
 abbrev pub isNameByte : ℕ → Bool
 isNameByte b = leb 33 b && leb b 126
 
 -- Document 01: "A name is 1 to 11 bytes of 33 to 126, zero-filled."
 unfoldable pub goodName : List ℕ → Bool
-goodName name = leb 1 (length name) && (leb (length name) 11 && all isNameByte name)
+goodName name = leb 1 (length name) && (leb (length name) maxName && all isNameByte name)
 
 -- zero-filled to an entry's twelve bytes
 abbrev pub padded : List ℕ → List ℕ
-padded name = name ++ replicate (12 - length name) 0
+padded name = name ++ replicate (nameSize - length name) 0
 
 abbrev pub unlessZero : Bool → ℕ → List ℕ → List ℕ
 unlessZero true b l = []

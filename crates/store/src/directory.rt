@@ -1,29 +1,35 @@
 // The directory: its entries, the one lookup by name, and the runs that files take.
 use crate::Entry;
+use crate::layout::COUNT_AT;
+use crate::layout::ENTRY_SIZE;
+use crate::layout::NAME_SIZE;
 use buffer::Found;
+use place::MAX_RUNS;
 use place::Run;
 ghost use mathlib.Core.Path.{_≡_};
 ghost use Prim.Native.Nat.{_+_, _*_, _<_, _≤_};
-ghost use lib.ListN.{length, take};
+ghost use lib.ListN.{length};
 ghost use Rattle.buffer.specs.Buffer.{overwrite};
+ghost use Rattle.place.specs.Place.{filled};
 ghost use Rattle.store.specs.Directory.{Readable, entryAt, entryBytes, fileCount, lookup, runOf, taken};
+ghost use Rattle.store.specs.Layout.{dataStart, entrySize, maxFiles};
 
 pub fn file_count(disc: &[u8]) -> usize
-    requires { ⌜ 161 ≤ length (now disc) ⌝ }
+    requires { ⌜ dataStart ≤ length (now disc) ⌝ }
     ensures { λ r. ⌜ r ≡ fileCount (now (disc .entry)) ⌝ }
 {
-    disc[160] as usize
+    disc[COUNT_AT] as usize
 }
 
 pub fn entry_at(disc: &[u8], i: usize) -> Entry
-    requires { ⌜ (161 ≤ length (now disc)) × (i < 10) ⌝ }
+    requires { ⌜ (dataStart ≤ length (now disc)) × (i < maxFiles) ⌝ }
     ensures { λ r. ⌜ r ≡ entryAt (now (disc .entry)) i ⌝ }
 {
-    let at = i * 16;
-    let mut name = [0u8; 12];
+    let at = i * ENTRY_SIZE;
+    let mut name = [0u8; NAME_SIZE];
     buffer::bytes::copy_part(&mut name, disc, at);
-    let start = buffer::bytes::word_at(disc, at + 12);
-    let len = buffer::bytes::word_at(disc, at + 14);
+    let start = buffer::bytes::word_at(disc, at + NAME_SIZE);
+    let len = buffer::bytes::word_at(disc, at + NAME_SIZE + 2);
     Entry {
         name: name,
         start: start,
@@ -32,10 +38,10 @@ pub fn entry_at(disc: &[u8], i: usize) -> Entry
 }
 
 pub fn put_entry(disc: &mut [u8], i: usize, entry: Entry)
-    requires { ⌜ (161 ≤ length (now disc)) × (i < 10) ⌝ }
-    ensures { λ _. ⌜ now (disc .exit) ≡ overwrite (now (disc .entry)) (i * 16) (entryBytes entry) ⌝ }
+    requires { ⌜ (dataStart ≤ length (now disc)) × (i < maxFiles) ⌝ }
+    ensures { λ _. ⌜ now (disc .exit) ≡ overwrite (now (disc .entry)) (i * entrySize) (entryBytes entry) ⌝ }
 {
-    let at = i * 16;
+    let at = i * ENTRY_SIZE;
     let name = entry.name;
     let fields = [
         buffer::bytes::low(entry.start),
@@ -44,7 +50,7 @@ pub fn put_entry(disc: &mut [u8], i: usize, entry: Entry)
         buffer::bytes::high(entry.len),
     ];
     buffer::bytes::overwrite_at(disc, at, &name);
-    buffer::bytes::overwrite_at(disc, at + 12, &fields);
+    buffer::bytes::overwrite_at(disc, at + NAME_SIZE, &fields);
 }
 
 // One lookup for everybody. A name that is not good is no file's.
@@ -78,10 +84,10 @@ pub fn run_of(entry: Entry) -> Run
     }
 }
 
-// The runs that files take: the first file_count of the result.
-pub fn taken_runs(disc: &[u8]) -> [Run; 36]
+// The runs that files take, and nothing behind them.
+pub fn taken_runs(disc: &[u8]) -> [Run; MAX_RUNS]
     requires { ⌜ Readable (now disc) ⌝ }
-    ensures { λ r. ⌜ take (fileCount (now (disc .entry))) r ≡ taken (now (disc .entry)) ⌝ }
+    ensures { λ r. ⌜ r ≡ filled (taken (now (disc .entry))) ⌝ }
 {
     let count = file_count(disc);
     let mut runs = place::no_runs();

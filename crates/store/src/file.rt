@@ -2,6 +2,10 @@
 use crate::Admission;
 use crate::Entry;
 use crate::Refusal;
+use crate::layout::COUNT_AT;
+use crate::layout::DATA_START;
+use crate::layout::ENTRY_SIZE;
+use crate::layout::MAX_FILES;
 use buffer::Found;
 use place::Run;
 ghost use mathlib.Core.Path.{_≡_};
@@ -10,6 +14,7 @@ ghost use lib.ListN.{length};
 ghost use Rattle.buffer.specs.Buffer.{overwrite, part};
 ghost use Rattle.store.specs.Directory.{Readable, fileCount};
 ghost use Rattle.store.specs.File.{admission, entered, erased, readAt, writtenAt};
+ghost use Rattle.store.specs.Layout.{entrySize, maxFiles, nameSize};
 
 // Whether a new file of n bytes is admitted under this name, and where it goes.
 pub fn admit(disc: &[u8], name: &[u8], n: usize) -> Admission
@@ -22,18 +27,18 @@ pub fn admit(disc: &[u8], name: &[u8], n: usize) -> Admission
     if n < 1 {
         return Admission::Denied(Refusal::BadSize);
     }
-    if disc.len() - 161 < n {
+    if disc.len() - DATA_START < n {
         return Admission::Denied(Refusal::BadSize);
     }
     let count = crate::directory::file_count(disc);
-    if 10 <= count {
+    if MAX_FILES <= count {
         return Admission::Denied(Refusal::DirectoryFull);
     }
     if let Found::At(_) = crate::directory::find(disc, name) {
         return Admission::Denied(Refusal::NameExists);
     }
     let runs = crate::directory::taken_runs(disc);
-    match place::find_place(runs, count, 161, disc.len(), n) {
+    match place::find_place(runs, count, DATA_START, disc.len(), n) {
         Found::At(start) => Admission::Start(start),
         Found::Nowhere => Admission::Denied(Refusal::NoRun),
     }
@@ -42,7 +47,7 @@ pub fn admit(disc: &[u8], name: &[u8], n: usize) -> Admission
 // Enters a file of n bytes at start. Its data bytes stay as found.
 pub fn enter(disc: &mut [u8], name: &[u8], n: usize, start: usize)
     requires { ⌜ Readable (now disc) ⌝ }
-    requires { ⌜ (fileCount (now disc) < 10) × (length (now name) ≤ 12) × (n < 65536) × (start < 65536) ⌝ }
+    requires { ⌜ (fileCount (now disc) < maxFiles) × (length (now name) ≤ nameSize) × (n < 65536) × (start < 65536) ⌝ }
     ensures { λ _. ⌜ now (disc .exit) ≡ entered (now (disc .entry)) (now (name .entry)) n start ⌝ }
 {
     let count = crate::directory::file_count(disc);
@@ -53,17 +58,17 @@ pub fn enter(disc: &mut [u8], name: &[u8], n: usize, start: usize)
         len: n as u16,
     };
     crate::directory::put_entry(disc, count, entry);
-    disc[160] = (count + 1) as u8;
+    disc[COUNT_AT] = (count + 1) as u8;
 }
 
-// Moves the n bytes behind at + 16 up by one entry.
+// Moves the n bytes behind the entry at `at` up by one entry.
 fn move_up(disc: &mut [u8], at: usize, n: usize)
-    requires { ⌜ at + 16 + n ≤ length (now disc) ⌝ }
-    ensures { λ _. ⌜ now (disc .exit) ≡ overwrite (now (disc .entry)) at (part (now (disc .entry)) (at + 16) n) ⌝ }
+    requires { ⌜ at + entrySize + n ≤ length (now disc) ⌝ }
+    ensures { λ _. ⌜ now (disc .exit) ≡ overwrite (now (disc .entry)) at (part (now (disc .entry)) (at + entrySize) n) ⌝ }
 {
     let mut i: usize = 0;
     while i < n {
-        disc[at + i] = disc[at + 16 + i];
+        disc[at + i] = disc[at + ENTRY_SIZE + i];
         i += 1;
     }
 }
@@ -75,10 +80,10 @@ pub fn erase_entry(disc: &mut [u8], i: usize)
     ensures { λ _. ⌜ now (disc .exit) ≡ erased (now (disc .entry)) i ⌝ }
 {
     let last = crate::directory::file_count(disc) - 1;
-    let zeros = [0u8; 16];
-    move_up(disc, i * 16, (last - i) * 16);
-    buffer::bytes::overwrite_at(disc, last * 16, &zeros);
-    disc[160] = last as u8;
+    let zeros = [0u8; ENTRY_SIZE];
+    move_up(disc, i * ENTRY_SIZE, (last - i) * ENTRY_SIZE);
+    buffer::bytes::overwrite_at(disc, last * ENTRY_SIZE, &zeros);
+    disc[COUNT_AT] = last as u8;
 }
 
 // Writes the bytes at an offset of a file.

@@ -2,18 +2,22 @@
 use crate::Checked;
 use crate::Entry;
 use crate::Refusal;
+use crate::layout::DATA_START;
+use crate::layout::DISC_LENGTH;
+use crate::layout::MAX_FILES;
 ghost use mathlib.Core.Path.{_≡_};
 ghost use Prim.Native.Nat.{_<_, _≤_};
 ghost use lib.ListN.{length};
 ghost use Rattle.buffer.specs.Lists.{all, tab};
 ghost use Rattle.store.specs.Answer.{checked};
 ghost use Rattle.store.specs.Directory.{beside, entryAt, goodDisc, goodEntry, isDiscLength};
+ghost use Rattle.store.specs.Layout.{dataStart, maxFiles};
 
 // Document 01: "Disc, 1,024 bytes."
 pub fn is_disc_length(n: usize) -> bool
     ensures { λ r. ⌜ r ≡ isDiscLength n ⌝ }
 {
-    n == 1024
+    n == DISC_LENGTH
 }
 
 fn is_good_entry(entry: Entry, end: usize) -> bool
@@ -26,7 +30,7 @@ fn is_good_entry(entry: Entry, end: usize) -> bool
     if entry.len < 1 {
         return false;
     }
-    if entry.start < 161 {
+    if (entry.start as usize) < DATA_START {
         return false;
     }
     entry.start as usize + entry.len as usize <= end
@@ -49,7 +53,7 @@ fn is_beside(a: Entry, b: Entry) -> bool
 
 // Whether the entry at i is beside every earlier one.
 fn is_beside_earlier(disc: &[u8], i: usize) -> bool
-    requires { ⌜ (161 ≤ length (now disc)) × (i < 10) ⌝ }
+    requires { ⌜ (dataStart ≤ length (now disc)) × (i < maxFiles) ⌝ }
     ensures { λ r. ⌜ r ≡ all (λ e. beside e (entryAt (now (disc .entry)) i)) (tab (entryAt (now (disc .entry))) i) ⌝ }
 {
     let entry = crate::directory::entry_at(disc, i);
@@ -65,11 +69,11 @@ fn is_beside_earlier(disc: &[u8], i: usize) -> bool
 }
 
 pub fn is_good_disc(disc: &[u8]) -> bool
-    requires { ⌜ 161 ≤ length (now disc) ⌝ }
+    requires { ⌜ dataStart ≤ length (now disc) ⌝ }
     ensures { λ r. ⌜ r ≡ goodDisc (now (disc .entry)) ⌝ }
 {
     let count = crate::directory::file_count(disc);
-    if 10 < count {
+    if MAX_FILES < count {
         return false;
     }
     let mut i: usize = 0;

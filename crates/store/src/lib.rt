@@ -2,13 +2,16 @@
 pub mod directory;
 pub mod file;
 pub mod good;
+pub mod layout;
 pub mod name;
 pub mod numbers;
 pub mod operations;
 
+use layout::NAME_SIZE;
+
 // Document 01: "Ten directory entries of 16 bytes from 0: name 12, start 2, length 2."
 pub struct Entry {
-    pub name: [u8; 12],
+    pub name: [u8; NAME_SIZE],
     pub start: u16,
     pub len: u16,
 }

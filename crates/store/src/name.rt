@@ -1,10 +1,12 @@
 // File names: as they are given, and as the directory holds them.
+use crate::layout::MAX_NAME;
+use crate::layout::NAME_SIZE;
 use buffer::text::Text;
 ghost use mathlib.Core.Path.{_≡_};
-ghost use mathlib.Core.List.{_++_};
 ghost use Prim.Native.Nat.{_+_, _≤_};
 ghost use lib.ListN.{length, take};
-ghost use Rattle.buffer.specs.Text.{written};
+ghost use Rattle.buffer.specs.Text.{appended, textSize};
+ghost use Rattle.store.specs.Layout.{nameSize};
 ghost use Rattle.store.specs.Name.{goodField, goodName, isNameByte, padded, trimmed};
 
 fn is_name_byte(b: u8) -> bool
@@ -22,7 +24,7 @@ pub fn is_good_name(name: &[u8]) -> bool
     if name.len() < 1 {
         return false;
     }
-    if 11 < name.len() {
+    if MAX_NAME < name.len() {
         return false;
     }
     let mut i = 0;
@@ -37,21 +39,21 @@ pub fn is_good_name(name: &[u8]) -> bool
 }
 
 // Document 01: "zero-filled".
-pub fn pad(name: &[u8]) -> [u8; 12]
-    requires { ⌜ length (now name) ≤ 12 ⌝ }
+pub fn pad(name: &[u8]) -> [u8; NAME_SIZE]
+    requires { ⌜ length (now name) ≤ nameSize ⌝ }
     ensures { λ r. ⌜ r ≡ padded (now (name .entry)) ⌝ }
 {
-    let mut field = [0u8; 12];
+    let mut field = [0u8; NAME_SIZE];
     buffer::bytes::overwrite_at(&mut field, 0, name);
     field
 }
 
 // How many bytes of the field stand before its first zero.
-pub fn trimmed_length(field: [u8; 12]) -> usize
-    ensures { λ r. ⌜ (r ≤ 12) × (take r field ≡ trimmed field) ⌝ }
+pub fn trimmed_length(field: [u8; NAME_SIZE]) -> usize
+    ensures { λ r. ⌜ (r ≤ nameSize) × (take r field ≡ trimmed field) ⌝ }
 {
     let mut n: usize = 0;
-    while n < 12 {
+    while n < NAME_SIZE {
         if field[n] == 0 {
             return n;
         }
@@ -60,15 +62,15 @@ pub fn trimmed_length(field: [u8; 12]) -> usize
     n
 }
 
-pub fn append_name(text: Text, field: [u8; 12]) -> Text
-    requires { ⌜ text .len + 12 ≤ 256 ⌝ }
-    ensures { λ r. ⌜ (r .len ≤ text .len + 12) × (written r ≡ written text ++ trimmed field) ⌝ }
+pub fn append_name(text: Text, field: [u8; NAME_SIZE]) -> Text
+    requires { ⌜ text .len + nameSize ≤ textSize ⌝ }
+    ensures { λ r. ⌜ (r ≡ appended text (trimmed field)) × (r .len ≤ text .len + nameSize) ⌝ }
 {
     let n = trimmed_length(field);
     buffer::text::append(text, &field[..n])
 }
 
-pub fn is_good_field(field: [u8; 12]) -> bool
+pub fn is_good_field(field: [u8; NAME_SIZE]) -> bool
     ensures { λ r. ⌜ r ≡ goodField field ⌝ }
 {
     let n = trimmed_length(field);

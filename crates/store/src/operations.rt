@@ -4,16 +4,17 @@ use crate::Answer;
 use crate::Checked;
 use crate::Entry;
 use crate::Refusal;
+use crate::layout::DATA_START;
 use buffer::Found;
 use buffer::text::Text;
 use place::Run;
 ghost use mathlib.Core.Path.{_≡_};
-ghost use mathlib.Core.List.{_++_};
-ghost use Prim.Native.Nat.{_+_, _≤_};
+ghost use Prim.Native.Nat.{_+_, _*_, _≤_};
 ghost use Rattle.buffer.specs.Lists.{flat};
-ghost use Rattle.buffer.specs.Text.{written};
-ghost use Rattle.store.specs.Answer.{answerNumber, eraseAnswer, fileLine, filesAnswer, freeSpaceAnswer, reported, retrieveAnswer, storeAnswer, updated};
+ghost use Rattle.buffer.specs.Text.{appended, emptyText, textSize};
+ghost use Rattle.store.specs.Answer.{answerNumber, fileLine, filesAnswer, freeSpaceAnswer, reported, retrieveAnswer, storeAnswer, updated};
 ghost use Rattle.store.specs.Directory.{Readable, files};
+ghost use Rattle.store.specs.Layout.{lineSize, maxFiles};
 
 pub fn store(disc: &mut [u8], name: &[u8], data: &[u8]) -> Answer
     ensures { λ r. ⌜ updated r (now (disc .exit)) ≡ storeAnswer (now (disc .entry)) (now (name .entry)) (now («data» .entry)) ⌝ }
@@ -57,26 +58,10 @@ pub fn retrieve(disc: &[u8], name: &[u8], out: &mut [u8]) -> Answer
     }
 }
 
-// The disc's part of erase: whether a process uses the file is asked above.
-pub fn erase(disc: &mut [u8], name: &[u8]) -> Answer
-    ensures { λ r. ⌜ updated r (now (disc .exit)) ≡ eraseAnswer (now (disc .entry)) (now (name .entry)) ⌝ }
-{
-    if let Checked::Unusable(refusal) = crate::good::check(disc) {
-        return Answer::Refused(refusal);
-    }
-    match crate::directory::find(disc, name) {
-        Found::Nowhere => Answer::Refused(Refusal::NoSuchFile),
-        Found::At(i) => {
-            crate::file::erase_entry(disc, i);
-            Answer::Done(0)
-        }
-    }
-}
-
 // Document 01: "a line per file, name, space, length, newline".
 fn with_line(text: Text, entry: Entry) -> Text
-    requires { ⌜ text .len + 24 ≤ 256 ⌝ }
-    ensures { λ r. ⌜ (r .len ≤ text .len + 24) × (written r ≡ written text ++ fileLine entry) ⌝ }
+    requires { ⌜ text .len + lineSize ≤ textSize ⌝ }
+    ensures { λ r. ⌜ (r ≡ appended text (fileLine entry)) × (r .len ≤ text .len + lineSize) ⌝ }
 {
     let name = entry.name;
     let named = crate::name::append_name(text, name);
@@ -87,7 +72,7 @@ fn with_line(text: Text, entry: Entry) -> Text
 
 fn files_text(disc: &[u8]) -> Text
     requires { ⌜ Readable (now disc) ⌝ }
-    ensures { λ r. ⌜ (r .len ≤ 240) × (written r ≡ flat fileLine (files (now (disc .entry)))) ⌝ }
+    ensures { λ r. ⌜ (r ≡ appended emptyText (flat fileLine (files (now (disc .entry))))) × (r .len ≤ maxFiles * lineSize) ⌝ }
 {
     let count = crate::directory::file_count(disc);
     let mut text = buffer::text::empty_text();
@@ -125,6 +110,6 @@ pub fn free_space(disc: &[u8]) -> Answer
     }
     let count = crate::directory::file_count(disc);
     let runs = crate::directory::taken_runs(disc);
-    let len = place::longest_run(runs, count, 161, disc.len());
+    let len = place::longest_run(runs, count, DATA_START, disc.len());
     Answer::Done(len as u16)
 }

@@ -1,15 +1,16 @@
 -- SET: where a value goes, and what becomes of table and memory.
-use Prim.Native.Nat.{ℕ, _+_}
+use Prim.Native.Nat.{ℕ, _+_, _-_}
 use mathlib.Core.Bool.{Bool, true, false, not}
 use mathlib.Core.List.{List, [], _∷_, _++_, map}
 use lib.Dec.{eqb, ltb}
-use lib.ListN.{set, take}
+use lib.ListN.{length, replicate, set, take}
 use Rattle.buffer.specs.Buffer.{overwrite}
 use Rattle.buffer.specs.Lists.{keep}
 use Rattle.buffer.specs.declared.Found.{Found}
 use Rattle.buffer.specs.declared.Found.the-variants.{At, Nowhere}
 use Rattle.place.specs.Place.{place}
 use Rattle.place.specs.declared.Run.{Run}
+use Rattle.variable.specs.Limits.{maxVariables, memorySize, valueSize}
 use Rattle.variable.specs.Table.{Cell, counted, freed, isOf, runOf}
 use Rattle.variable.specs.declared.Assigned.{Assigned}
 use Rattle.variable.specs.declared.Placing.{Placing}
@@ -17,6 +18,10 @@ use Rattle.variable.specs.declared.Placing.the-variants.{Address, NoEntr
 use Rattle.variable.specs.declared.Value.{Value}
 use Rattle.variable.specs.declared.Variable.{Variable}
 use Rattle.variable.specs.declared.Variables.{Variables}
+
+-- a value of these bytes, zero-filled
+abbrev pub valueOf : ℕ → List ℕ → Value
+valueOf kind bytes = record { kind = kind; size = length bytes; bytes = bytes ++ replicate (valueSize - length bytes) 0 }
 
 -- the bytes of a value, as they lie on the stack without length and type
 abbrev pub valueBytes : Value → List ℕ
@@ -42,10 +47,10 @@ abbrev pub lowEnd : ℕ
 lowEnd = 0
 
 abbrev pub highEnd : ℕ
-highEnd = 256
+highEnd = memorySize
 
 abbrev pub entryLimit : ℕ
-entryLimit = 25
+entryLimit = maxVariables
 
 unfoldable pub placeFor : Variables → ℕ → Placing
 placeFor v n = placing (takenRuns v) lowEnd highEnd (v .count) entryLimit n

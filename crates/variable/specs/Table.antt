@@ -12,6 +12,7 @@ use Rattle.buffer.specs.Buffer.{part}
 use Rattle.buffer.specs.Lists.{index, keep}
 use Rattle.buffer.specs.declared.Found.{Found}
 use Rattle.place.specs.declared.Run.{Run}
+use Rattle.variable.specs.Limits.{maxVariables, memorySize}
 use Rattle.variable.specs.declared.Variable.{Variable}
 use Rattle.variable.specs.declared.Variables.{Variables}
 
@@ -21,8 +22,8 @@ counted v = take (v .count) (v .entries)
 
 -- the arrays have their lengths
 pub record Shaped (v : Variables) : Type 0 where
-  pub memory : length (v .memory) ≡ 256
-  pub entries : length (v .entries) ≡ 25
+  pub memory : length (v .memory) ≡ memorySize
+  pub entries : length (v .entries) ≡ maxVariables
 
 -- ---- whose a variable is
 abbrev pub ownedBy : ℕ → Variable → Bool

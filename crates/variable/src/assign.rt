@@ -1,29 +1,34 @@
 // SET: a place for the new value, the entry and its bytes.
 use crate::Assigned;
+use crate::MAX_VARIABLES;
+use crate::MEMORY_SIZE;
 use crate::Placing;
 use crate::Value;
 use crate::Variable;
 use crate::Variables;
 use buffer::Found;
+use place::MAX_RUNS;
 use place::Run;
 ghost use mathlib.Core.Path.{_≡_};
 ghost use mathlib.Core.List.{map};
 ghost use Prim.Native.Nat.{_+_, _≤_, _<_};
 ghost use lib.ListN.{set, take};
+ghost use Rattle.place.specs.Place.{filled};
+ghost use Rattle.variable.specs.Limits.{maxVariables, memorySize, valueSize};
 ghost use Rattle.variable.specs.Assign.{added, assigned, entryLimit, highEnd, lowEnd, placing, placingFault, valueBytes};
 ghost use Rattle.variable.specs.Table.{runOf};
 
 // All variables share one memory and one table.
 const LOW_END: usize = 0;
 
-const HIGH_END: usize = 256;
+const HIGH_END: usize = MEMORY_SIZE;
 
-const ENTRY_LIMIT: usize = 25;
+const ENTRY_LIMIT: usize = MAX_VARIABLES;
 
-// The runs that variables take: the first count of the result.
-fn taken_runs(entries: [Variable; 25], count: usize) -> [Run; 36]
-    requires { ⌜ count ≤ 25 ⌝ }
-    ensures { λ r. ⌜ take count r ≡ map runOf (take count entries) ⌝ }
+// The runs that variables take, and nothing behind them.
+fn taken_runs(entries: [Variable; MAX_VARIABLES], count: usize) -> [Run; MAX_RUNS]
+    requires { ⌜ count ≤ maxVariables ⌝ }
+    ensures { λ r. ⌜ r ≡ filled (map runOf (take count entries)) ⌝ }
 {
     let mut runs = place::no_runs();
     let mut i: usize = 0;
@@ -36,7 +41,7 @@ fn taken_runs(entries: [Variable; 25], count: usize) -> [Run; 36]
 }
 
 // Document 01, fault 10: "no variable entry or run"
-fn place_for(runs: [Run; 36], used: usize, n: usize) -> Placing
+fn place_for(runs: [Run; MAX_RUNS], used: usize, n: usize) -> Placing
     ensures { λ r. ⌜ r ≡ placing (take used runs) lowEnd highEnd used entryLimit n ⌝ }
 {
     if ENTRY_LIMIT <= used {
@@ -59,8 +64,12 @@ pub fn placing_fault(p: Placing) -> u8
     }
 }
 
-fn with_entry(entries: [Variable; 25], i: usize, e: Variable) -> [Variable; 25]
-    requires { ⌜ i < 25 ⌝ }
+fn with_entry(
+    entries: [Variable; MAX_VARIABLES],
+    i: usize,
+    e: Variable,
+) -> [Variable; MAX_VARIABLES]
+    requires { ⌜ i < maxVariables ⌝ }
     ensures { λ r. ⌜ r ≡ set entries i e ⌝ }
 {
     let mut next = entries;
@@ -70,7 +79,7 @@ fn with_entry(entries: [Variable; 25], i: usize, e: Variable) -> [Variable; 25]
 
 // The new entry last, the value's bytes in memory.
 fn add(v: Variables, e: Variable, x: Value) -> Variables
-    requires { ⌜ (v .count < 25) × (e .address + x .size ≤ 256) × (x .size ≤ 32) ⌝ }
+    requires { ⌜ (v .count < maxVariables) × (e .address + x .size ≤ memorySize) × (x .size ≤ valueSize) ⌝ }
     ensures { λ r. ⌜ r ≡ added v e (valueBytes x) ⌝ }
 {
     let at = e.address as usize;
@@ -89,7 +98,7 @@ fn add(v: Variables, e: Variable, x: Value) -> Variables
 
 // Document 01: "SET first frees the old variable, then takes the lowest fitting address."
 pub fn assign(v: Variables, name: u8, owner: u16, x: Value) -> Assigned
-    requires { ⌜ (v .count ≤ 25) × (1 ≤ x .size) × (x .size ≤ 32) ⌝ }
+    requires { ⌜ (v .count ≤ maxVariables) × (1 ≤ x .size) × (x .size ≤ valueSize) ⌝ }
     ensures { λ r. ⌜ r ≡ assigned v name owner x ⌝ }
 {
     let rest = crate::table::free_variable(v, name, owner);

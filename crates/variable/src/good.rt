@@ -1,4 +1,7 @@
 // The variables' part of the test that a work area is good.
+use crate::MAX_STRING;
+use crate::MAX_VARIABLES;
+use crate::MEMORY_SIZE;
 use crate::Variable;
 use crate::Variables;
 ghost use mathlib.Core.Path.{_≡_};
@@ -7,6 +10,7 @@ ghost use Prim.Native.Nat.{_≤_, _<_};
 ghost use lib.Dec.{eqb};
 ghost use lib.ListN.{getD, take};
 ghost use Rattle.buffer.specs.Lists.{all, any, pairs};
+ghost use Rattle.variable.specs.Limits.{maxVariables};
 ghost use Rattle.variable.specs.Good.{beside, goodSize, goodVariable, goodVariables};
 ghost use Rattle.variable.specs.Table.{noVariable};
 
@@ -18,7 +22,7 @@ pub fn is_good_size(kind: u8, size: u8) -> bool
         1 => size == 1,
         2 => size == 2,
         4 => size == 4,
-        3 => 1 <= size && size <= 30,
+        3 => 1 <= size && size <= MAX_STRING,
         _ => false,
     }
 }
@@ -42,7 +46,7 @@ fn is_good_variable(live: &[u16], e: Variable) -> bool
     if !is_good_size(e.kind, e.size) {
         return false;
     }
-    if 256 < e.address as usize + e.size as usize {
+    if MEMORY_SIZE < e.address as usize + e.size as usize {
         return false;
     }
     is_live(live, e.owner)
@@ -58,8 +62,8 @@ fn is_beside(d: Variable, e: Variable) -> bool
 }
 
 // Whether the entry at i is beside every earlier one.
-fn is_beside_earlier(entries: [Variable; 25], i: usize) -> bool
-    requires { ⌜ i < 25 ⌝ }
+fn is_beside_earlier(entries: [Variable; MAX_VARIABLES], i: usize) -> bool
+    requires { ⌜ i < maxVariables ⌝ }
     ensures { λ r. ⌜ r ≡ all (λ d. beside d (getD entries i noVariable)) (take i entries) ⌝ }
 {
     let e = entries[i];
@@ -74,8 +78,8 @@ fn is_beside_earlier(entries: [Variable; 25], i: usize) -> bool
     true
 }
 
-fn is_good_table(live: &[u16], entries: [Variable; 25], count: usize) -> bool
-    requires { ⌜ count ≤ 25 ⌝ }
+fn is_good_table(live: &[u16], entries: [Variable; MAX_VARIABLES], count: usize) -> bool
+    requires { ⌜ count ≤ maxVariables ⌝ }
     ensures { λ r. ⌜ r ≡ all (goodVariable (now (live .entry))) (take count entries) && pairs beside (take count entries) ⌝ }
 {
     let mut i: usize = 0;
@@ -96,7 +100,7 @@ pub fn is_good(live: &[u16], v: Variables) -> bool
     ensures { λ r. ⌜ r ≡ goodVariables (now (live .entry)) v ⌝ }
 {
     let count = v.count as usize;
-    if 25 < count {
+    if MAX_VARIABLES < count {
         return false;
     }
     let entries = v.entries;

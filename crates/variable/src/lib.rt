@@ -3,6 +3,14 @@ pub mod assign;
 pub mod good;
 pub mod table;
 
+pub const MEMORY_SIZE: usize = 256;
+
+pub const MAX_VARIABLES: usize = 25;
+
+pub const MAX_STRING: u8 = 30;
+
+pub const VALUE_SIZE: usize = 32;
+
 // Document 01: "25 variable entries of name 1, type 1, address 1, size 1, process ID 2."
 pub struct Variable {
     pub name: u8,
@@ -14,8 +22,8 @@ pub struct Variable {
 
 // The first count entries are variables; the others are not read and keep their bytes.
 pub struct Variables {
-    pub memory: [u8; 256],
-    pub entries: [Variable; 25],
+    pub memory: [u8; MEMORY_SIZE],
+    pub entries: [Variable; MAX_VARIABLES],
     pub count: u8,
 }
 
@@ -23,7 +31,7 @@ pub struct Variables {
 pub struct Value {
     pub kind: u8,
     pub size: u8,
-    pub bytes: [u8; 32],
+    pub bytes: [u8; VALUE_SIZE],
 }
 
 // Where a new variable goes, or why it does not: both refusals are document 01's fault 10.

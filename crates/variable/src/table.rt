@@ -1,4 +1,7 @@
 // The table: lookup, what a variable holds, and freeing.
+use crate::MAX_VARIABLES;
+use crate::MEMORY_SIZE;
+use crate::VALUE_SIZE;
 use crate::Value;
 use crate::Variable;
 use crate::Variables;
@@ -9,7 +12,8 @@ ghost use Prim.Native.Nat.{_+_, _≤_};
 ghost use lib.ListN.{take};
 ghost use Rattle.buffer.specs.Buffer.{part};
 ghost use Rattle.buffer.specs.Lists.{index};
-ghost use Rattle.variable.specs.Assign.{valueBytes};
+ghost use Rattle.variable.specs.Limits.{maxVariables, memorySize, valueSize};
+ghost use Rattle.variable.specs.Assign.{valueOf};
 ghost use Rattle.variable.specs.Table.{find, freed, freedAll, isGone, isOf, noVariable, runOf};
 
 pub fn is_of(e: Variable, name: u8, owner: u16) -> bool
@@ -21,8 +25,8 @@ pub fn is_of(e: Variable, name: u8, owner: u16) -> bool
     e.owner == owner
 }
 
-fn find_entry(entries: [Variable; 25], count: usize, name: u8, owner: u16) -> Found
-    requires { ⌜ count ≤ 25 ⌝ }
+fn find_entry(entries: [Variable; MAX_VARIABLES], count: usize, name: u8, owner: u16) -> Found
+    requires { ⌜ count ≤ maxVariables ⌝ }
     ensures { λ r. ⌜ r ≡ index (isOf name owner) (take count entries) ⌝ }
 {
     let mut i: usize = 0;
@@ -37,7 +41,7 @@ fn find_entry(entries: [Variable; 25], count: usize, name: u8, owner: u16) -> Fo
 }
 
 pub fn find_variable(v: Variables, name: u8, owner: u16) -> Found
-    requires { ⌜ v .count ≤ 25 ⌝ }
+    requires { ⌜ v .count ≤ maxVariables ⌝ }
     ensures { λ r. ⌜ r ≡ find v name owner ⌝ }
 {
     let entries = v.entries;
@@ -55,13 +59,13 @@ pub fn run_of(e: Variable) -> Run
 }
 
 pub fn value_of(v: Variables, entry: Variable) -> Value
-    requires { ⌜ (entry .address + entry .size ≤ 256) × (entry .size ≤ 32) ⌝ }
-    ensures { λ r. ⌜ (r .kind ≡ entry .kind) × (r .size ≡ entry .size) × (valueBytes r ≡ part (v .memory) (entry .address) (entry .size)) ⌝ }
+    requires { ⌜ (entry .address + entry .size ≤ memorySize) × (entry .size ≤ valueSize) ⌝ }
+    ensures { λ r. ⌜ r ≡ valueOf (entry .kind) (part (v .memory) (entry .address) (entry .size)) ⌝ }
 {
     let memory = v.memory;
     let at = entry.address as usize;
     let n = entry.size as usize;
-    let mut bytes = [0u8; 32];
+    let mut bytes = [0u8; VALUE_SIZE];
     buffer::bytes::copy_part(&mut bytes[..n], &memory, at);
     Value {
         kind: entry.kind,
@@ -94,14 +98,14 @@ fn no_variable() -> Variable
 
 // Document 01: "Freed memory keeps its bytes; freed entries close up, zeros behind."
 fn close_up(
-    memory: [u8; 256],
-    old: [Variable; 25],
+    memory: [u8; MEMORY_SIZE],
+    old: [Variable; MAX_VARIABLES],
     count: u8,
     every: bool,
     name: u8,
     owner: u16,
 ) -> Variables
-    requires { ⌜ count ≤ 25 ⌝ }
+    requires { ⌜ count ≤ maxVariables ⌝ }
     ensures { λ r. ⌜ r ≡ freed (record { memory = memory; entries = old; count = count }) (isGone every name owner) ⌝ }
 {
     let end = count as usize;
@@ -125,7 +129,7 @@ fn close_up(
 }
 
 pub fn free_variable(v: Variables, name: u8, owner: u16) -> Variables
-    requires { ⌜ v .count ≤ 25 ⌝ }
+    requires { ⌜ v .count ≤ maxVariables ⌝ }
     ensures { λ r. ⌜ r ≡ freed v (isOf name owner) ⌝ }
 {
     let memory = v.memory;
@@ -135,7 +139,7 @@ pub fn free_variable(v: Variables, name: u8, owner: u16) -> Variables
 
 // Document 01: "Ending (STOP, kill, fault) frees the process's variables."
 pub fn free_all(v: Variables, owner: u16) -> Variables
-    requires { ⌜ v .count ≤ 25 ⌝ }
+    requires { ⌜ v .count ≤ maxVariables ⌝ }
     ensures { λ r. ⌜ r ≡ freedAll v owner ⌝ }
 {
     let memory = v.memory;

@@ -18,12 +18,6 @@ whole c = let z = sizes c in take-all (10 - c .digits-of .result .start) (drop (
 long : (c : tie.After-digits-of) → length (take (10 - c .digits-of .result .start) (drop (c .digits-of .result .start) (c .digits-of .result .bytes))) ≤ 10
 long c = let z = sizes c in simp (length-take, length-drop) (omega arith)
 
-digits-of-requires : tie.Need-digits-of-requires
-digits-of-requires c κs = search needs
-
-sub-append : tie.Need-sub-append
-sub-append c = search needs
-
 part-append-start : tie.Need-part-append-start
 part-append-start c = omega (arith, c .before .before .digits-of .ensures .0)
 
@@ -47,8 +41,8 @@ pub append-decimal-spec : {M : Type 1} → statement M
 append-decimal-spec =
     tie.close
     (tie.spec
-    digits-of-requires
-    sub-append
+    (λ c κs. search needs)
+    (λ c. search needs)
     part-append-start
     part-append-end
     append-requires

@@ -17,12 +17,6 @@ Inv-loop n bytes₀ start₀ rest₀ bytes start rest = (start ≤ 9) × (length
 abbrev μ-loop : tie.MeasureT-loop
 μ-loop n bytes₀ start₀ rest₀ bytes start rest = rest
 
-digit-requires : tie.Need-digit-requires Inv-loop μ-loop
-digit-requires c κs = omega arith
-
-array-write-bytes : tie.Need-array-write-bytes Inv-loop μ-loop
-array-write-bytes c = omega arith
-
 loop-holds : tie.Need-loop-holds Inv-loop μ-loop
 unfolding lastDigits
 loop-holds c = (omega arith, refl, omega arith, rw (c .digit .ensures))
@@ -34,14 +28,8 @@ more c = room (c .before .loop .start) (c .before .loop .rest) (omega arith) (c 
 sub-start : tie.Need-sub-start Inv-loop μ-loop
 sub-start c = let h = more c in omega arith
 
-digit-requires-2 : tie.Need-digit-requires-2 Inv-loop μ-loop
-digit-requires-2 c κs = omega arith
-
 array-write-bytes-2 : tie.Need-array-write-bytes-2 Inv-loop μ-loop
 array-write-bytes-2 c = let h = more (c .before) in omega arith
-
-loop-less : tie.Need-loop-less Inv-loop μ-loop
-loop-less c = omega arith
 
 loop-again : tie.Need-loop-again Inv-loop μ-loop
 loop-again c =
@@ -62,12 +50,12 @@ digits-of-spec =
     (tie.spec
     Inv-loop
     μ-loop
-    digit-requires
-    array-write-bytes
+    (λ c κs. omega arith)
+    (λ c. omega arith)
     loop-holds
     sub-start
-    digit-requires-2
+    (λ c κs. omega arith)
     array-write-bytes-2
-    loop-less
+    (λ c. omega arith)
     loop-again
     returns)

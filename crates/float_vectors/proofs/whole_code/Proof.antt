@@ -4,9 +4,6 @@ use borrow.Author.Needs.{needs}
 use Rattle.float_vectors.proofs.whole_code.Statement.{statement}
 use Rattle.float_vectors.proofs.whole_code.Tie as tie
 
-enum-known-w : tie.Need-enum-known-w
-enum-known-w c = search needs
-
 cast-result : tie.Need-cast-result
 cast-result c = cast-nonneg (c .before .before .w .given .0 .0) (search needs) (c .if1 .taken)
 
@@ -19,28 +16,16 @@ cast-result-2 c = cast-flip (c .before .before .w .given .0 .0) (search needs) (
 sub-result-2 : tie.Need-sub-result-2
 sub-result-2 c = flip-below (c .before .before .w .given .0 .0) (search needs) (c .if1 .left)
 
-enum-told : tie.Need-enum-told
-enum-told c = search needs
-
-returns : tie.Need-returns
-returns c = search needs
-
-returns-2 : tie.Need-returns-2
-returns-2 c = search needs
-
-returns-3 : tie.Need-returns-3
-returns-3 c = search needs
-
 pub whole-code-spec : {M : Type 1} → statement M
 whole-code-spec =
     tie.close
     (tie.spec
-    enum-known-w
+    (λ c. search needs)
     cast-result
     sub-result
     cast-result-2
     sub-result-2
-    enum-told
-    returns
-    returns-2
-    returns-3)
+    (λ c. search needs)
+    (λ c. search needs)
+    (λ c. search needs)
+    (λ c. search needs))

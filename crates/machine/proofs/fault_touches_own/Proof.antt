@@ -1,6 +1,6 @@
 -- `machine::fault_touches_own` meets its contract: a turn that ends its process touches nothing else.
 use Rattle.machine.specs.Demands.{FaultTouchesOwn}
-use Rattle.machine.proofs.TurnCalls.{ended-only, ends-or-runs}
+use Rattle.machine.proofs.Demands.TurnCalls.{ended-only, ends-or-runs}
 use Rattle.machine.proofs.fault_touches_own.Statement.{statement}
 use Rattle.machine.proofs.fault_touches_own.Tie as tie
 

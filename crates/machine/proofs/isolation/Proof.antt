@@ -1,5 +1,5 @@
 -- `machine::isolation` meets its contract, which is demand 3.
-use Rattle.machine.proofs.Isolated.{isolated}
+use Rattle.machine.proofs.Traces.Isolated.{isolated}
 use Rattle.machine.proofs.isolation.Statement.{statement}
 use Rattle.machine.proofs.isolation.Tie as tie
 

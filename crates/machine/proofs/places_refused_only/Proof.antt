@@ -1,7 +1,7 @@
 -- `machine::places_refused_only` meets its contract: a place is refused only where there is none.
 use Rattle.machine.specs.Demands.{PlacesRefusedOnly}
-use Rattle.machine.proofs.EndFaults.{open-refused, set-no-place}
-use Rattle.machine.proofs.Places.{store-full, store-no-run}
+use Rattle.machine.proofs.Demands.EndFaults.{open-refused, set-no-place}
+use Rattle.machine.proofs.Demands.Places.{store-full, store-no-run}
 use Rattle.machine.proofs.places_refused_only.Statement.{statement}
 use Rattle.machine.proofs.places_refused_only.Tie as tie
 

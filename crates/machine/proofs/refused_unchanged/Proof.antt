@@ -2,7 +2,7 @@
 use mathlib.Core.Path.{ap}
 use Rattle.machine.specs.Answer.{Answer}
 use Rattle.machine.specs.Demands.{RefusedUnchanged}
-use Rattle.machine.proofs.Refused.{boot-refused, format-refused, refused-by, refused-unchanged}
+use Rattle.machine.proofs.Demands.Refused.{boot-refused, format-refused, refused-by, refused-unchanged}
 use Rattle.machine.proofs.refused_unchanged.Statement.{statement}
 use Rattle.machine.proofs.refused_unchanged.Tie as tie
 

@@ -1,7 +1,7 @@
 -- `machine::round_is_turns` meets its contract: a done round is exactly its turns.
 use Rattle.machine.specs.Demands.{RoundIsTurns}
-use Rattle.machine.proofs.RoundEvents.{round-events}
-use Rattle.machine.proofs.RunEvents.{bytes-whole, whole-after}
+use Rattle.machine.proofs.Traces.RoundEvents.{round-events}
+use Rattle.machine.proofs.Traces.RunEvents.{bytes-whole, whole-after}
 use Rattle.machine.proofs.round_is_turns.Statement.{statement}
 use Rattle.machine.proofs.round_is_turns.Tie as tie
 

@@ -2,7 +2,7 @@
 use mathlib.Core.Path.{ap}
 use Rattle.machine.specs.Answer.{Answer}
 use Rattle.machine.specs.Demands.{RoundNeverRefused}
-use Rattle.machine.proofs.Rounds.{round-done}
+use Rattle.machine.proofs.Demands.Rounds.{round-done}
 use Rattle.machine.proofs.round_never_refused.Statement.{statement}
 use Rattle.machine.proofs.round_never_refused.Tie as tie
 

@@ -14,23 +14,8 @@ abbrev μ-loop : tie.MeasureT-loop
 loop-holds : tie.Need-loop-holds Inv-loop μ-loop
 loop-holds c = record { from = omega arith; to = omega arith; reach = omega arith; some = omega arith }
 
-add-if1 : tie.Need-add-if1 Inv-loop μ-loop
-add-if1 c = omega arith
-
-add-if1-2 : tie.Need-add-if1-2 Inv-loop μ-loop
-add-if1-2 c = omega arith
-
 mul-if1 : tie.Need-mul-if1 Inv-loop μ-loop
 mul-if1 c = record { fits = product-below 32 (omega arith) (omega arith) }
-
-add-low : tie.Need-add-low Inv-loop μ-loop
-add-low c = omega arith
-
-sub-width : tie.Need-sub-width Inv-loop μ-loop
-sub-width c = omega arith
-
-loop-less : tie.Need-loop-less Inv-loop μ-loop
-loop-less c = omega arith
 
 loop-again : tie.Need-loop-again Inv-loop μ-loop
 loop-again c =
@@ -49,11 +34,11 @@ whole-root-spec =
     Inv-loop
     μ-loop
     loop-holds
-    add-if1
-    add-if1-2
+    (λ c. omega arith)
+    (λ c. omega arith)
     mul-if1
-    add-low
-    sub-width
-    loop-less
+    (λ c. omega arith)
+    (λ c. omega arith)
+    (λ c. omega arith)
     loop-again
     returns)

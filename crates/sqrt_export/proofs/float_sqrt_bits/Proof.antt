@@ -6,18 +6,9 @@ use borrow.Author.Needs.{needs}
 use Rattle.sqrt_export.proofs.float_sqrt_bits.Statement.{statement}
 use Rattle.sqrt_export.proofs.float_sqrt_bits.Tie as tie
 
-from-bits-requires : tie.Need-from-bits-requires
-from-bits-requires c κs = search needs
-
-sqrt-requires : tie.Need-sqrt-requires
-sqrt-requires c κs = search needs
-
-to-bits-requires : tie.Need-to-bits-requires
-to-bits-requires c κs = search needs
-
 returns : tie.Need-returns
 returns c = c .to-bits .ensures ∙ ap (toBits binary32) (c .before .sqrt .ensures ∙ ap sqrtOf (c .before .before .from-bits .ensures))
 
 pub float-sqrt-bits-spec : {M : Type 1} → statement M
 float-sqrt-bits-spec =
-    tie.close (tie.spec from-bits-requires sqrt-requires to-bits-requires returns)
+    tie.close (tie.spec (λ c κs. search needs) (λ c κs. search needs) (λ c κs. search needs) returns)

@@ -14,14 +14,8 @@ sizes s = search needs
 room : (s : tie.Start) → s .args .text .len + length (s .args .src .now) ≤ length (s .args .text .bytes)
 room s = let h = sizes s in omega arith
 
-slice-aggregate-overwrite-at : tie.Need-slice-aggregate-overwrite-at
-slice-aggregate-overwrite-at c = search needs
-
 overwrite-at-requires : tie.Need-overwrite-at-requires
 overwrite-at-requires c κs = room (c .before .before .before)
-
-add-t10 : tie.Need-add-t10
-add-t10 c = search needs
 
 returns : tie.Need-returns
 returns c =
@@ -31,4 +25,4 @@ returns c =
 
 pub append-spec : {M : Type 1} → statement M
 append-spec =
-    tie.close (tie.spec slice-aggregate-overwrite-at overwrite-at-requires add-t10 returns)
+    tie.close (tie.spec (λ c. search needs) overwrite-at-requires (λ c. search needs) returns)

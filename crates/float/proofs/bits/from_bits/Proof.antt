@@ -13,8 +13,5 @@ returns : tie.Need-returns
 unfolding ofBits div
 returns c = sym (high-nan binary32 (c .before .args .n) (c .if1 .taken))
 
-returns-2 : tie.Need-returns-2
-returns-2 c = search needs
-
 pub from-bits-spec : {M : Type 1} → statement M
-from-bits-spec = tie.close (tie.spec float-from-bits-result returns returns-2)
+from-bits-spec = tie.close (tie.spec float-from-bits-result returns (λ c. search needs))

@@ -12,8 +12,5 @@ float-to-bits-result c = equal-no-nan (c .before .args .x) (c .if1 .left)
 returns : tie.Need-returns
 returns c = sym nan-pattern ∙ ap (toBits binary32) (sym (unequal-nan (c .before .args .x) (c .if1 .taken)))
 
-returns-2 : tie.Need-returns-2
-returns-2 c = search needs
-
 pub to-bits-spec : {M : Type 1} → statement M
-to-bits-spec = tie.close (tie.spec float-to-bits-result returns returns-2)
+to-bits-spec = tie.close (tie.spec float-to-bits-result returns (λ c. search needs))

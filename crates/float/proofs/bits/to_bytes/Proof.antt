@@ -5,14 +5,8 @@ use borrow.Author.Needs.{needs}
 use Rattle.float.proofs.bits.to_bytes.Statement.{statement}
 use Rattle.float.proofs.bits.to_bytes.Tie as tie
 
-to-bits-requires : tie.Need-to-bits-requires
-to-bits-requires c κs = search needs
-
-split-requires : tie.Need-split-requires
-split-requires c κs = search needs
-
 returns : tie.Need-returns
 returns c = c .split .ensures ∙ ap bigEndian (c .before .to-bits .ensures)
 
 pub to-bytes-spec : {M : Type 1} → statement M
-to-bytes-spec = tie.close (tie.spec to-bits-requires split-requires returns)
+to-bytes-spec = tie.close (tie.spec (λ c κs. search needs) (λ c κs. search needs) returns)

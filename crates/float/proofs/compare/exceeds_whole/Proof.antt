@@ -4,14 +4,8 @@ use borrow.Author.Needs.{needs}
 use Rattle.float.proofs.compare.exceeds_whole.Statement.{statement}
 use Rattle.float.proofs.compare.exceeds_whole.Tie as tie
 
-f32-to-f64-with-nan-requires : tie.Need-f32-to-f64-with-nan-requires
-f32-to-f64-with-nan-requires c κs = search needs
-
-int-to-float-result : tie.Need-int-to-float-result
-int-to-float-result c = search needs
-
 returns : tie.Need-returns
 returns c = exceeds-met (c .before .before .args .z) (c .before .before .fits .z) (c .before .f32-to-f64-with-nan .ensures)
 
 pub exceeds-whole-spec : {M : Type 1} → statement M
-exceeds-whole-spec = tie.close (tie.spec f32-to-f64-with-nan-requires int-to-float-result returns)
+exceeds-whole-spec = tie.close (tie.spec (λ c κs. search needs) (λ c. search needs) returns)

@@ -5,18 +5,6 @@ use borrow.Author.Needs.{needs}
 use Rattle.float.proofs.print.to_printed.Statement.{statement}
 use Rattle.float.proofs.print.to_printed.Tie as tie
 
-decode-requires : tie.Need-decode-requires
-decode-requires c κs = search needs
-
-enum-told : tie.Need-enum-told
-enum-told c = search needs
-
-enum-known-negative : tie.Need-enum-known-negative
-enum-known-negative c = search needs
-
-enum-known-negative-2 : tie.Need-enum-known-negative-2
-enum-known-negative-2 c = search needs
-
 mul-whole-size : tie.Need-mul-whole-size
 mul-whole-size c =
     let start = c .before .before .before .before .before in
@@ -59,10 +47,10 @@ pub to-printed-spec : {M : Type 1} → statement M
 to-printed-spec =
     tie.close
     (tie.spec
-    decode-requires
-    enum-told
-    enum-known-negative
-    enum-known-negative-2
+    (λ c κs. search needs)
+    (λ c. search needs)
+    (λ c. search needs)
+    (λ c. search needs)
     mul-whole-size
     whole-size-requires
     returns

@@ -7,17 +7,8 @@ use borrow.Author.Needs.{needs}
 use Rattle.float.proofs.quotient.divide.Statement.{statement}
 use Rattle.float.proofs.quotient.divide.Tie as tie
 
-sub-cut : tie.Need-sub-cut
-sub-cut c = search needs
-
-cut-requires : tie.Need-cut-requires
-cut-requires c κs = search needs
-
 add-result : tie.Need-add-result
 add-result c = let a = c .before .before .before .args in omega (arith, c .cut .ensures, div-le-self (a .a - 1) (2 ^ a .s))
-
-cut-requires-2 : tie.Need-cut-requires-2
-cut-requires-2 c κs = search needs
 
 returns : tie.Need-returns
 returns c = let a = c .before .before .args in up-zero (a .up) (a .a) (a .s) (c .before .if1 .taken) (c .if2 .taken)
@@ -30,4 +21,4 @@ returns-3 c = let a = c .before .before .args in not-up (a .up) (a .a) (a .s) (c
 
 pub divide-spec : {M : Type 1} → statement M
 divide-spec =
-    tie.close (tie.spec sub-cut cut-requires add-result cut-requires-2 returns returns-2 returns-3)
+    tie.close (tie.spec (λ c. search needs) (λ c κs. search needs) add-result (λ c κs. search needs) returns returns-2 returns-3)

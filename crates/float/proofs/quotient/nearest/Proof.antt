@@ -9,17 +9,8 @@ use Rattle.float.proofs.quotient.nearest.Tie as tie
 returns : tie.Need-returns
 returns c = nearest-whole (c .before .args .a) (c .before .args .s) (c .if1 .taken)
 
-sub-divide : tie.Need-sub-divide
-sub-divide c = search needs
-
-divide-requires : tie.Need-divide-requires
-divide-requires c κs = search needs
-
-add-result : tie.Need-add-result
-add-result c = search needs
-
 returns-2 : tie.Need-returns-2
 returns-2 c = let a = c .before .before .args in ap (λ (n : ℕ). n / 2 + n % 2) (c .divide .ensures) ∙ nearest-digit (a .a) (a .s) (c .before .if1 .left)
 
 pub nearest-spec : {M : Type 1} → statement M
-nearest-spec = tie.close (tie.spec returns sub-divide divide-requires add-result returns-2)
+nearest-spec = tie.close (tie.spec returns (λ c. search needs) (λ c κs. search needs) (λ c. search needs) returns-2)

@@ -11,23 +11,11 @@ Inv-loop significand exponent radicand₀ shift₀ radicand shift = Scaling sign
 abbrev μ-loop : tie.MeasureT-loop
 μ-loop significand exponent radicand₀ shift₀ radicand shift = 281474976710656 - radicand
 
-mul-radicand : tie.Need-mul-radicand Inv-loop μ-loop
-mul-radicand c = omega arith
-
-add-radicand : tie.Need-add-radicand Inv-loop μ-loop
-add-radicand c = omega arith
-
 mul-radicand-2 : tie.Need-mul-radicand-2 Inv-loop μ-loop
 mul-radicand-2 c = omega (arith, start-below (c .args .significand) (c .args .exponent) (c .pre))
 
-sub-shift : tie.Need-sub-shift Inv-loop μ-loop
-sub-shift c = omega arith
-
 loop-holds : tie.Need-loop-holds Inv-loop μ-loop
 loop-holds c = start (c .args .significand) (c .args .exponent) (c .pre)
-
-mul-radicand-3 : tie.Need-mul-radicand-3 Inv-loop μ-loop
-mul-radicand-3 c = omega arith
 
 sub-shift-2 : tie.Need-sub-shift-2 Inv-loop μ-loop
 sub-shift-2 c =
@@ -56,12 +44,12 @@ scale-spec =
     (tie.spec
     Inv-loop
     μ-loop
-    mul-radicand
-    add-radicand
+    (λ c. omega arith)
+    (λ c. omega arith)
     mul-radicand-2
-    sub-shift
+    (λ c. omega arith)
     loop-holds
-    mul-radicand-3
+    (λ c. omega arith)
     sub-shift-2
     loop-less
     loop-again

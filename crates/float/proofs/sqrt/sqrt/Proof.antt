@@ -8,29 +8,11 @@ use borrow.Author.Needs.{needs}
 use Rattle.float.proofs.sqrt.sqrt.Statement.{statement}
 use Rattle.float.proofs.sqrt.sqrt.Tie as tie
 
-decode-requires : tie.Need-decode-requires
-decode-requires c κs = search needs
-
-enum-told : tie.Need-enum-told
-enum-told c = search needs
-
-enum-known-negative : tie.Need-enum-known-negative
-enum-known-negative c = search needs
-
-from-bits-requires : tie.Need-from-bits-requires
-from-bits-requires c κs = search needs
-
-enum-known-negative-2 : tie.Need-enum-known-negative-2
-enum-known-negative-2 c = search needs
-
 returns : tie.Need-returns
 returns c =
     let start = c .before .before .before .before .before in
     let d = finite (start .args .x) (c .before .before .before .before .decode .ensures) (c .before .before .negative2 .given .1) in
     finite-zero d (c .if2 .taken)
-
-from-bits-requires-2 : tie.Need-from-bits-requires-2
-from-bits-requires-2 c κs = search needs
 
 positive-root-requires : tie.Need-positive-root-requires
 positive-root-requires c κs =
@@ -71,13 +53,13 @@ pub sqrt-spec : {M : Type 1} → statement M
 sqrt-spec =
     tie.close
     (tie.spec
-    decode-requires
-    enum-told
-    enum-known-negative
-    from-bits-requires
-    enum-known-negative-2
+    (λ c κs. search needs)
+    (λ c. search needs)
+    (λ c. search needs)
+    (λ c κs. search needs)
+    (λ c. search needs)
     returns
-    from-bits-requires-2
+    (λ c κs. search needs)
     positive-root-requires
     returns-2
     returns-3

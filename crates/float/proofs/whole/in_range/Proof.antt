@@ -5,17 +5,8 @@ use borrow.Author.Needs.{needs}
 use Rattle.float.proofs.whole.in_range.Statement.{statement}
 use Rattle.float.proofs.whole.in_range.Tie as tie
 
-add-if2 : tie.Need-add-if2
-add-if2 c = search needs
-
-cast-t10 : tie.Need-cast-t10
-cast-t10 c = search needs
-
 sub-t11 : tie.Need-sub-t11
 sub-t11 c = negated-fits (c .before .before .args .size) (omega arith)
-
-cast-t15 : tie.Need-cast-t15
-cast-t15 c = search needs
 
 returns : tie.Need-returns
 returns c =
@@ -39,4 +30,4 @@ returns-4 c =
 
 pub in-range-spec : {M : Type 1} → statement M
 in-range-spec =
-    tie.close (tie.spec add-if2 cast-t10 sub-t11 cast-t15 returns returns-2 returns-3 returns-4)
+    tie.close (tie.spec (λ c. search needs) (λ c. search needs) sub-t11 (λ c. search needs) returns returns-2 returns-3 returns-4)

@@ -7,21 +7,12 @@ use borrow.Author.Needs.{needs}
 use Rattle.float.proofs.whole.to_size.Statement.{statement}
 use Rattle.float.proofs.whole.to_size.Tie as tie
 
-to-whole-requires : tie.Need-to-whole-requires
-to-whole-requires c κs = search needs
-
-enum-known-z : tie.Need-enum-known-z
-enum-known-z c = search needs
-
 cast-t9 : tie.Need-cast-t9
 cast-t9 c =
     let a = c .before .before .before .before .before .args in
     let g = c .before .before .z .given in
     let e = sym (g .1) ∙ c .before .before .before .before .to-whole .ensures in
     size-cast (g .0 .0) (search needs) (c .if1 .taken) (lt-of-le-of-lt (whole-mag TowardZero (a .max) (a .x) e) (c .before .before .before .before .before .fits .max .fits))
-
-enum-told : tie.Need-enum-told
-enum-told c = search needs
 
 returns : tie.Need-returns
 returns c =
@@ -43,4 +34,4 @@ returns-3 c = let a = c .before .before .before .args in size-out (a .max) (a .x
 pub to-size-spec : {M : Type 1} → statement M
 to-size-spec =
     tie.close
-    (tie.spec to-whole-requires enum-known-z cast-t9 enum-told returns returns-2 returns-3)
+    (tie.spec (λ c κs. search needs) (λ c. search needs) cast-t9 (λ c. search needs) returns returns-2 returns-3)

@@ -5,26 +5,11 @@ use borrow.Author.Needs.{needs}
 use Rattle.float.proofs.whole.to_whole.Statement.{statement}
 use Rattle.float.proofs.whole.to_whole.Tie as tie
 
-decode-requires : tie.Need-decode-requires
-decode-requires c κs = search needs
-
-enum-told : tie.Need-enum-told
-enum-told c = search needs
-
-enum-told-2 : tie.Need-enum-told-2
-enum-told-2 c = search needs
-
-enum-known-negative : tie.Need-enum-known-negative
-enum-known-negative c = search needs
-
 whole-size-requires : tie.Need-whole-size-requires
 whole-size-requires c κs =
     let start = c .before .before .before .before .before in
     let d = finite (start .args .x) (c .before .before .before .before .decode .ensures) (c .before .before .negative .given .1) in
     omega (arith, d .short, c .if1 .taken)
-
-in-range-requires : tie.Need-in-range-requires
-in-range-requires c κs = search needs
 
 returns : tie.Need-returns
 returns c =
@@ -52,12 +37,12 @@ pub to-whole-spec : {M : Type 1} → statement M
 to-whole-spec =
     tie.close
     (tie.spec
-    decode-requires
-    enum-told
-    enum-told-2
-    enum-known-negative
+    (λ c κs. search needs)
+    (λ c. search needs)
+    (λ c. search needs)
+    (λ c. search needs)
     whole-size-requires
-    in-range-requires
+    (λ c κs. search needs)
     returns
     returns-2
     returns-3

@@ -7,40 +7,10 @@ use borrow.Author.Needs.{needs}
 use Rattle.float.proofs.whole.whole_size.Statement.{statement}
 use Rattle.float.proofs.whole.whole_size.Tie as tie
 
-shl-result : tie.Need-shl-result
-shl-result c = search needs
-
 returns : tie.Need-returns
 returns c =
     let a = c .before .args in
     size-left (a .a) (a .k) (a .rounding) (a .negative) (c .before .pre .0) (c .before .pre .1) (c .if1 .taken) refl
-
-sub-s : tie.Need-sub-s
-sub-s c = search needs
-
-enum-told : tie.Need-enum-told
-enum-told c = search needs
-
-divide-requires : tie.Need-divide-requires
-divide-requires c κs = search needs
-
-enum-told-2 : tie.Need-enum-told-2
-enum-told-2 c = search needs
-
-nearest-requires : tie.Need-nearest-requires
-nearest-requires c κs = search needs
-
-enum-told-3 : tie.Need-enum-told-3
-enum-told-3 c = search needs
-
-divide-requires-2 : tie.Need-divide-requires-2
-divide-requires-2 c κs = search needs
-
-enum-told-4 : tie.Need-enum-told-4
-enum-told-4 c = search needs
-
-divide-requires-3 : tie.Need-divide-requires-3
-divide-requires-3 c κs = search needs
 
 returns-2 : tie.Need-returns-2
 returns-2 c =
@@ -70,17 +40,17 @@ pub whole-size-spec : {M : Type 1} → statement M
 whole-size-spec =
     tie.close
     (tie.spec
-    shl-result
+    (λ c. search needs)
     returns
-    sub-s
-    enum-told
-    divide-requires
-    enum-told-2
-    nearest-requires
-    enum-told-3
-    divide-requires-2
-    enum-told-4
-    divide-requires-3
+    (λ c. search needs)
+    (λ c. search needs)
+    (λ c κs. search needs)
+    (λ c. search needs)
+    (λ c κs. search needs)
+    (λ c. search needs)
+    (λ c κs. search needs)
+    (λ c. search needs)
+    (λ c κs. search needs)
     returns-2
     returns-3
     returns-4

@@ -11,45 +11,18 @@ Inv-loop o a second grid t₀ i₀ t i = Unit
 abbrev μ-loop : tie.MeasureT-loop
 μ-loop o a second grid t₀ i₀ t i = 200 - i
 
-loop-holds : tie.Need-loop-holds Inv-loop μ-loop
-loop-holds c = search needs
-
-kind-at-requires : tie.Need-kind-at-requires Inv-loop μ-loop
-kind-at-requires c κs = search needs
-
-operand-at-requires : tie.Need-operand-at-requires Inv-loop μ-loop
-operand-at-requires c κs = search needs
-
-apply-requires : tie.Need-apply-requires Inv-loop μ-loop
-apply-requires c κs = search needs
-
-count-requires : tie.Need-count-requires Inv-loop μ-loop
-count-requires c κs = search needs
-
-add-i : tie.Need-add-i Inv-loop μ-loop
-add-i c = search needs
-
-loop-less : tie.Need-loop-less Inv-loop μ-loop
-loop-less c = omega arith
-
-loop-again : tie.Need-loop-again Inv-loop μ-loop
-loop-again c = search needs
-
-returns : tie.Need-returns Inv-loop μ-loop
-returns c = search needs
-
 pub over-seconds-spec : {M : Type 1} → statement M
 over-seconds-spec =
     tie.close
     (tie.spec
     Inv-loop
     μ-loop
-    loop-holds
-    kind-at-requires
-    operand-at-requires
-    apply-requires
-    count-requires
-    add-i
-    loop-less
-    loop-again
-    returns)
+    (λ c. search needs)
+    (λ c κs. search needs)
+    (λ c κs. search needs)
+    (λ c κs. search needs)
+    (λ c κs. search needs)
+    (λ c. search needs)
+    (λ c. omega arith)
+    (λ c. search needs)
+    (λ c. search needs))

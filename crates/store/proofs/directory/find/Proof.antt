@@ -20,9 +20,6 @@ Inv-loop disc name field count i₀ i = (i ≤ count) × ((k : ℕ) → k < i �
 abbrev μ-loop : tie.MeasureT-loop
 μ-loop disc name field count i₀ i = count - i
 
-is-good-name-requires : tie.Need-is-good-name-requires Inv-loop μ-loop
-is-good-name-requires c κs = search needs
-
 returns : tie.Need-returns Inv-loop μ-loop
 unfolding lookup
 returns c = rw (sym (c .before .is-good-name .ensures) ∙ not-true _ (c .if1 .taken))
@@ -32,23 +29,8 @@ pad-requires c κs =
     let h = good-name-length _ (sym (c .before .is-good-name .ensures) ∙ not-false _ (c .if1 .left)) in
     omega arith
 
-file-count-requires : tie.Need-file-count-requires Inv-loop μ-loop
-file-count-requires c κs = search needs
-
 loop-holds : tie.Need-loop-holds Inv-loop μ-loop
 loop-holds c = (omega arith, λ k h. absurd (omega arith))
-
-entry-at-requires : tie.Need-entry-at-requires Inv-loop μ-loop
-entry-at-requires c κs = search needs
-
-slice-aggregate-same-bytes : tie.Need-slice-aggregate-same-bytes Inv-loop μ-loop
-slice-aggregate-same-bytes c = search needs
-
-slice-aggregate-same-bytes-2 : tie.Need-slice-aggregate-same-bytes-2 Inv-loop μ-loop
-slice-aggregate-same-bytes-2 c = search needs
-
-same-bytes-requires : tie.Need-same-bytes-requires Inv-loop μ-loop
-same-bytes-requires c κs = search needs
 
 -- what the test of a turn says of the disc's entry
 tested : (c : tie.After-same-bytes Inv-loop μ-loop) → c .same-bytes .result ≡ named (c .before .before .before .before .before .before .before .before .before .before .before .before .before .args .name .now) (entryAt (c .before .before .before .before .before .before .before .before .before .before .before .before .before .args .disc .now) (c .before .before .before .before .before .before .loop .i))
@@ -62,12 +44,6 @@ returns-2 c =
     let a = g .before .before .before .before .args in
     rw (sym (g .before .is-good-name .ensures) ∙ not-false _ (g .if1 .left))
     (sym (index-tab-is (entryAt (a .disc .now)) (fileCount (a .disc .now)) (named (a .name .now)) (l .loop .i) (omega (arith, l .before .file-count .ensures)) (sym (tested (c .before)) ∙ c .if2 .taken) (l .loop .inv .1)))
-
-add-i : tie.Need-add-i Inv-loop μ-loop
-add-i c = omega arith
-
-loop-less : tie.Need-loop-less Inv-loop μ-loop
-loop-less c = omega arith
 
 loop-again : tie.Need-loop-again Inv-loop μ-loop
 loop-again c = (omega arith, below-more _ _ (c .before .before .before .before .before .before .before .loop .inv .1) (sym (tested (c .before)) ∙ c .if2 .left))
@@ -87,17 +63,17 @@ find-spec =
     (tie.spec
     Inv-loop
     μ-loop
-    is-good-name-requires
+    (λ c κs. search needs)
     returns
     pad-requires
-    file-count-requires
+    (λ c κs. search needs)
     loop-holds
-    entry-at-requires
-    slice-aggregate-same-bytes
-    slice-aggregate-same-bytes-2
-    same-bytes-requires
+    (λ c κs. search needs)
+    (λ c. search needs)
+    (λ c. search needs)
+    (λ c κs. search needs)
     returns-2
-    add-i
-    loop-less
+    (λ c. omega arith)
+    (λ c. omega arith)
     loop-again
     returns-3)

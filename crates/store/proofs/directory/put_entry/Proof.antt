@@ -12,41 +12,11 @@ use Rattle.store.proofs.directory.put_entry.Tie as tie
 sizes : (s : tie.Start) → length (s .args .entry .name) ≡ 12
 sizes s = search needs
 
-mul-at : tie.Need-mul-at
-mul-at c = search needs
-
-low-requires : tie.Need-low-requires
-low-requires c κs = search needs
-
-high-requires : tie.Need-high-requires
-high-requires c κs = search needs
-
-low-requires-2 : tie.Need-low-requires-2
-low-requires-2 c κs = search needs
-
-high-requires-2 : tie.Need-high-requires-2
-high-requires-2 c κs = search needs
-
-slice-aggregate-overwrite-at : tie.Need-slice-aggregate-overwrite-at
-slice-aggregate-overwrite-at c = search needs
-
 overwrite-at-requires : tie.Need-overwrite-at-requires
 overwrite-at-requires c κs =
     let s = c .before .before .before .before .before .before .before .before in
     let h = sizes s in
     omega arith
-
-add-overwrite-at : tie.Need-add-overwrite-at
-add-overwrite-at c = search needs
-
-slice-aggregate-overwrite-at-2 : tie.Need-slice-aggregate-overwrite-at-2
-slice-aggregate-overwrite-at-2 c = search needs
-
-overwrite-at-requires-2 : tie.Need-overwrite-at-requires-2
-overwrite-at-requires-2 c κs = search needs
-
-same-length : tie.Need-same-length
-same-length c = search needs
 
 returns : tie.Need-returns
 returns c =
@@ -69,15 +39,15 @@ pub put-entry-spec : {M : Type 1} → statement M
 put-entry-spec =
     tie.close
     (tie.spec
-    mul-at
-    low-requires
-    high-requires
-    low-requires-2
-    high-requires-2
-    slice-aggregate-overwrite-at
+    (λ c. search needs)
+    (λ c κs. search needs)
+    (λ c κs. search needs)
+    (λ c κs. search needs)
+    (λ c κs. search needs)
+    (λ c. search needs)
     overwrite-at-requires
-    add-overwrite-at
-    slice-aggregate-overwrite-at-2
-    overwrite-at-requires-2
-    same-length
+    (λ c. search needs)
+    (λ c. search needs)
+    (λ c κs. search needs)
+    (λ c. search needs)
     returns)

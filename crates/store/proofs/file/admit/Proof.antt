@@ -33,9 +33,6 @@ placed c =
     let e : take (c .before .before .before .before .before .before .file-count .result) (c .before .taken-runs .result) ≡ taken d = ap (λ (k : ℕ). take k (c .before .taken-runs .result)) (c .before .before .before .before .before .before .file-count .ensures) ∙ c .before .taken-runs .ensures in
     c .find-place .ensures ∙ ap (λ (l : List Run). place l 161 (length d) (c .before .before .before .before .before .before .before .before .before .before .before .before .before .args .n)) e
 
-is-good-name-requires : tie.Need-is-good-name-requires
-is-good-name-requires c κs = search needs
-
 returns : tie.Need-returns
 unfolding admission
 returns c = rw (sym (c .before .is-good-name .ensures) ∙ not-true _ (c .if1 .taken))
@@ -44,27 +41,15 @@ returns-2 : tie.Need-returns-2
 unfolding admission
 returns-2 c = rw (named (c .before), lt-leb _ _ (c .if2 .taken))
 
-sub-if3 : tie.Need-sub-if3
-sub-if3 c = search needs
-
 returns-3 : tie.Need-returns-3
 unfolding admission
 returns-3 c = rw (named (c .before .before), le-leb _ _ (c .before .if2 .left), lt-leb _ _ (c .if3 .taken))
-
-file-count-requires : tie.Need-file-count-requires
-file-count-requires c κs = search needs
 
 returns-4 : tie.Need-returns-4
 unfolding admission
 returns-4 c =
     let d = c .before .before .before .before .before .before .before .before .args .disc .now in
     rw (named (c .before .before .before .before), sized (c .before .before), le-ltb (fileCount d) 10 (omega (arith, c .if4 .taken, c .before .file-count .ensures)))
-
-find-requires : tie.Need-find-requires
-find-requires c κs = search needs
-
-enum-told : tie.Need-enum-told
-enum-told c = search needs
 
 returns-5 : tie.Need-returns-5
 unfolding admission
@@ -73,22 +58,10 @@ returns-5 c =
     let a = f .before .before .before .before .before .before .before .before .args in
     rw (named (f .before .before .before .before), sized (f .before .before), few f) (ap (λ (g : Found). denyIfFound g (startOr (placeOf (a .disc .now) (a .n)))) (sym (c .enum-told .given .1) ∙ c .before .before .find .ensures))
 
-enum-told-2 : tie.Need-enum-told-2
-enum-told-2 c = search needs
-
-taken-runs-requires : tie.Need-taken-runs-requires
-taken-runs-requires c κs = search needs
-
 find-place-requires : tie.Need-find-place-requires
 find-place-requires c κs =
     let e = c .before .before .before .before .before .file-count .ensures in
     omega (arith, c .before .before .before .before .if4 .left)
-
-enum-known-start : tie.Need-enum-known-start
-enum-known-start c = search needs
-
-enum-told-3 : tie.Need-enum-told-3
-enum-told-3 c = search needs
 
 returns-6 : tie.Need-returns-6
 unfolding admission
@@ -110,20 +83,20 @@ pub admit-spec : {M : Type 1} → statement M
 admit-spec =
     tie.close
     (tie.spec
-    is-good-name-requires
+    (λ c κs. search needs)
     returns
     returns-2
-    sub-if3
+    (λ c. search needs)
     returns-3
-    file-count-requires
+    (λ c κs. search needs)
     returns-4
-    find-requires
-    enum-told
+    (λ c κs. search needs)
+    (λ c. search needs)
     returns-5
-    enum-told-2
-    taken-runs-requires
+    (λ c. search needs)
+    (λ c κs. search needs)
     find-place-requires
-    enum-known-start
-    enum-told-3
+    (λ c. search needs)
+    (λ c. search needs)
     returns-6
     returns-7)

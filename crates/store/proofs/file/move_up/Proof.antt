@@ -21,27 +21,6 @@ abbrev μ-loop : tie.MeasureT-loop
 loop-holds : tie.Need-loop-holds Inv-loop μ-loop
 loop-holds c = (omega arith, refl, paste-zero (c .args .disc .now) (c .args .at) (part (c .args .disc .now) (c .args .at + 16) (c .args .n)))
 
-add-disc : tie.Need-add-disc Inv-loop μ-loop
-add-disc c = omega arith
-
-add-disc-2 : tie.Need-add-disc-2 Inv-loop μ-loop
-add-disc-2 c = omega arith
-
-slice-read-disc : tie.Need-slice-read-disc Inv-loop μ-loop
-slice-read-disc c = omega arith
-
-add-disc-3 : tie.Need-add-disc-3 Inv-loop μ-loop
-add-disc-3 c = omega arith
-
-slice-write-disc : tie.Need-slice-write-disc Inv-loop μ-loop
-slice-write-disc c = omega arith
-
-add-i : tie.Need-add-i Inv-loop μ-loop
-add-i c = omega arith
-
-loop-less : tie.Need-loop-less Inv-loop μ-loop
-loop-less c = omega arith
-
 loop-again : tie.Need-loop-again Inv-loop μ-loop
 loop-again c =
     let l = c .before .before in
@@ -51,9 +30,6 @@ loop-again c =
     let z : length s ≡ a .n = part-length d (a .at + 16) (a .n) (omega arith) in
     let r : getD (l .loop .disc) (a .at + 16 + l .loop .i) 0 ≡ getD s (l .loop .i) 0 = ap (λ (x : List ℕ). getD x (a .at + 16 + l .loop .i) 0) (l .loop .inv .2) ∙ moved-next d (a .at) 16 (a .n) (l .loop .i) (omega arith) (omega arith) in
     (omega arith, simp length-set (l .loop .inv .1), ap (λ (x : ℕ). set (l .loop .disc) (a .at + l .loop .i) x) r ∙ overwrite-next d s (l .loop .disc) (a .at) (l .loop .i) (omega arith) (omega arith) (l .loop .inv .2))
-
-same-length : tie.Need-same-length Inv-loop μ-loop
-same-length c = search needs
 
 returns : tie.Need-returns Inv-loop μ-loop
 returns c =
@@ -70,13 +46,13 @@ move-up-spec =
     Inv-loop
     μ-loop
     loop-holds
-    add-disc
-    add-disc-2
-    slice-read-disc
-    add-disc-3
-    slice-write-disc
-    add-i
-    loop-less
+    (λ c. omega arith)
+    (λ c. omega arith)
+    (λ c. omega arith)
+    (λ c. omega arith)
+    (λ c. omega arith)
+    (λ c. omega arith)
+    (λ c. omega arith)
     loop-again
-    same-length
+    (λ c. search needs)
     returns)

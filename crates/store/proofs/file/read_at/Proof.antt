@@ -7,18 +7,6 @@ use borrow.Author.Needs.{needs}
 use Rattle.store.proofs.file.read_at.Statement.{statement}
 use Rattle.store.proofs.file.read_at.Tie as tie
 
-cast-start : tie.Need-cast-start
-cast-start c = search needs
-
-add-copy-part : tie.Need-add-copy-part
-add-copy-part c = search needs
-
-copy-part-requires : tie.Need-copy-part-requires
-copy-part-requires c κs = search needs
-
-same-length : tie.Need-same-length
-same-length c = search needs
-
 returns : tie.Need-returns
 unfolding readAt
 returns c =
@@ -26,4 +14,4 @@ returns c =
     c .before .before .copy-part .ensures ∙ sym (part-of-part (a .disc .now) (a .run .start) (a .run .len) (a .offset) (length (a .out .now)) (omega arith))
 
 pub read-at-spec : {M : Type 1} → statement M
-read-at-spec = tie.close (tie.spec cast-start add-copy-part copy-part-requires same-length returns)
+read-at-spec = tie.close (tie.spec (λ c. search needs) (λ c. search needs) (λ c κs. search needs) (λ c. search needs) returns)

@@ -16,9 +16,6 @@ right c = sym (c .before .is-disc-length .ensures) ∙ not-false _ (c .if1 .left
 long : (c : tie.Else1) → 161 ≤ length (c .before .before .before .args .disc .now)
 long c = let e : length (c .before .before .before .args .disc .now) ≡ 1024 = eqb-true _ _ (right c) in omega arith
 
-is-disc-length-requires : tie.Need-is-disc-length-requires
-is-disc-length-requires c κs = search needs
-
 returns : tie.Need-returns
 unfolding checked
 returns c = rw (sym (c .before .is-disc-length .ensures) ∙ not-true _ (c .if1 .taken))
@@ -36,4 +33,4 @@ returns-3 c = rw (right (c .before .before), sym (c .before .is-good-disc .ensur
 
 pub check-spec : {M : Type 1} → statement M
 check-spec =
-    tie.close (tie.spec is-disc-length-requires returns is-good-disc-requires returns-2 returns-3)
+    tie.close (tie.spec (λ c κs. search needs) returns is-good-disc-requires returns-2 returns-3)

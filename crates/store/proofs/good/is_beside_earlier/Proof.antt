@@ -17,18 +17,9 @@ Inv-loop disc i entry j₀ j = (j ≤ i) × (all (λ e. beside e (entryAt disc i
 abbrev μ-loop : tie.MeasureT-loop
 μ-loop disc i entry j₀ j = i - j
 
-entry-at-requires : tie.Need-entry-at-requires Inv-loop μ-loop
-entry-at-requires c κs = search needs
-
 loop-holds : tie.Need-loop-holds Inv-loop μ-loop
 unfolding all tab
 loop-holds c = (omega arith, refl)
-
-entry-at-requires-2 : tie.Need-entry-at-requires-2 Inv-loop μ-loop
-entry-at-requires-2 c κs = search needs
-
-is-beside-requires : tie.Need-is-beside-requires Inv-loop μ-loop
-is-beside-requires c κs = search needs
 
 -- what the test of a turn says of the two entries of the disc
 tested : (c : tie.After-is-beside Inv-loop μ-loop) → c .is-beside .result ≡ beside (entryAt (c .before .before .before .before .before .before .args .disc .now) (c .before .before .before .loop .j)) (entryAt (c .before .before .before .before .before .before .args .disc .now) (c .before .before .before .before .before .before .args .i))
@@ -39,12 +30,6 @@ returns c =
     let l = c .before .before .before .before in
     let a = l .before .before .before .args in
     sym (all-tab-stop (entryAt (a .disc .now)) (λ e. beside e (entryAt (a .disc .now) (a .i))) (l .loop .j) (a .i) (omega arith) (sym (tested (c .before)) ∙ not-true _ (c .if1 .taken)))
-
-add-j : tie.Need-add-j Inv-loop μ-loop
-add-j c = omega arith
-
-loop-less : tie.Need-loop-less Inv-loop μ-loop
-loop-less c = omega arith
 
 loop-again : tie.Need-loop-again Inv-loop μ-loop
 loop-again c =
@@ -65,12 +50,12 @@ is-beside-earlier-spec =
     (tie.spec
     Inv-loop
     μ-loop
-    entry-at-requires
+    (λ c κs. search needs)
     loop-holds
-    entry-at-requires-2
-    is-beside-requires
+    (λ c κs. search needs)
+    (λ c κs. search needs)
     returns
-    add-j
-    loop-less
+    (λ c. omega arith)
+    (λ c. omega arith)
     loop-again
     returns-2)

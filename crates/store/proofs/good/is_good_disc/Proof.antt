@@ -19,9 +19,6 @@ Inv-loop disc count i₀ i = (i ≤ count) × (all (goodEntry (length disc)) (ta
 abbrev μ-loop : tie.MeasureT-loop
 μ-loop disc count i₀ i = count - i
 
-file-count-requires : tie.Need-file-count-requires Inv-loop μ-loop
-file-count-requires c κs = search needs
-
 returns : tie.Need-returns Inv-loop μ-loop
 unfolding goodDisc
 returns c =
@@ -32,12 +29,6 @@ loop-holds : tie.Need-loop-holds Inv-loop μ-loop
 unfolding all pairs tab
 loop-holds c = (omega arith, refl, refl)
 
-entry-at-requires : tie.Need-entry-at-requires Inv-loop μ-loop
-entry-at-requires c κs = search needs
-
-is-good-entry-requires : tie.Need-is-good-entry-requires Inv-loop μ-loop
-is-good-entry-requires c κs = search needs
-
 returns-2 : tie.Need-returns-2 Inv-loop μ-loop
 unfolding goodDisc goodFiles
 returns-2 c =
@@ -46,9 +37,6 @@ returns-2 c =
     let e : goodEntry (length d) (entryAt d (l .loop .i)) ≡ false = ap (goodEntry (length d)) (sym (c .before .before .entry-at .ensures)) ∙ sym (c .before .is-good-entry .ensures) ∙ not-true _ (c .if2 .taken) in
     rw (all-tab-stop (entryAt d) (goodEntry (length d)) (l .loop .i) (fileCount d) (omega (arith, l .before .before .file-count .ensures)) e) (sym (and-false (leb (fileCount d) 10)))
 
-is-beside-earlier-requires : tie.Need-is-beside-earlier-requires Inv-loop μ-loop
-is-beside-earlier-requires c κs = search needs
-
 returns-3 : tie.Need-returns-3 Inv-loop μ-loop
 unfolding goodDisc goodFiles
 returns-3 c =
@@ -56,12 +44,6 @@ returns-3 c =
     let d = l .before .before .before .before .args .disc .now in
     let e = sym (c .before .is-beside-earlier .ensures) ∙ not-true _ (c .if3 .taken) in
     rw (pairs-tab-stop (entryAt d) beside (l .loop .i) (fileCount d) (omega (arith, l .before .before .file-count .ensures)) e, and-false) (sym (and-false (leb (fileCount d) 10)))
-
-add-i : tie.Need-add-i Inv-loop μ-loop
-add-i c = omega arith
-
-loop-less : tie.Need-loop-less Inv-loop μ-loop
-loop-less c = omega arith
 
 loop-again : tie.Need-loop-again Inv-loop μ-loop
 loop-again c =
@@ -85,15 +67,15 @@ is-good-disc-spec =
     (tie.spec
     Inv-loop
     μ-loop
-    file-count-requires
+    (λ c κs. search needs)
     returns
     loop-holds
-    entry-at-requires
-    is-good-entry-requires
+    (λ c κs. search needs)
+    (λ c κs. search needs)
     returns-2
-    is-beside-earlier-requires
+    (λ c κs. search needs)
     returns-3
-    add-i
-    loop-less
+    (λ c. omega arith)
+    (λ c. omega arith)
     loop-again
     returns-4)

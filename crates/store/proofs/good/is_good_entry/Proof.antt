@@ -5,9 +5,6 @@ use borrow.Author.Needs.{needs}
 use Rattle.store.proofs.good.is_good_entry.Statement.{statement}
 use Rattle.store.proofs.good.is_good_entry.Tie as tie
 
-is-good-field-requires : tie.Need-is-good-field-requires
-is-good-field-requires c κs = search needs
-
 returns : tie.Need-returns
 unfolding goodEntry
 returns c = rw (sym (c .before .is-good-field .ensures) ∙ not-true _ (c .if1 .taken))
@@ -20,15 +17,6 @@ returns-3 : tie.Need-returns-3
 unfolding goodEntry
 returns-3 c = rw (sym (c .before .before .before .before .before .is-good-field .ensures) ∙ not-false _ (c .before .before .before .before .if1 .left), le-leb _ _ (c .before .before .if2 .left), lt-leb _ _ (c .if3 .taken))
 
-cast-result : tie.Need-cast-result
-cast-result c = search needs
-
-cast-result-2 : tie.Need-cast-result-2
-cast-result-2 c = search needs
-
-add-result : tie.Need-add-result
-add-result c = search needs
-
 returns-4 : tie.Need-returns-4
 unfolding goodEntry
 returns-4 c = rw (sym (c .before .before .before .before .before .before .before .is-good-field .ensures) ∙ not-false _ (c .before .before .before .before .before .before .if1 .left), le-leb _ _ (c .before .before .before .before .if2 .left), le-leb _ _ (c .before .before .if3 .left))
@@ -37,11 +25,11 @@ pub is-good-entry-spec : {M : Type 1} → statement M
 is-good-entry-spec =
     tie.close
     (tie.spec
-    is-good-field-requires
+    (λ c κs. search needs)
     returns
     returns-2
     returns-3
-    cast-result
-    cast-result-2
-    add-result
+    (λ c. search needs)
+    (λ c. search needs)
+    (λ c. search needs)
     returns-4)

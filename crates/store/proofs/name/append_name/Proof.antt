@@ -15,9 +15,6 @@ sizes s = search needs
 named : (c : tie.After-trimmed-length) → length (take (c .trimmed-length .result) (c .before .args .t2)) ≡ c .trimmed-length .result
 named c = let z = sizes (c .before) in length-take-le (c .trimmed-length .result) (c .before .args .t2) (omega (arith, c .trimmed-length .ensures .0))
 
-trimmed-length-requires : tie.Need-trimmed-length-requires
-trimmed-length-requires c κs = search needs
-
 array-share-prefix-field : tie.Need-array-share-prefix-field
 array-share-prefix-field c =
     let z = sizes (c .before) in
@@ -41,7 +38,7 @@ pub append-name-spec : {M : Type 1} → statement M
 append-name-spec =
     tie.close
     (tie.spec
-    trimmed-length-requires
+    (λ c κs. search needs)
     array-share-prefix-field
     slice-aggregate-append
     append-requires

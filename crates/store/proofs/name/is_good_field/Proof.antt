@@ -12,9 +12,6 @@ use borrow.Author.Needs.{needs}
 use Rattle.store.proofs.name.is_good_field.Statement.{statement}
 use Rattle.store.proofs.name.is_good_field.Tie as tie
 
-trimmed-length-requires : tie.Need-trimmed-length-requires
-trimmed-length-requires c κs = search needs
-
 sizes : (s : tie.Start) → length (s .args .t1) ≡ 12
 sizes s = search needs
 
@@ -27,9 +24,6 @@ slice-aggregate-name : tie.Need-slice-aggregate-name
 slice-aggregate-name c =
     let z = sizes (c .before .before) in
     sym (length-take-le _ _ (omega arith))
-
-is-good-name-requires : tie.Need-is-good-name-requires
-is-good-name-requires c κs = search needs
 
 judged : (c : tie.After-is-good-name) → c .is-good-name .result ≡ goodName (trimmed (c .before .before .before .args .t1))
 judged c = c .is-good-name .ensures ∙ ap goodName (c .before .before .trimmed-length .ensures .1)
@@ -44,15 +38,6 @@ pad-requires c κs =
     let h = good-name-length _ (sym (j .is-good-name .ensures) ∙ not-false _ (c .if1 .left)) in
     omega arith
 
-slice-aggregate-same-bytes : tie.Need-slice-aggregate-same-bytes
-slice-aggregate-same-bytes c = search needs
-
-slice-aggregate-same-bytes-2 : tie.Need-slice-aggregate-same-bytes-2
-slice-aggregate-same-bytes-2 c = search needs
-
-same-bytes-requires : tie.Need-same-bytes-requires
-same-bytes-requires c κs = search needs
-
 returns-2 : tie.Need-returns-2
 unfolding goodField
 returns-2 c =
@@ -65,13 +50,13 @@ pub is-good-field-spec : {M : Type 1} → statement M
 is-good-field-spec =
     tie.close
     (tie.spec
-    trimmed-length-requires
+    (λ c κs. search needs)
     array-share-prefix-field
     slice-aggregate-name
-    is-good-name-requires
+    (λ c κs. search needs)
     returns
     pad-requires
-    slice-aggregate-same-bytes
-    slice-aggregate-same-bytes-2
-    same-bytes-requires
+    (λ c. search needs)
+    (λ c. search needs)
+    (λ c κs. search needs)
     returns-2)

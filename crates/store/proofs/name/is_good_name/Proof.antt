@@ -32,12 +32,6 @@ loop-holds : tie.Need-loop-holds Inv-loop μ-loop
 unfolding all
 loop-holds c = (omega arith, refl)
 
-shared-slice-read-b : tie.Need-shared-slice-read-b Inv-loop μ-loop
-shared-slice-read-b c = omega arith
-
-is-name-byte-requires : tie.Need-is-name-byte-requires Inv-loop μ-loop
-is-name-byte-requires c κs = search needs
-
 returns-3 : tie.Need-returns-3 Inv-loop μ-loop
 unfolding goodName
 returns-3 c =
@@ -45,12 +39,6 @@ returns-3 c =
     let n = l .before .before .before .before .args .name .now in
     let e : isNameByte (getD n (l .loop .i) 0) ≡ false = sym (c .before .is-name-byte .ensures) ∙ not-true _ (c .if3 .taken) in
     rw (all-stop isNameByte n (l .loop .i) 0 (omega arith) e, and-false) (sym (and-false (leb 1 (length n))))
-
-add-i : tie.Need-add-i Inv-loop μ-loop
-add-i c = omega arith
-
-loop-less : tie.Need-loop-less Inv-loop μ-loop
-loop-less c = omega arith
 
 loop-again : tie.Need-loop-again Inv-loop μ-loop
 loop-again c =
@@ -74,10 +62,10 @@ is-good-name-spec =
     returns
     returns-2
     loop-holds
-    shared-slice-read-b
-    is-name-byte-requires
+    (λ c. omega arith)
+    (λ c κs. search needs)
     returns-3
-    add-i
-    loop-less
+    (λ c. omega arith)
+    (λ c. omega arith)
     loop-again
     returns-4)

@@ -8,16 +8,10 @@ use borrow.Author.Needs.{needs}
 use Rattle.store.proofs.name.pad.Statement.{statement}
 use Rattle.store.proofs.name.pad.Tie as tie
 
-slice-aggregate-overwrite-at : tie.Need-slice-aggregate-overwrite-at
-slice-aggregate-overwrite-at c = search needs
-
-overwrite-at-requires : tie.Need-overwrite-at-requires
-overwrite-at-requires c κs = search needs
-
 returns : tie.Need-returns
 returns c =
     let n = c .before .before .before .before .args .name .now in
     c .before .overwrite-at .ensures ∙ rw zero-add (ap (λ (l : List ℕ). n ++ l) (drop-replicate 12 (length n) 0))
 
 pub pad-spec : {M : Type 1} → statement M
-pad-spec = tie.close (tie.spec slice-aggregate-overwrite-at overwrite-at-requires returns)
+pad-spec = tie.close (tie.spec (λ c. search needs) (λ c κs. search needs) returns)

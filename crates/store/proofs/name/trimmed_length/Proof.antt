@@ -21,21 +21,12 @@ sizes s = search needs
 loop-holds : tie.Need-loop-holds Inv-loop μ-loop
 loop-holds c = (omega arith, λ k h. absurd (omega arith))
 
-array-read-if1 : tie.Need-array-read-if1 Inv-loop μ-loop
-array-read-if1 c = omega arith
-
 returns : tie.Need-returns Inv-loop μ-loop
 returns c =
     let l = c .before .before in
     let f = l .before .args .t1 in
     let z = sizes (l .before) in
     (omega arith, sym (trimmed-at f (l .loop .n) (omega arith) (c .if1 .taken) (l .loop .inv .1)))
-
-add-n : tie.Need-add-n Inv-loop μ-loop
-add-n c = omega arith
-
-loop-less : tie.Need-loop-less Inv-loop μ-loop
-loop-less c = omega arith
 
 loop-again : tie.Need-loop-again Inv-loop μ-loop
 loop-again c = (omega arith, below-more _ _ (c .before .before .loop .inv .1) (c .if1 .left))
@@ -54,9 +45,9 @@ trimmed-length-spec =
     Inv-loop
     μ-loop
     loop-holds
-    array-read-if1
+    (λ c. omega arith)
     returns
-    add-n
-    loop-less
+    (λ c. omega arith)
+    (λ c. omega arith)
     loop-again
     returns-2)

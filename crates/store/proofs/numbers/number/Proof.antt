@@ -7,18 +7,6 @@ use borrow.Author.Needs.{needs}
 use Rattle.store.proofs.numbers.number.Statement.{statement}
 use Rattle.store.proofs.numbers.number.Tie as tie
 
-enum-known-answer : tie.Need-enum-known-answer
-enum-known-answer c = search needs
-
-cast-result : tie.Need-cast-result
-cast-result c = search needs
-
-enum-known-answer-2 : tie.Need-enum-known-answer-2
-enum-known-answer-2 c = search needs
-
-refusal-number-requires : tie.Need-refusal-number-requires
-refusal-number-requires c κs = search needs
-
 returns : tie.Need-returns
 returns c = toZ-pos w32 {n = c .before .answer .given .0 .0} (omega (arith, c .known-told .given)) ∙ ap answerNumber (sym (c .before .answer .given .1))
 
@@ -29,9 +17,9 @@ pub number-spec : {M : Type 1} → statement M
 number-spec =
     tie.close
     (tie.spec
-    enum-known-answer
-    cast-result
-    enum-known-answer-2
-    refusal-number-requires
+    (λ c. search needs)
+    (λ c. search needs)
+    (λ c. search needs)
+    (λ c κs. search needs)
     returns
     returns-2)

@@ -33,18 +33,9 @@ text-length c = let z = sizes c in length-take-le (c .files-text .result .len) (
 listed-length : (c : tie.After-files-text) → length (flat fileLine (files (c .before .before .before .before .before .before .args .disc .now))) ≡ c .files-text .result .len
 listed-length c = ap length (sym (c .files-text .ensures .1)) ∙ text-length c
 
-check-requires : tie.Need-check-requires
-check-requires c κs = search needs
-
-enum-known-refusal : tie.Need-enum-known-refusal
-enum-known-refusal c = search needs
-
 returns : tie.Need-returns
 unfolding filesAnswer
 returns c = rw (sym (c .before .before .before .check .ensures) ∙ c .before .refusal .given .1)
-
-enum-told : tie.Need-enum-told
-enum-told c = search needs
 
 files-text-requires : tie.Need-files-text-requires
 files-text-requires c κs = fit c .ready
@@ -74,9 +65,6 @@ overwrite-at-requires c κs =
 cast-t16 : tie.Need-cast-t16
 cast-t16 c = omega (arith, c .before .before .before .before .before .before .before .files-text .ensures .0)
 
-same-length : tie.Need-same-length
-same-length c = search needs
-
 returns-3 : tie.Need-returns-3
 unfolding filesAnswer
 returns-3 c =
@@ -89,15 +77,15 @@ pub files-spec : {M : Type 1} → statement M
 files-spec =
     tie.close
     (tie.spec
-    check-requires
-    enum-known-refusal
+    (λ c κs. search needs)
+    (λ c. search needs)
     returns
-    enum-told
+    (λ c. search needs)
     files-text-requires
     returns-2
     array-share-prefix-bytes
     slice-aggregate-overwrite-at
     overwrite-at-requires
     cast-t16
-    same-length
+    (λ c. search needs)
     returns-3)

@@ -18,27 +18,9 @@ Inv-loop disc count text₀ i₀ text i = (i ≤ count) × (text .len ≤ i * 24
 abbrev μ-loop : tie.MeasureT-loop
 μ-loop disc count text₀ i₀ text i = count - i
 
-file-count-requires : tie.Need-file-count-requires Inv-loop μ-loop
-file-count-requires c κs = search needs
-
-empty-text-requires : tie.Need-empty-text-requires Inv-loop μ-loop
-empty-text-requires c κs = search needs
-
 loop-holds : tie.Need-loop-holds Inv-loop μ-loop
 unfolding flat tab
 loop-holds c = (omega arith, omega arith, c .empty-text .ensures .1)
-
-entry-at-requires : tie.Need-entry-at-requires Inv-loop μ-loop
-entry-at-requires c κs = search needs
-
-with-line-requires : tie.Need-with-line-requires Inv-loop μ-loop
-with-line-requires c κs = search needs
-
-add-i : tie.Need-add-i Inv-loop μ-loop
-add-i c = omega arith
-
-loop-less : tie.Need-loop-less Inv-loop μ-loop
-loop-less c = omega arith
 
 loop-again : tie.Need-loop-again Inv-loop μ-loop
 loop-again c =
@@ -59,12 +41,12 @@ files-text-spec =
     (tie.spec
     Inv-loop
     μ-loop
-    file-count-requires
-    empty-text-requires
+    (λ c κs. search needs)
+    (λ c κs. search needs)
     loop-holds
-    entry-at-requires
-    with-line-requires
-    add-i
-    loop-less
+    (λ c κs. search needs)
+    (λ c κs. search needs)
+    (λ c. omega arith)
+    (λ c. omega arith)
     loop-again
     returns)

@@ -23,18 +23,9 @@ passed c = sym (c .before .before .check .ensures) ∙ c .enum-told .given .1
 fit : (c : tie.After-enum-told) → Fit (c .before .before .before .before .args .disc .now)
 fit c = usable (c .before .before .before .before .args .disc .now) (passed c)
 
-check-requires : tie.Need-check-requires
-check-requires c κs = search needs
-
-enum-known-refusal : tie.Need-enum-known-refusal
-enum-known-refusal c = search needs
-
 returns : tie.Need-returns
 unfolding freeSpaceAnswer
 returns c = rw (sym (c .before .before .before .check .ensures) ∙ c .before .refusal .given .1)
-
-enum-told : tie.Need-enum-told
-enum-told c = search needs
 
 file-count-requires : tie.Need-file-count-requires
 file-count-requires c κs = fit c .ready .low
@@ -69,10 +60,10 @@ pub free-space-spec : {M : Type 1} → statement M
 free-space-spec =
     tie.close
     (tie.spec
-    check-requires
-    enum-known-refusal
+    (λ c κs. search needs)
+    (λ c. search needs)
     returns
-    enum-told
+    (λ c. search needs)
     file-count-requires
     taken-runs-requires
     longest-run-requires

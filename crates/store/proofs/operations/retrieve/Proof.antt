@@ -38,38 +38,17 @@ chosen c =
     ap (λ (e : Entry). retrieveFile e (a .disc .now) (a .out .now)) (c .entry-at .ensures)
     ∙ ap (λ (f : Found). retrieveAt f (a .disc .now) (a .out .now)) (sym (c .before .before .i .given .1) ∙ c .before .before .before .before .find .ensures)
 
-check-requires : tie.Need-check-requires
-check-requires c κs = search needs
-
-enum-known-refusal : tie.Need-enum-known-refusal
-enum-known-refusal c = search needs
-
 returns : tie.Need-returns
 unfolding retrieveAnswer
 returns c = rw (sym (c .before .before .before .check .ensures) ∙ c .before .refusal .given .1)
 
-enum-told : tie.Need-enum-told
-enum-told c = search needs
-
 find-requires : tie.Need-find-requires
 find-requires c κs = fit c .ready
-
-enum-told-2 : tie.Need-enum-told-2
-enum-told-2 c = search needs
-
-enum-known-i : tie.Need-enum-known-i
-enum-known-i c = search needs
 
 entry-at-requires : tie.Need-entry-at-requires
 entry-at-requires c κs =
     let r = fit (c .before .before .before .before) .ready in
     (r .low, omega (arith, located c .inside, r .few))
-
-cast-len : tie.Need-cast-len
-cast-len c = search needs
-
-cast-start : tie.Need-cast-start
-cast-start c = search needs
 
 returns-2 : tie.Need-returns-2
 unfolding retrieveAnswer
@@ -77,15 +56,6 @@ returns-2 c =
     let t = c .before .before .before in
     let a = t .before .before .before .before .before .before .before .before .before .before .before .args in
     rw (passed (t .before .before .before .before .before)) (file-short (t .entry-at .result) (a .disc .now) (a .out .now) (c .if1 .taken) ∙ chosen t)
-
-add-end : tie.Need-add-end
-add-end c = search needs
-
-sub-overwrite-at : tie.Need-sub-overwrite-at
-sub-overwrite-at c = search needs
-
-part-overwrite-at-start : tie.Need-part-overwrite-at-start
-part-overwrite-at-start c = omega arith
 
 part-overwrite-at-end : tie.Need-part-overwrite-at-end
 part-overwrite-at-end c = omega (arith, inside (c .before .before .before .before) .high)
@@ -102,9 +72,6 @@ returns-3 c =
     let a = s .before .before .before .before .before .before .args in
     rw (passed s) (ap (λ (f : Found). retrieveAt f (a .disc .now) (a .out .now)) (sym (c .enum-told2 .given .1) ∙ c .before .before .find .ensures))
 
-same-length : tie.Need-same-length
-same-length c = search needs
-
 returns-4 : tie.Need-returns-4
 unfolding retrieveAnswer
 returns-4 c =
@@ -119,22 +86,22 @@ pub retrieve-spec : {M : Type 1} → statement M
 retrieve-spec =
     tie.close
     (tie.spec
-    check-requires
-    enum-known-refusal
+    (λ c κs. search needs)
+    (λ c. search needs)
     returns
-    enum-told
+    (λ c. search needs)
     find-requires
-    enum-told-2
-    enum-known-i
+    (λ c. search needs)
+    (λ c. search needs)
     entry-at-requires
-    cast-len
-    cast-start
+    (λ c. search needs)
+    (λ c. search needs)
     returns-2
-    add-end
-    sub-overwrite-at
-    part-overwrite-at-start
+    (λ c. search needs)
+    (λ c. search needs)
+    (λ c. omega arith)
     part-overwrite-at-end
     overwrite-at-requires
     returns-3
-    same-length
+    (λ c. search needs)
     returns-4)

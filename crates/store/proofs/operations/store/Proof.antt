@@ -31,30 +31,12 @@ let-in c = admitted _ _ _ _ (sym (c .before .before .before .admit .ensures) ∙
 short : (c : tie.After-known-told3) → c .before .start .given .0 .0 + length (c .before .before .before .before .before .before .before .before .before .before .before .before .args .«data» .now) < 65536
 short c = let a = let-in c in let r = fit (c .before .before .before .before .before) .ready in omega (arith, a .placed .high, r .high)
 
-check-requires : tie.Need-check-requires
-check-requires c κs = search needs
-
-enum-known-refusal : tie.Need-enum-known-refusal
-enum-known-refusal c = search needs
-
-same-length : tie.Need-same-length
-same-length c = search needs
-
 returns : tie.Need-returns
 unfolding storeAnswer
 returns c = rw (sym (c .before .before .before .check .ensures) ∙ c .before .refusal .given .1)
 
-enum-told : tie.Need-enum-told
-enum-told c = search needs
-
 admit-requires : tie.Need-admit-requires
 admit-requires c κs = fit (c .before) .ready
-
-enum-known-refusal-2 : tie.Need-enum-known-refusal-2
-enum-known-refusal-2 c = search needs
-
-enum-known-start : tie.Need-enum-known-start
-enum-known-start c = search needs
 
 enter-requires : tie.Need-enter-requires
 enter-requires c κs =
@@ -74,18 +56,12 @@ write-at-requires c κs =
     let a = let-in (c .before .before .before .before .before) in
     (omega arith, omega (arith, a .placed .high))
 
-same-length-2 : tie.Need-same-length-2
-same-length-2 c = search needs
-
 returns-2 : tie.Need-returns-2
 unfolding storeAnswer
 returns-2 c =
     let s = c .before .before .before .before .before in
     let a = s .before .before .before .before .before .before .before .args in
     rw (passed s) (ap (λ (m : Admission). storeAt m (a .disc .now) (a .name .now) (a .«data» .now)) (sym (c .before .refusal2 .given .1) ∙ c .before .before .before .admit .ensures))
-
-same-length-3 : tie.Need-same-length-3
-same-length-3 c = search needs
 
 returns-3 : tie.Need-returns-3
 unfolding storeAnswer
@@ -101,19 +77,19 @@ pub store-spec : {M : Type 1} → statement M
 store-spec =
     tie.close
     (tie.spec
-    check-requires
-    enum-known-refusal
-    same-length
+    (λ c κs. search needs)
+    (λ c. search needs)
+    (λ c. search needs)
     returns
-    enum-told
+    (λ c. search needs)
     admit-requires
-    enum-known-refusal-2
-    enum-known-start
+    (λ c. search needs)
+    (λ c. search needs)
     enter-requires
     cast-t20
     cast-t21
     write-at-requires
-    same-length-2
+    (λ c. search needs)
     returns-2
-    same-length-3
+    (λ c. search needs)
     returns-3)

@@ -11,27 +11,6 @@ use borrow.Author.Needs.{needs}
 use Rattle.store.proofs.operations.with_line.Statement.{statement}
 use Rattle.store.proofs.operations.with_line.Tie as tie
 
-append-name-requires : tie.Need-append-name-requires
-append-name-requires c κs = search needs
-
-slice-aggregate-append : tie.Need-slice-aggregate-append
-slice-aggregate-append c = search needs
-
-append-requires : tie.Need-append-requires
-append-requires c κs = search needs
-
-cast-append-decimal : tie.Need-cast-append-decimal
-cast-append-decimal c = search needs
-
-append-decimal-requires : tie.Need-append-decimal-requires
-append-decimal-requires c κs = search needs
-
-slice-aggregate-append-2 : tie.Need-slice-aggregate-append-2
-slice-aggregate-append-2 c = search needs
-
-append-requires-2 : tie.Need-append-requires-2
-append-requires-2 c κs = search needs
-
 returns : tie.Need-returns
 unfolding fileLine
 returns c =
@@ -49,11 +28,11 @@ pub with-line-spec : {M : Type 1} → statement M
 with-line-spec =
     tie.close
     (tie.spec
-    append-name-requires
-    slice-aggregate-append
-    append-requires
-    cast-append-decimal
-    append-decimal-requires
-    slice-aggregate-append-2
-    append-requires-2
+    (λ c κs. search needs)
+    (λ c. search needs)
+    (λ c κs. search needs)
+    (λ c. search needs)
+    (λ c κs. search needs)
+    (λ c. search needs)
+    (λ c κs. search needs)
     returns)

@@ -65,12 +65,6 @@ add-result c =
     let f = c .before .fits .n in
     omega (arith, ap natAbs (read-back _ f (c .if1 .left)), f .sfits)
 
-returns : tie.Need-returns
-returns c = search needs
-
-returns-2 : tie.Need-returns-2
-returns-2 c = search needs
-
 pub magnitude-spec : {M : Type 1} → statement M
 magnitude-spec =
-    tie.close (tie.spec cast-result sub-result cast-result-2 add-result returns returns-2)
+    tie.close (tie.spec cast-result sub-result cast-result-2 add-result (λ c. search needs) (λ c. search needs))

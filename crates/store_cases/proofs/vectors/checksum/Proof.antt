@@ -11,32 +11,11 @@ Inv-loop bytes sum₀ i₀ sum i = (i ≤ length bytes) × (sum < 4294967291)
 abbrev μ-loop : tie.MeasureT-loop
 μ-loop bytes sum₀ i₀ sum i = length bytes - i
 
-loop-holds : tie.Need-loop-holds Inv-loop μ-loop
-loop-holds c = omega arith
-
-mul-sum : tie.Need-mul-sum Inv-loop μ-loop
-mul-sum c = omega arith
-
-shared-slice-read-sum : tie.Need-shared-slice-read-sum Inv-loop μ-loop
-shared-slice-read-sum c = omega arith
-
 cast-sum : tie.Need-cast-sum Inv-loop μ-loop
 cast-sum c = omega (arith, c .shared-slice-known .given (c .before .before .loop .i))
 
 add-sum : tie.Need-add-sum Inv-loop μ-loop
 add-sum c = omega (arith, c .shared-slice-known .given (c .before .before .loop .i))
-
-add-i : tie.Need-add-i Inv-loop μ-loop
-add-i c = omega arith
-
-loop-less : tie.Need-loop-less Inv-loop μ-loop
-loop-less c = omega arith
-
-loop-again : tie.Need-loop-again Inv-loop μ-loop
-loop-again c = omega arith
-
-returns : tie.Need-returns Inv-loop μ-loop
-returns c = omega arith
 
 pub checksum-spec : {M : Type 1} → statement M
 checksum-spec =
@@ -44,12 +23,12 @@ checksum-spec =
     (tie.spec
     Inv-loop
     μ-loop
-    loop-holds
-    mul-sum
-    shared-slice-read-sum
+    (λ c. omega arith)
+    (λ c. omega arith)
+    (λ c. omega arith)
     cast-sum
     add-sum
-    add-i
-    loop-less
-    loop-again
-    returns)
+    (λ c. omega arith)
+    (λ c. omega arith)
+    (λ c. omega arith)
+    (λ c. omega arith))

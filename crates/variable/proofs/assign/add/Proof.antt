@@ -15,15 +15,6 @@ sizes s = search needs
 lent : (s : tie.Start) → length (valueBytes (s .args .x)) ≡ s .args .x .size
 lent s = let n = sizes s in length-take-le (s .args .x .size) (s .args .x .bytes) (omega arith)
 
-cast-at : tie.Need-cast-at
-cast-at c = search needs
-
-cast-n : tie.Need-cast-n
-cast-n c = search needs
-
-slice-aggregate-overwrite-at : tie.Need-slice-aggregate-overwrite-at
-slice-aggregate-overwrite-at c = search needs
-
 array-share-prefix-bytes : tie.Need-array-share-prefix-bytes
 array-share-prefix-bytes c =
     let n = sizes (c .before .before .before .before .before) in
@@ -39,15 +30,6 @@ overwrite-at-requires c κs =
     let r = lent s in
     omega arith
 
-cast-with-entry : tie.Need-cast-with-entry
-cast-with-entry c = search needs
-
-with-entry-requires : tie.Need-with-entry-requires
-with-entry-requires c κs = search needs
-
-add-t17 : tie.Need-add-t17
-add-t17 c = search needs
-
 returns : tie.Need-returns
 unfolding added
 returns c =
@@ -59,13 +41,13 @@ pub add-spec : {M : Type 1} → statement M
 add-spec =
     tie.close
     (tie.spec
-    cast-at
-    cast-n
-    slice-aggregate-overwrite-at
+    (λ c. search needs)
+    (λ c. search needs)
+    (λ c. search needs)
     array-share-prefix-bytes
     slice-aggregate-overwrite-at-2
     overwrite-at-requires
-    cast-with-entry
-    with-entry-requires
-    add-t17
+    (λ c. search needs)
+    (λ c κs. search needs)
+    (λ c. search needs)
     returns)

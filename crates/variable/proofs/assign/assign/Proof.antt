@@ -31,23 +31,8 @@ judged c = sym (placed c ∙ ap (λ (w : Variables). placeFor w (c .before .befo
 room : (c : tie.After-placing) → (c .before .before .before .before .before .before .before .free-variable .result .count < entryLimit) × Fits (takenRuns (c .before .before .before .before .before .before .before .free-variable .result)) lowEnd highEnd (c .before .before .before .before .before .before .before .before .args .x .size) (c .placing .given .0 .0)
 room c = place-address (c .before .before .before .before .before .before .before .free-variable .result) (c .before .before .before .before .before .before .before .before .args .x .size) (c .placing .given .0 .0) (sym (placed (c .before .before)) ∙ c .placing .given .1)
 
-free-variable-requires : tie.Need-free-variable-requires
-free-variable-requires c κs = search needs
-
-cast-used : tie.Need-cast-used
-cast-used c = search needs
-
 taken-runs-requires : tie.Need-taken-runs-requires
 taken-runs-requires c κs = few (c .before .before)
-
-cast-place-for : tie.Need-cast-place-for
-cast-place-for c = search needs
-
-place-for-requires : tie.Need-place-for-requires
-place-for-requires c κs = search needs
-
-enum-known-placing : tie.Need-enum-known-placing
-enum-known-placing c = search needs
 
 cast-t15 : tie.Need-cast-t15
 cast-t15 c =
@@ -58,12 +43,6 @@ add-requires : tie.Need-add-requires
 add-requires c κs =
     let r = room (c .before) in
     omega (arith, c .before .before .before .before .before .before .before .before .before .pre)
-
-enum-told : tie.Need-enum-told
-enum-told c = search needs
-
-enum-told-2 : tie.Need-enum-told-2
-enum-told-2 c = search needs
 
 returns : tie.Need-returns
 unfolding assigned
@@ -90,16 +69,16 @@ pub assign-spec : {M : Type 1} → statement M
 assign-spec =
     tie.close
     (tie.spec
-    free-variable-requires
-    cast-used
+    (λ c κs. search needs)
+    (λ c. search needs)
     taken-runs-requires
-    cast-place-for
-    place-for-requires
-    enum-known-placing
+    (λ c. search needs)
+    (λ c κs. search needs)
+    (λ c. search needs)
     cast-t15
     add-requires
-    enum-told
-    enum-told-2
+    (λ c. search needs)
+    (λ c. search needs)
     returns
     returns-2
     returns-3)

@@ -10,15 +10,6 @@ returns : tie.Need-returns
 unfolding placing
 returns c = rw (le-ltb (c .before .args .used) entryLimit (omega arith))
 
-find-place-requires : tie.Need-find-place-requires
-find-place-requires c κs = search needs
-
-enum-known-a : tie.Need-enum-known-a
-enum-known-a c = search needs
-
-enum-told : tie.Need-enum-told
-enum-told c = search needs
-
 returns-2 : tie.Need-returns-2
 unfolding placing
 returns-2 c = rw (lt-ltb (c .before .before .before .before .before .args .used) entryLimit (omega arith)) (ap addressOr (sym (c .before .a .given .1) ∙ c .before .before .before .find-place .ensures))
@@ -29,4 +20,4 @@ returns-3 c = rw (lt-ltb (c .before .before .before .before .args .used) entryLi
 
 pub place-for-spec : {M : Type 1} → statement M
 place-for-spec =
-    tie.close (tie.spec returns find-place-requires enum-known-a enum-told returns-2 returns-3)
+    tie.close (tie.spec returns (λ c κs. search needs) (λ c. search needs) (λ c. search needs) returns-2 returns-3)

@@ -25,33 +25,9 @@ sizes s = search needs
 room : (c : tie.After-no-runs Inv-loop μ-loop) → length (c .no-runs .result) ≡ 36
 room c = search needs
 
-no-runs-requires : tie.Need-no-runs-requires Inv-loop μ-loop
-no-runs-requires c κs = search needs
-
 loop-holds : tie.Need-loop-holds Inv-loop μ-loop
 unfolding tab
 loop-holds c = (omega arith, room c, refl)
-
-mul-run-of : tie.Need-mul-run-of Inv-loop μ-loop
-mul-run-of c = omega arith
-
-array-copy-out-run-of : tie.Need-array-copy-out-run-of Inv-loop μ-loop
-array-copy-out-run-of c = omega arith
-
-run-of-requires : tie.Need-run-of-requires Inv-loop μ-loop
-run-of-requires c κs = search needs
-
-mul-runs : tie.Need-mul-runs Inv-loop μ-loop
-mul-runs c = omega arith
-
-array-set-from-runs : tie.Need-array-set-from-runs Inv-loop μ-loop
-array-set-from-runs c = omega arith
-
-add-i : tie.Need-add-i Inv-loop μ-loop
-add-i c = omega arith
-
-loop-less : tie.Need-loop-less Inv-loop μ-loop
-loop-less c = omega arith
 
 loop-again : tie.Need-loop-again Inv-loop μ-loop
 loop-again c =
@@ -74,14 +50,14 @@ taken-runs-spec =
     (tie.spec
     Inv-loop
     μ-loop
-    no-runs-requires
+    (λ c κs. search needs)
     loop-holds
-    mul-run-of
-    array-copy-out-run-of
-    run-of-requires
-    mul-runs
-    array-set-from-runs
-    add-i
-    loop-less
+    (λ c. omega arith)
+    (λ c. omega arith)
+    (λ c κs. search needs)
+    (λ c. omega arith)
+    (λ c. omega arith)
+    (λ c. omega arith)
+    (λ c. omega arith)
     loop-again
     returns)

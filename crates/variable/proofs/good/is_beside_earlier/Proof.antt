@@ -23,24 +23,9 @@ abbrev μ-loop : tie.MeasureT-loop
 sizes : (s : tie.Start Inv-loop μ-loop) → length (s .args .t1) ≡ 25
 sizes s = search needs
 
-mul-e : tie.Need-mul-e Inv-loop μ-loop
-mul-e c = omega arith
-
-array-copy-out-e : tie.Need-array-copy-out-e Inv-loop μ-loop
-array-copy-out-e c = omega arith
-
 loop-holds : tie.Need-loop-holds Inv-loop μ-loop
 unfolding all tab
 loop-holds c = (omega arith, refl)
-
-mul-d : tie.Need-mul-d Inv-loop μ-loop
-mul-d c = omega arith
-
-array-copy-out-d : tie.Need-array-copy-out-d Inv-loop μ-loop
-array-copy-out-d c = omega arith
-
-is-beside-requires : tie.Need-is-beside-requires Inv-loop μ-loop
-is-beside-requires c κs = search needs
 
 returns : tie.Need-returns Inv-loop μ-loop
 returns c =
@@ -50,12 +35,6 @@ returns c =
     let n = sizes s in
     rw (take-tab (a .t1) noVariable (a .i) (omega arith))
     (sym (all-tab-stop (λ k. getD (a .t1) k noVariable) (λ d. beside d (getD (a .t1) (a .i) noVariable)) (l .loop .j) (a .i) (omega arith) (sym (c .before .is-beside .ensures) ∙ not-true _ (c .if1 .taken))))
-
-add-j : tie.Need-add-j Inv-loop μ-loop
-add-j c = omega arith
-
-loop-less : tie.Need-loop-less Inv-loop μ-loop
-loop-less c = omega arith
 
 loop-again : tie.Need-loop-again Inv-loop μ-loop
 loop-again c =
@@ -79,14 +58,14 @@ is-beside-earlier-spec =
     (tie.spec
     Inv-loop
     μ-loop
-    mul-e
-    array-copy-out-e
+    (λ c. omega arith)
+    (λ c. omega arith)
     loop-holds
-    mul-d
-    array-copy-out-d
-    is-beside-requires
+    (λ c. omega arith)
+    (λ c. omega arith)
+    (λ c κs. search needs)
     returns
-    add-j
-    loop-less
+    (λ c. omega arith)
+    (λ c. omega arith)
     loop-again
     returns-2)

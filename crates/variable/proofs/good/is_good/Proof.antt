@@ -4,19 +4,13 @@ use borrow.Author.Needs.{needs}
 use Rattle.variable.proofs.good.is_good.Statement.{statement}
 use Rattle.variable.proofs.good.is_good.Tie as tie
 
-cast-count : tie.Need-cast-count
-cast-count c = search needs
-
 returns : tie.Need-returns
 unfolding goodVariables
 returns c = rw (lt-leb _ _ (c .if1 .taken))
-
-is-good-table-requires : tie.Need-is-good-table-requires
-is-good-table-requires c κs = search needs
 
 returns-2 : tie.Need-returns-2
 unfolding goodVariables
 returns-2 c = rw (le-leb _ _ (c .before .before .if1 .left)) (c .is-good-table .ensures)
 
 pub is-good-spec : {M : Type 1} → statement M
-is-good-spec = tie.close (tie.spec cast-count returns is-good-table-requires returns-2)
+is-good-spec = tie.close (tie.spec (λ c. search needs) returns (λ c κs. search needs) returns-2)

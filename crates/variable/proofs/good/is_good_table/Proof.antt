@@ -27,15 +27,6 @@ loop-holds : tie.Need-loop-holds Inv-loop μ-loop
 unfolding all pairs tab
 loop-holds c = (omega arith, refl, refl)
 
-mul-e : tie.Need-mul-e Inv-loop μ-loop
-mul-e c = omega arith
-
-array-copy-out-e : tie.Need-array-copy-out-e Inv-loop μ-loop
-array-copy-out-e c = omega arith
-
-is-good-variable-requires : tie.Need-is-good-variable-requires Inv-loop μ-loop
-is-good-variable-requires c κs = search needs
-
 returns : tie.Need-returns Inv-loop μ-loop
 returns c =
     let l = c .before .before .before .before in
@@ -44,9 +35,6 @@ returns c =
     let e = sym (c .before .is-good-variable .ensures) ∙ not-true _ (c .if1 .taken) in
     rw (take-tab (a .t2) noVariable (a .count) (omega arith), all-tab-stop (λ k. getD (a .t2) k noVariable) (goodVariable (a .live .now)) (l .loop .i) (a .count) (omega arith) e)
 
-is-beside-earlier-requires : tie.Need-is-beside-earlier-requires Inv-loop μ-loop
-is-beside-earlier-requires c κs = omega arith
-
 returns-2 : tie.Need-returns-2 Inv-loop μ-loop
 returns-2 c =
     let l = c .before .before .before .before .before .before in
@@ -54,12 +42,6 @@ returns-2 c =
     let n = sizes (l .before .before) in
     let e = rw (take-tab (a .t2) noVariable (l .loop .i) (omega arith)) at (sym (c .before .is-beside-earlier .ensures) ∙ not-true _ (c .if2 .taken)) in
     rw (take-tab (a .t2) noVariable (a .count) (omega arith), pairs-tab-stop (λ k. getD (a .t2) k noVariable) beside (l .loop .i) (a .count) (omega arith) e) (sym (and-false (all (goodVariable (a .live .now)) (tab (λ k. getD (a .t2) k noVariable) (a .count)))))
-
-add-i : tie.Need-add-i Inv-loop μ-loop
-add-i c = omega arith
-
-loop-less : tie.Need-loop-less Inv-loop μ-loop
-loop-less c = omega arith
 
 loop-again : tie.Need-loop-again Inv-loop μ-loop
 loop-again c =
@@ -84,13 +66,13 @@ is-good-table-spec =
     Inv-loop
     μ-loop
     loop-holds
-    mul-e
-    array-copy-out-e
-    is-good-variable-requires
+    (λ c. omega arith)
+    (λ c. omega arith)
+    (λ c κs. search needs)
     returns
-    is-beside-earlier-requires
+    (λ c κs. omega arith)
     returns-2
-    add-i
-    loop-less
+    (λ c. omega arith)
+    (λ c. omega arith)
     loop-again
     returns-3)

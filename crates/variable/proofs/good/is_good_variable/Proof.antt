@@ -9,28 +9,13 @@ use Rattle.variable.proofs.good.is_good_variable.Tie as tie
 sized : (c : tie.Else1) → goodSize (c .before .before .before .args .e .kind) (c .before .before .before .args .e .size) ≡ true
 sized c = sym (c .before .is-good-size .ensures) ∙ not-false _ (c .if1 .left)
 
-is-good-size-requires : tie.Need-is-good-size-requires
-is-good-size-requires c κs = search needs
-
 returns : tie.Need-returns
 unfolding goodVariable
 returns c = rw (sym (c .before .is-good-size .ensures) ∙ not-true _ (c .if1 .taken))
 
-cast-if2 : tie.Need-cast-if2
-cast-if2 c = search needs
-
-cast-if2-2 : tie.Need-cast-if2-2
-cast-if2-2 c = search needs
-
-add-if2 : tie.Need-add-if2
-add-if2 c = search needs
-
 returns-2 : tie.Need-returns-2
 unfolding goodVariable
 returns-2 c = rw (sized (c .before .before .before), lt-leb _ _ (c .if2 .taken))
-
-is-live-requires : tie.Need-is-live-requires
-is-live-requires c κs = search needs
 
 returns-3 : tie.Need-returns-3
 unfolding goodVariable
@@ -40,11 +25,11 @@ pub is-good-variable-spec : {M : Type 1} → statement M
 is-good-variable-spec =
     tie.close
     (tie.spec
-    is-good-size-requires
+    (λ c κs. search needs)
     returns
-    cast-if2
-    cast-if2-2
-    add-if2
+    (λ c. search needs)
+    (λ c. search needs)
+    (λ c. search needs)
     returns-2
-    is-live-requires
+    (λ c κs. search needs)
     returns-3)

@@ -23,39 +23,6 @@ sizes s = search needs
 loop-holds : tie.Need-loop-holds Inv-loop μ-loop
 loop-holds c = (omega arith, closed-none (stays (c .args .every) (c .args .name) (c .args .owner)) noVariable (c .args .t2))
 
-mul-e : tie.Need-mul-e Inv-loop μ-loop
-mul-e c = omega arith
-
-array-copy-out-e : tie.Need-array-copy-out-e Inv-loop μ-loop
-array-copy-out-e c = omega arith
-
-no-variable-requires : tie.Need-no-variable-requires Inv-loop μ-loop
-no-variable-requires c κs = search needs
-
-mul-entries : tie.Need-mul-entries Inv-loop μ-loop
-mul-entries c = omega arith
-
-array-set-from-entries : tie.Need-array-set-from-entries Inv-loop μ-loop
-array-set-from-entries c = omega arith
-
-add-i : tie.Need-add-i Inv-loop μ-loop
-add-i c = omega arith
-
-is-gone-requires : tie.Need-is-gone-requires Inv-loop μ-loop
-is-gone-requires c κs = search needs
-
-mul-entries-2 : tie.Need-mul-entries-2 Inv-loop μ-loop
-mul-entries-2 c = omega arith
-
-array-set-from-entries-2 : tie.Need-array-set-from-entries-2 Inv-loop μ-loop
-array-set-from-entries-2 c = omega arith
-
-add-kept : tie.Need-add-kept Inv-loop μ-loop
-add-kept c = omega arith
-
-loop-less : tie.Need-loop-less Inv-loop μ-loop
-loop-less c = omega arith
-
 loop-again : tie.Need-loop-again Inv-loop μ-loop
 loop-again c =
     let l = c .before .before .before .before .before in
@@ -64,9 +31,6 @@ loop-again c =
     let z = c .before .before .no-variable in
     (omega arith, closed-more (stays (a .every) (a .name) (a .owner)) noVariable (a .t2) (l .loop .i) (l .loop .kept) (l .loop .entries) (z .result) (omega arith) (l .loop .inv .1) (z .ensures) (ap not (sym (c .before .is-gone .ensures) ∙ not-true _ (c .if1 .taken))))
 
-loop-less-2 : tie.Need-loop-less-2 Inv-loop μ-loop
-loop-less-2 c = omega arith
-
 loop-again-2 : tie.Need-loop-again-2 Inv-loop μ-loop
 loop-again-2 c =
     let l = c .before .before .before .before .before in
@@ -74,9 +38,6 @@ loop-again-2 c =
     let n = sizes (l .before) in
     let z = c .before .before .no-variable in
     (omega arith, closed-gone (stays (a .every) (a .name) (a .owner)) noVariable (a .t2) (l .loop .i) (l .loop .kept) (l .loop .entries) (z .result) (omega arith) (l .loop .inv .1) (z .ensures) (ap not (sym (c .before .is-gone .ensures) ∙ not-false _ (c .if1 .left))))
-
-cast-t25 : tie.Need-cast-t25 Inv-loop μ-loop
-cast-t25 c = omega arith
 
 returns : tie.Need-returns Inv-loop μ-loop
 unfolding freed
@@ -94,19 +55,19 @@ close-up-spec =
     Inv-loop
     μ-loop
     loop-holds
-    mul-e
-    array-copy-out-e
-    no-variable-requires
-    mul-entries
-    array-set-from-entries
-    add-i
-    is-gone-requires
-    mul-entries-2
-    array-set-from-entries-2
-    add-kept
-    loop-less
+    (λ c. omega arith)
+    (λ c. omega arith)
+    (λ c κs. search needs)
+    (λ c. omega arith)
+    (λ c. omega arith)
+    (λ c. omega arith)
+    (λ c κs. search needs)
+    (λ c. omega arith)
+    (λ c. omega arith)
+    (λ c. omega arith)
+    (λ c. omega arith)
     loop-again
-    loop-less-2
+    (λ c. omega arith)
     loop-again-2
-    cast-t25
+    (λ c. omega arith)
     returns)

@@ -5,11 +5,8 @@ use Rattle.variable.proofs.table.is_gone.Tie as tie
 returns : tie.Need-returns
 returns c = rw (c .before .if1 .taken)
 
-is-of-requires : tie.Need-is-of-requires
-is-of-requires c κs = search needs
-
 returns-2 : tie.Need-returns-2
 returns-2 c = rw (c .before .if1 .left) (c .is-of .ensures)
 
 pub is-gone-spec : {M : Type 1} → statement M
-is-gone-spec = tie.close (tie.spec returns is-of-requires returns-2)
+is-gone-spec = tie.close (tie.spec returns (λ c κs. search needs) returns-2)

@@ -18,20 +18,8 @@ zeros = replicate 32 0
 lent : (s : tie.Start) → length (take (s .args .entry .size) zeros) ≡ s .args .entry .size
 lent s = length-take-le (s .args .entry .size) zeros (omega arith)
 
-cast-at : tie.Need-cast-at
-cast-at c = search needs
-
-cast-n : tie.Need-cast-n
-cast-n c = search needs
-
-array-borrow-prefix-bytes : tie.Need-array-borrow-prefix-bytes
-array-borrow-prefix-bytes c = search needs
-
 slice-aggregate-copy-part : tie.Need-slice-aggregate-copy-part
 slice-aggregate-copy-part c = sym (lent (c .before .before .before .before))
-
-slice-aggregate-copy-part-2 : tie.Need-slice-aggregate-copy-part-2
-slice-aggregate-copy-part-2 c = search needs
 
 copy-part-requires : tie.Need-copy-part-requires
 copy-part-requires c κs =
@@ -51,10 +39,10 @@ pub value-of-spec : {M : Type 1} → statement M
 value-of-spec =
     tie.close
     (tie.spec
-    cast-at
-    cast-n
-    array-borrow-prefix-bytes
+    (λ c. search needs)
+    (λ c. search needs)
+    (λ c. search needs)
     slice-aggregate-copy-part
-    slice-aggregate-copy-part-2
+    (λ c. search needs)
     copy-part-requires
     returns)

@@ -1,0 +1,5 @@
+-- What is written is read back: the area's bytes and the state.
+pub mod Sizes
+pub mod FixedWidth
+pub mod Records
+pub mod Area

@@ -1,0 +1,168 @@
+-- Every call keeps good buffers good.
+use Prim.Native.Nat.{ℕ}
+use mathlib.Core.Path.{_≡_, refl, subst⁻¹}
+use mathlib.Core.Bool.{Bool, true, false, _&&_, not, cond}
+use mathlib.Core.List.{List, [], _∷_}
+use lib.Dec.{leb, ltb}
+use lib.ListN.{length}
+use borrow.Author.Tests.{eq-eqb, eqb-true, not-true}
+use Rattle.buffer.specs.declared.Found.{Found}
+use Rattle.buffer.specs.declared.Found.the-variants.{At, Nowhere}
+use Rattle.buffer.proofs.Bools.{and-both, and-left, and-right}
+use Rattle.store.specs.Directory.{entryAt, isDiscLength, lookup}
+use Rattle.store.specs.File.{erased, unless}
+use Rattle.store.proofs.Calls.{store-cases, stored}
+use Rattle.store.proofs.Lookups.{lookup-at}
+use Rattle.machine.specs.Answer.{Answer, Buffers, Call, store, retrieve, erase, run, files, freeSpace, list, command, turn, round, answer, commandAnswer, eraseAt, goodArea, onDisc, onGood, refused, runAt}
+use Rattle.machine.specs.Area.{isAreaLength, kernelBytes, kernelOf}
+use Rattle.machine.specs.Operations.{Command, Commanded, becomes, refused as declined, commanded, inUse, listText, slots, turnIfRunning, turnsOf}
+use Rattle.machine.specs.Refusals.{Passes}
+use Rattle.machine.specs.Start.{Starting, starts, refuses, started, starting}
+use Rattle.machine.specs.Stack.{topString}
+use Rattle.machine.specs.State.{isRunning, localOf, processAt}
+use Rattle.machine.specs.Turn.{Turned, turned}
+use Rattle.machine.specs.declared.Kernel.{Kernel}
+use Rattle.machine.proofs.Bytes.Area.{kernel-bytes-length, kernel-decode-encode}
+use Rattle.machine.proofs.Changes.Change.{GoodState, Outside, stores, erases, begins, Change}
+use Rattle.machine.proofs.Kept.ChangeKept.{change-good}
+use Rattle.machine.proofs.Instructions.Executing.{exec-sound}
+use Rattle.machine.proofs.Operations.Commanding.{command-own}
+use Rattle.machine.proofs.Changes.LiveRecords.{running-live, within-local}
+use Rattle.machine.proofs.Kept.OutsideKept.{outside-good}
+use Rattle.machine.proofs.Kept.OwnKept.{own-good}
+use Rattle.machine.proofs.Operations.Turning.{turn-change}
+use Rattle.machine.proofs.Bytes.Sizes.{decoded-sized}
+
+-- ---- good buffers and good states
+pub area-length : {disc area : List ℕ} → Passes disc area → isAreaLength (length area) ≡ true
+area-length {disc} p = and-right (isDiscLength (length disc)) _ (p .sizes)
+
+pub passes-good : (disc area : List ℕ) → Passes disc area → GoodState (kernelOf area) disc
+unfolding goodArea
+passes-good disc area p =
+    record { sized = decoded-sized area (eqb-true _ _ (area-length p)); long = and-left (isDiscLength (length disc)) _ (p .sizes); sound = p .disc-good; area = p .area-good }
+
+-- the area's bytes may be others that say the same
+pub good-passes-as : (disc area : List ℕ) → isAreaLength (length area) ≡ true → GoodState (kernelOf area) disc → Passes disc area
+unfolding goodArea
+good-passes-as disc area long g = record { sizes = and-both (g .long) long; disc-good = g .sound; area-good = g .area }
+
+pub good-back : (k : Kernel) (disc : List ℕ) → GoodState k disc → kernelOf (kernelBytes k) ≡ k
+good-back k disc g = kernel-decode-encode k (g .sized)
+
+pub good-passes : (k : Kernel) (disc : List ℕ) → GoodState k disc → Passes disc (kernelBytes k)
+good-passes k disc g =
+    good-passes-as disc (kernelBytes k) (eq-eqb _ _ (kernel-bytes-length k (g .sized))) (subst⁻¹ (λ (j : Kernel). GoodState j disc) (good-back k disc g) g)
+
+pub on-good : (b : Buffers) (rest : Answer) → Passes (b .disc) (b .area) → onGood b rest ≡ rest
+on-good b rest p = rw (p .sizes, p .disc-good, p .area-good)
+
+-- ---- a turn
+pub turn-is-change : (k : Kernel) (slot clock : ℕ) (disc : List ℕ) → GoodState k disc → isRunning (processAt k slot) ≡ true
+    → Change (topString (localOf (processAt k slot) .stack)) slot k disc (turned k slot clock disc .kernel) (turned k slot clock disc .disc)
+turn-is-change k slot clock disc g h = turn-change k slot clock disc g h (exec-sound _ clock _ _ (within-local g slot (running-live (processAt k slot) h)))
+
+pub turn-good : (k : Kernel) (slot clock : ℕ) (disc : List ℕ) → GoodState k disc → isRunning (processAt k slot) ≡ true → GoodState (turned k slot clock disc .kernel) (turned k slot clock disc .disc)
+turn-good k slot clock disc g h = change-good _ slot k disc _ _ g (turn-is-change k slot clock disc g h)
+
+-- ---- a round
+pub turn-if-running-good : (k : Kernel) (slot clock : ℕ) (disc : List ℕ) → GoodState k disc → GoodState (turnIfRunning k slot clock disc .kernel) (turnIfRunning k slot clock disc .disc)
+unfolding turnIfRunning
+turn-if-running-good k slot clock disc g = go (isRunning (processAt k slot)) refl
+  where
+    go : (running : Bool) → isRunning (processAt k slot) ≡ running
+        → GoodState (cond running (turned k slot clock disc) (record { kernel = k; disc = disc; out = [] }) .kernel) (cond running (turned k slot clock disc) (record { kernel = k; disc = disc; out = [] }) .disc)
+    go true e = turn-good k slot clock disc g e
+    go false e = g
+
+pub turns-good : (l : List ℕ) (k : Kernel) (clock : ℕ) (disc : List ℕ) → GoodState k disc → GoodState (turnsOf l k clock disc .kernel) (turnsOf l k clock disc .disc)
+unfolding turnsOf
+turns-good [] k clock disc g = g
+turns-good (slot ∷ l) k clock disc g =
+    let t : Turned = turnIfRunning k slot clock disc in
+    turns-good l (t .kernel) clock (t .disc) (turn-if-running-good k slot clock disc g)
+
+-- ---- every call
+module _ (b : Buffers) (passes : Passes (b .disc) (b .area)) where
+  k : Kernel
+  k = kernelOf (b .area)
+
+  abbrev Kept : Answer → Type 0
+  Kept a = Passes (a .disc) (a .area)
+
+  good : GoodState k (b .disc)
+  unfolding k
+  good = passes-good (b .disc) (b .area) passes
+
+  -- the disc changes, the area stays
+  disc-kept : (after : List ℕ) → Outside [] k (b .disc) k after → Passes after (b .area)
+  unfolding k
+  disc-kept after o = good-passes-as after (b .area) (area-length passes) (outside-good [] k (b .disc) k after good o)
+
+  -- one more test of the call's own
+  tried : (test : Bool) (n : ℕ) (rest : Answer) → (test ≡ true → Kept rest) → Kept (unless test (refused n b) rest)
+  tried true n rest h = h refl
+  tried false n rest h = passes
+
+  store-kept : (name bytes : List ℕ) → Kept (answer (store name bytes) b)
+  unfolding answer
+  store-kept name bytes =
+      store-cases (b .disc) name bytes (λ u. Kept (onDisc u b)) (λ r d. passes) (λ s l g a. disc-kept (stored (b .disc) name bytes s) (stores name bytes s a refl refl))
+
+  erase-kept : (name : List ℕ) → Kept (answer (erase name) b)
+  unfolding answer k
+  erase-kept name = subst⁻¹ Kept (on-good b _ passes) (found (lookup (b .disc) name) refl)
+    where
+      found : (f : Found) → lookup (b .disc) name ≡ f → Kept (eraseAt f k b)
+      found Nowhere e = passes
+      found (At i) e =
+          tried (not (inUse k (entryAt (b .disc) i))) 11 _ λ free.
+          disc-kept (erased (b .disc) i) (erases i (lookup-at (b .disc) name i e .inside) (not-true _ free) refl refl)
+
+  run-kept : (name : List ℕ) → Kept (answer (run name) b)
+  unfolding answer k
+  run-kept name = subst⁻¹ Kept (on-good b _ passes) (placed (starting k (b .disc) name) refl)
+    where
+      placed : (s : Starting) → starting k (b .disc) name ≡ s → Kept (runAt s k b)
+      placed (refuses n) e = passes
+      placed (starts slot f) e = good-passes _ _ (outside-good name k (b .disc) (started k slot f) (b .disc) good (begins slot f e refl refl))
+
+  command-kept : (c : Command) (id : ℕ) → Kept (answer (command c id) b)
+  unfolding answer k
+  command-kept c id = subst⁻¹ Kept (on-good b _ passes) (given (commanded c id k) refl)
+    where
+      given : (r : Commanded) → commanded c id k ≡ r → Kept (commandAnswer r b)
+      given (declined n) e = passes
+      given (becomes j) e = good-passes j (b .disc) (let o = command-own good c id j e in own-good (o .0) k (b .disc) j good (o .2))
+
+  list-kept : Kept (answer list b)
+  unfolding answer k
+  list-kept = subst⁻¹ Kept (on-good b _ passes) (tried (leb (length (listText k)) (length (b .out))) 4 _ λ fit. passes)
+
+  turn-kept : (slot clock : ℕ) → Kept (answer (turn slot clock) b)
+  unfolding answer k
+  turn-kept slot clock =
+      subst⁻¹ Kept (on-good b _ passes)
+      (tried (leb 32 (length (b .out))) 4 _ λ fit.
+      tried (ltb slot 10 && isRunning (processAt k slot)) 16 _ λ may.
+      good-passes _ _ (turn-good k slot clock (b .disc) good (and-right (ltb slot 10) _ may)))
+
+  round-kept : (clock : ℕ) → Kept (answer (round clock) b)
+  unfolding answer k
+  round-kept clock =
+      subst⁻¹ Kept (on-good b _ passes)
+      (tried (leb 320 (length (b .out))) 4 _ λ fit.
+      good-passes _ _ (turns-good slots k clock (b .disc) good))
+
+  pub good-kept : (c : Call) → Passes (answer c b .disc) (answer c b .area)
+  unfolding answer
+  good-kept (store name bytes) = store-kept name bytes
+  good-kept (retrieve name) = passes
+  good-kept (erase name) = erase-kept name
+  good-kept (run name) = run-kept name
+  good-kept files = passes
+  good-kept freeSpace = passes
+  good-kept list = list-kept
+  good-kept (command c id) = command-kept c id
+  good-kept (turn slot clock) = turn-kept slot clock
+  good-kept (round clock) = round-kept clock

@@ -1,0 +1,91 @@
+-- A turn as a call: what holds of the state that it steps to holds of the work area that it leaves.
+use Prim.Native.Nat.{ℕ, _≤_, _<_}
+use mathlib.Core.Path.{_≡_, refl, sym, ap, subst, subst⁻¹, _∙_}
+use mathlib.Core.Bool.{Bool, true, false, _&&_}
+use mathlib.Core.Logic.{_⊎_}
+use lib.Dec.{leb, ltb}
+use lib.IntN.{pos}
+use lib.ListN.{length}
+use Rattle.buffer.proofs.Bools.{and-left, and-right}
+use Rattle.store.specs.Directory.{goodDisc, isDiscLength}
+use Rattle.store.specs.File.{unless}
+use Rattle.machine.specs.Answer.{Answer, Buffers, answer, goodArea, refused, turn, turnedAnswer}
+use Rattle.machine.specs.Area.{isAreaLength, kernelOf}
+use Rattle.machine.specs.Demands.{EndedOnly, turnedState}
+use Rattle.machine.specs.Ending.{Ends, Touched}
+use Rattle.machine.specs.Refusals.{stateOf, MayTurn}
+use Rattle.machine.specs.State.{isRunning, processAt}
+use Rattle.machine.specs.Turn.{Turned, finished, turned}
+use Rattle.machine.specs.declared.Kernel.{Kernel}
+use Rattle.machine.proofs.Changes.Change.{GoodState}
+use Rattle.machine.proofs.Instructions.Executing.{exec-sound}
+use Rattle.machine.proofs.Demands.Faulting.{ends-or-goes, turn-ends, turn-touches}
+use Rattle.machine.proofs.Demands.GoodCalls.{good-back, passes-good, turn-good}
+use Rattle.machine.proofs.Changes.LiveRecords.{running-live, within-local}
+use Rattle.machine.proofs.Demands.Rounds.{below-not-done, turn-running}
+use Rattle.machine.proofs.Changes.Slots.{live-inside}
+use Rattle.machine.proofs.Operations.Turning.{SoundAt, turn-prints}
+
+module _ (b : Buffers) (slot clock : ℕ) (may : MayTurn b slot) where
+  abbrev step : Turned
+  step = turned (stateOf b) slot clock (b .disc)
+
+  abbrev Running : Kernel → Bool → Type 0
+  Running j t = isRunning (processAt j slot) ≡ t
+
+  good : GoodState (stateOf b) (b .disc)
+  good = passes-good (b .disc) (b .area) (may .passes)
+
+  inside : slot < length (stateOf b .processes)
+  inside = live-inside (stateOf b) slot (running-live (processAt (stateOf b) slot) (may .running))
+
+  sound : SoundAt (stateOf b) slot clock (b .disc)
+  sound = exec-sound _ clock _ _ (within-local good slot (running-live (processAt (stateOf b) slot) (may .running)))
+
+  pub turn-done : answer (turn slot clock) b ≡ turnedAnswer step b
+  turn-done = turn-running b slot clock (may .passes) (may .room) (may .low) (may .running)
+
+  pub state-after : turnedState b slot clock ≡ step .kernel
+  state-after = ap (λ (a : Answer). kernelOf (a .area)) turn-done ∙ good-back (step .kernel) (step .disc) (turn-good (stateOf b) slot clock (b .disc) good (may .running))
+
+  -- ---- faults
+  pub ended-only : (n : ℕ) → Ends (stateOf b) slot clock (b .disc) n → EndedOnly b slot n (answer (turn slot clock) b)
+  ended-only n ends =
+      let whole : answer (turn slot clock) b ≡ turnedAnswer (finished (stateOf b) slot (b .disc) n) b = turn-done ∙ ap (λ (t : Turned). turnedAnswer t b) (turn-ends ends) in (
+        ap (λ (a : Answer). a .number) whole,
+        ap (λ (a : Answer). a .disc) whole,
+        ap (λ (a : Answer). a .out) whole,
+        subst⁻¹ (λ (j : Kernel). Touched (stateOf b) slot n j) state-after (turn-touches ends inside),
+      )
+
+  pub ends-or-runs : ((n : ℕ) × Ends (stateOf b) slot clock (b .disc) n) ⊎ Running (turnedState b slot clock) true
+  ends-or-runs = subst⁻¹ (λ (j : Kernel). ((n : ℕ) × Ends (stateOf b) slot clock (b .disc) n) ⊎ Running j true) state-after (ends-or-goes (stateOf b) slot clock (b .disc) (may .running) inside sound)
+
+  -- ---- output
+  pub prints-little : length (step .out) ≤ 32
+  prints-little = turn-prints (stateOf b) slot clock (b .disc) good (may .running) sound
+
+-- ---- a turn that is done has passed the tests
+pub turn-passed : (b : Buffers) (slot clock n : ℕ) → answer (turn slot clock) b .number ≡ pos n → MayTurn b slot
+unfolding answer
+turn-passed b slot clock n =
+    go (isDiscLength (length (b .disc)) && isAreaLength (length (b .area))) refl (goodDisc (b .disc)) refl (goodArea (b .disc) (b .area)) refl (leb 32 (length (b .out))) refl (ltb slot 10 && isRunning (processAt (stateOf b) slot)) refl
+  where
+    go : (p : Bool) → isDiscLength (length (b .disc)) && isAreaLength (length (b .area)) ≡ p → (q : Bool) → goodDisc (b .disc) ≡ q → (r : Bool) → goodArea (b .disc) (b .area) ≡ r → (s : Bool) → leb 32 (length (b .out)) ≡ s
+        → (t : Bool) → ltb slot 10 && isRunning (processAt (stateOf b) slot) ≡ t
+        → unless p (refused 1 b) (unless q (refused 2 b) (unless r (refused 3 b) (unless s (refused 4 b) (unless t (refused 16 b) (turnedAnswer (turned (stateOf b) slot clock (b .disc)) b))))) .number ≡ pos n
+        → MayTurn b slot
+    go true p true q true r true s true t h =
+        record { passes = record { sizes = p; disc-good = q; area-good = r }; room = s; low = and-left (ltb slot 10) _ t; running = and-right (ltb slot 10) _ t }
+    go true p true q true r true s false t h = below-not-done h
+    go true p true q true r false s u t h = below-not-done h
+    go true p true q false r w s u t h = below-not-done h
+    go true p false q v r w s u t h = below-not-done h
+    go false p x q v r w s u t h = below-not-done h
+
+pub turn-output-bound : (b : Buffers) (slot clock n : ℕ) → answer (turn slot clock) b .number ≡ pos n → n ≤ 32
+turn-output-bound b slot clock n done =
+    let may = turn-passed b slot clock n done in
+    let same : pos (length (turned (stateOf b) slot clock (b .disc) .out)) ≡ pos n = sym (ap (λ (a : Answer). a .number) (turn-done b slot clock may)) ∙ done in
+    let size : length (turned (stateOf b) slot clock (b .disc) .out) ≡ n = cc in
+    subst (λ (m : ℕ). m ≤ 32) size (prints-little b slot clock may)

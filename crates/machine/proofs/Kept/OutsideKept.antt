@@ -1,0 +1,65 @@
+-- What happens outside a process keeps a good state good: no file that a live process uses loses its entry, and a start is good.
+use Prim.Native.Nat.{ℕ, _<_}
+use mathlib.Core.Path.{_≡_, subst, subst⁻¹}
+use mathlib.Core.Bool.{true, false}
+use mathlib.Core.List.{List}
+use native.Mathlib.Omega.{arith}
+use lib.ListN.{length}
+use Rattle.buffer.proofs.Bools.{and-left, true-not-false}
+use Rattle.store.specs.Directory.{entryAt, fileCount}
+use Rattle.store.specs.File.{entered, erased}
+use Rattle.store.specs.declared.Entry.{Entry}
+use Rattle.store.proofs.Admissions.{Admitted}
+use Rattle.store.proofs.Calls.{stored}
+use Rattle.store.proofs.Changes.{entered-count, entered-length, entered-old, erased-length, erased-to}
+use Rattle.store.proofs.Effects.{stored-found, stored-good, stored-length, stored-old}
+use Rattle.store.proofs.Invariant.{entered-good, erased-good, present, room}
+use Rattle.store.proofs.Lookups.{lookup-at}
+use Rattle.machine.specs.Operations.{inUse, uses}
+use Rattle.machine.specs.State.{isLive, noProcess, processAt}
+use Rattle.machine.specs.declared.Kernel.{Kernel}
+use Rattle.machine.proofs.Kept.Begins.{starting-begins}
+use Rattle.machine.proofs.Changes.Change.{GoodState, Outside, nothing, enters, stores, erases, begins}
+use Rattle.machine.proofs.Changes.Directories.{Again, files-good}
+use Rattle.buffer.proofs.Kept.{any-at}
+use Rattle.machine.proofs.Changes.Slots.{live-inside}
+use Rattle.machine.proofs.Kept.StartKept.{started-good}
+
+-- ---- OPEN's new file, and store
+module _ {k : Kernel} {disc title : List ℕ} (g : GoodState k disc) where
+  pub entered-state-good : (n s : ℕ) → Admitted disc title n s → GoodState k (entered disc title n s)
+  entered-state-good n s a =
+      files-good (entered disc title n s) g (entered-length n s (room a)) (entered-good a (g .sound))
+      (λ slot i h u. record { place = i; inside = omega (arith, entered-count n s (room a)); same = entered-old n s (room a) i h })
+
+  pub stored-state-good : (bytes : List ℕ) (s : ℕ) → Admitted disc title (length bytes) s → GoodState k (stored disc title bytes s)
+  stored-state-good bytes s a =
+      files-good (stored disc title bytes s) g (stored-length bytes (g .sound) a) (stored-good bytes (g .sound) a)
+      (λ slot i h u. record { place = i; inside = omega (arith, lookup-at (stored disc title bytes s) title (fileCount disc) (stored-found bytes (g .sound) a) .inside); same = stored-old bytes (g .sound) a i h })
+
+-- ---- erase: "11 a live process runs it or has it open"
+used-is-in-use : (k : Kernel) (e : Entry) (s : ℕ) → uses e (processAt k s) ≡ true → inUse k e ≡ true
+unfolding inUse
+used-is-in-use k e s u = any-at (uses e) (k .processes) s noProcess (live-inside k s (and-left (isLive (processAt k s)) _ u)) u
+
+pub erased-state-good : {k : Kernel} {disc : List ℕ} → GoodState k disc → (i : ℕ) → i < fileCount disc → inUse k (entryAt disc i) ≡ false → GoodState k (erased disc i)
+erased-state-good {k} {disc} g i h unused = files-good (erased disc i) g (erased-length (present disc (g .sound) i h)) (erased-good disc (g .sound) i h) again
+  where
+    again : (s j : ℕ) → j < fileCount disc → uses (entryAt disc j) (processAt k s) ≡ true → Again disc (erased disc i) j
+    again s j m u =
+        let f = erased-to (present disc (g .sound) i h) j m (λ w. true-not-false (used-is-in-use k (entryAt disc i) s (subst (λ (x : ℕ). uses (entryAt disc x) (processAt k s) ≡ true) w u)) unused) in
+        record { place = f .0; inside = f .1; same = f .2 }
+
+-- ---- the kinds
+pub outside-good : (name : List ℕ) (k : Kernel) (disc : List ℕ) (j : Kernel) (after : List ℕ) → GoodState k disc → Outside name k disc j after → GoodState j after
+outside-good name k disc j after g = kinds
+  where
+    become : (x : Kernel) (d : List ℕ) → j ≡ x → after ≡ d → GoodState x d → GoodState j after
+    become x d e f h = subst⁻¹ (λ (y : Kernel). GoodState y after) e (subst⁻¹ (λ (l : List ℕ). GoodState x l) f h)
+
+    kinds : Outside name k disc j after → GoodState j after
+    kinds (nothing e f) = become _ _ e f g
+    kinds (enters title n s a e f) = become _ _ e f (entered-state-good g n s a)
+    kinds (stores title bytes s a e f) = become _ _ e f (stored-state-good g bytes s a)
+    kinds (erases i h u e f) = become _ _ e f (erased-state-good g i h u)
+    kinds (begins slot d t e f) = become _ _ e f (started-good g (starting-begins name k disc slot d t))

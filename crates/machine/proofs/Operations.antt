@@ -1,0 +1,6 @@
+-- Every operation is a change.
+pub mod Carrying
+pub mod FileAnswers
+pub mod Answering
+pub mod Turning
+pub mod Commanding

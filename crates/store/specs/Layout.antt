@@ -1,0 +1,36 @@
+-- The disc in numbers.
+--
+--     0    ten entries of 16 bytes: name 12, start 2, length 2
+--     160  the file count
+--     161  data, to the disc's end
+use Prim.Native.Nat.{ℕ}
+
+-- Document 01: "Disc, 1,024 bytes."
+abbrev pub discLength : ℕ
+discLength = 1024
+
+-- Document 01: "Ten directory entries of 16 bytes from 0: name 12, start 2, length 2."
+abbrev pub maxFiles : ℕ
+maxFiles = 10
+
+abbrev pub entrySize : ℕ
+entrySize = 16
+
+abbrev pub nameSize : ℕ
+nameSize = 12
+
+-- Document 01: "A name is 1 to 11 bytes"
+abbrev pub maxName : ℕ
+maxName = 11
+
+-- Document 01: "Byte 160 is the file count"
+abbrev pub countAt : ℕ
+countAt = 160
+
+-- Document 01: "Data lie at 161 to 1023"
+abbrev pub dataStart : ℕ
+dataStart = 161
+
+-- as long as a line of *files* may become: a name, a space, a number, a newline
+abbrev pub lineSize : ℕ
+lineSize = 24
