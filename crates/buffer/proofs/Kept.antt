@@ -27,7 +27,8 @@ module _ {A : Type 0} (p : A → Bool) where
   any-at (x ∷ l) (suc i) d h e = rw (any-at l i d (le-of-suc-le-suc h) e) (or-true (p x))
 
   -- one more turn of a loop that seeks an element
-  pub any-take-next : (l : List A) (i : ℕ) (d : A) → i < length l → any p (take i l) ≡ false → p (getD l i d) ≡ false → any p (take (i + 1) l) ≡ false
+  pub any-take-next : (l : List A) (i : ℕ) (d : A) → i < length l → any p (take i l) ≡ false → p (getD l i d) ≡ false
+      → any p (take (i + 1) l) ≡ false
   any-take-next l i d h e v = rw (add-one, take-suc l i d, any-snoc (take i l) (getD l i d), e, v)
 
 -- ---- keep
@@ -51,7 +52,8 @@ module _ {A : Type 0} (p : A → Bool) where
       go false h = omega arith
 
   -- one more element, which stays or goes
-  pub keep-take-next : (l : List A) (i : ℕ) (d : A) → i < length l → keep p (take (i + 1) l) ≡ keep p (take i l) ++ consIf (p (getD l i d)) (getD l i d) []
+  pub keep-take-next : (l : List A) (i : ℕ) (d : A) → i < length l → keep p (take (i + 1) l) ≡ keep p (take i l)
+      ++ consIf (p (getD l i d)) (getD l i d) []
   unfolding keep
   keep-take-next l i d h = rw (add-one, take-suc l i d, keep-append (take i l) (getD l i d ∷ []))
 
@@ -91,7 +93,8 @@ module _ {A : Type 0} (p : A → Bool) where
   keep-keep q [] h = refl
   keep-keep q (x ∷ l) h = go (q x) refl (p x) refl (keep-keep q l h)
     where
-      go : (b : Bool) → q x ≡ b → (a : Bool) → p x ≡ a → keep p (keep q l) ≡ keep p l → keep p (consIf b x (keep q l)) ≡ consIf a x (keep p l)
+      go : (b : Bool) → q x ≡ b → (a : Bool) → p x ≡ a → keep p (keep q l) ≡ keep p l
+          → keep p (consIf b x (keep q l)) ≡ consIf a x (keep p l)
       go true k true m e = rw (m, e)
       go true k false m e = rw (m, e)
       go false k true m e = absurd (true-not-false (h x m) k)
@@ -101,7 +104,8 @@ module _ {A : Type 0} (p : A → Bool) where
   pub keep-none : (l : List A) → all (λ x. not (p x)) l ≡ true → keep p l ≡ []
   unfolding all keep
   keep-none [] e = refl
-  keep-none (x ∷ l) e = rw (not-true (p x) (and-left (not (p x)) (all (λ y. not (p y)) l) e)) (keep-none l (and-right (not (p x)) (all (λ y. not (p y)) l) e))
+  keep-none (x ∷ l) e =
+      rw (not-true (p x) (and-left (not (p x)) (all (λ y. not (p y)) l) e)) (keep-none l (and-right (not (p x)) (all (λ y. not (p y)) l) e))
 
 -- two tests in either order, where the first decides between the others
 pub keep-swap : {A : Type 0} (p q r : A → Bool) (l : List A) → ((x : A) → p x ≡ true → q x ≡ r x) → keep p (keep q l) ≡ keep r (keep p l)
@@ -109,7 +113,8 @@ unfolding keep
 keep-swap p q r [] h = refl
 keep-swap {A} p q r (x ∷ l) h = go (p x) refl (r x) refl (keep-swap p q r l h)
   where
-    go : (a : Bool) → p x ≡ a → (b : Bool) → r x ≡ b → keep p (keep q l) ≡ keep r (keep p l) → keep p (consIf (q x) x (keep q l)) ≡ keep r (consIf a x (keep p l))
+    go : (a : Bool) → p x ≡ a → (b : Bool) → r x ≡ b → keep p (keep q l) ≡ keep r (keep p l)
+        → keep p (consIf (q x) x (keep q l)) ≡ keep r (consIf a x (keep p l))
     go true k true m e = rw (h x k, m, k, e)
     go true k false m e = rw (h x k, m, e)
     go false k b m e = either (q x)
@@ -123,6 +128,7 @@ unfolding keep
 keep-map p f [] = refl
 keep-map p f (x ∷ l) = go (p (f x)) (keep-map p f l)
   where
-    go : (b : Bool) → keep p (map f l) ≡ map f (keep (λ y. p (f y)) l) → consIf b (f x) (keep p (map f l)) ≡ map f (consIf b x (keep (λ y. p (f y)) l))
+    go : (b : Bool) → keep p (map f l) ≡ map f (keep (λ y. p (f y)) l)
+        → consIf b (f x) (keep p (map f l)) ≡ map f (consIf b x (keep (λ y. p (f y)) l))
     go true e = rw e
     go false e = e

@@ -45,7 +45,8 @@ module _ {A : Type 0} (p : A → Bool) where
   all-without (x ∷ l) (suc i) e = and-both (and-left (p x) (all p l) e) (all-without l i (and-right (p x) (all p l) e))
 
 -- one more turn of a loop that tests each element
-pub all-take-next : {A : Type 0} (p : A → Bool) (l : List A) (i : ℕ) (d : A) → i < length l → all p (take i l) ≡ true → p (getD l i d) ≡ true → all p (take (i + 1) l) ≡ true
+pub all-take-next : {A : Type 0} (p : A → Bool) (l : List A) (i : ℕ) (d : A) → i < length l → all p (take i l) ≡ true
+    → p (getD l i d) ≡ true → all p (take (i + 1) l) ≡ true
 all-take-next p l i d h e v = rw (add-one, take-suc l i d, all-snoc p (take i l) (getD l i d), e, v)
 
 -- what holds of each by one test holds by a weaker one
@@ -71,20 +72,25 @@ module _ {A : Type 0} (r : A → A → Bool) where
   pairs-at [] i j d h k e = absurd (not-suc-le-zero k)
   pairs-at (x ∷ l) i zero d h k e = absurd (not-suc-le-zero h)
   pairs-at (x ∷ l) zero (suc j) d h k e = all-at (r x) l j d (le-of-suc-le-suc k) (and-left (all (r x) l) (pairs r l) e)
-  pairs-at (x ∷ l) (suc i) (suc j) d h k e = pairs-at l i j d (le-of-suc-le-suc h) (le-of-suc-le-suc k) (and-right (all (r x) l) (pairs r l) e)
+  pairs-at (x ∷ l) (suc i) (suc j) d h k e =
+      pairs-at l i j d (le-of-suc-le-suc h) (le-of-suc-le-suc k) (and-right (all (r x) l) (pairs r l) e)
 
   pub pairs-without : (l : List A) (i : ℕ) → pairs r l ≡ true → pairs r (without i l) ≡ true
   unfolding pairs
   pairs-without [] zero e = refl
   pairs-without [] (suc i) e = refl
   pairs-without (x ∷ l) zero e = and-right (all (r x) l) (pairs r l) e
-  pairs-without (x ∷ l) (suc i) e = and-both (all-without (r x) l i (and-left (all (r x) l) (pairs r l) e)) (pairs-without l i (and-right (all (r x) l) (pairs r l) e))
+  pairs-without (x ∷ l) (suc i) e =
+      and-both (all-without (r x) l i (and-left (all (r x) l) (pairs r l) e)) (pairs-without l i (and-right (all (r x) l) (pairs r l) e))
 
 -- ---- same
-pub pairs-each : {A : Type 0} (r : A → A → Bool) (l : List A) (d : A) → ((i j : ℕ) → i < j → j < length l → r (getD l i d) (getD l j d) ≡ true) → pairs r l ≡ true
+pub pairs-each : {A : Type 0} (r : A → A → Bool) (l : List A) (d : A)
+    → ((i j : ℕ) → i < j → j < length l → r (getD l i d) (getD l j d) ≡ true) → pairs r l ≡ true
 unfolding pairs
 pairs-each r [] d h = refl
-pairs-each r (x ∷ l) d h = and-both (all-each (r x) l d (λ j m. h 0 (suc j) (omega arith) (omega arith))) (pairs-each r l d (λ i j n m. h (suc i) (suc j) (omega arith) (omega arith)))
+pairs-each r (x ∷ l) d h =
+    and-both (all-each (r x) l d (λ j m. h 0 (suc j) (omega arith) (omega arith)))
+    (pairs-each r l d (λ i j n m. h (suc i) (suc j) (omega arith) (omega arith)))
 
 pub same-refl : (l : List ℕ) → same l l ≡ true
 unfolding same
@@ -107,11 +113,13 @@ same-differ l m h = not-true-is-false (same l m) (λ t. h (same-eq l m t))
 -- ---- index
 module _ {A : Type 0} (p : A → Bool) where
   -- found at i: the test holds there, and of nothing before
-  pub index-is : (l : List A) (i : ℕ) (d : A) → i < length l → p (getD l i d) ≡ true → ((k : ℕ) → k < i → p (getD l k d) ≡ false) → index p l ≡ At i
+  pub index-is : (l : List A) (i : ℕ) (d : A) → i < length l → p (getD l i d) ≡ true → ((k : ℕ) → k < i → p (getD l k d) ≡ false)
+      → index p l ≡ At i
   unfolding index
   index-is [] i d h e f = absurd (not-suc-le-zero h)
   index-is (x ∷ l) zero d h e f = rw e
-  index-is (x ∷ l) (suc i) d h e f = rw (f 0 (omega arith)) (ap later (index-is l i d (le-of-suc-le-suc h) e (λ k g. f (suc k) (omega arith))))
+  index-is (x ∷ l) (suc i) d h e f =
+      rw (f 0 (omega arith)) (ap later (index-is l i d (le-of-suc-le-suc h) e (λ k g. f (suc k) (omega arith))))
 
   pub index-miss : (l : List A) (d : A) → ((k : ℕ) → k < length l → p (getD l k d) ≡ false) → index p l ≡ Nowhere
   unfolding index
@@ -128,7 +136,10 @@ module _ {A : Type 0} (f : ℕ → A) where
   pub tab-at : (n i : ℕ) (d : A) → i < n → getD (tab f n) i d ≡ f i
   unfolding tab
   tab-at zero i d h = absurd (not-suc-le-zero h)
-  tab-at (suc n) i d h = ⊎-elim (λ (w : i ≡ n). rw w (getD-at (tab f n) (f n) [] d n (tab-length n))) (λ (w : i < n). List·getD-append (tab f n) (f n ∷ []) d i (subst (λ (k : ℕ). i < k) (sym (tab-length n)) w) ∙ tab-at n i d w) (eq-or-lt-of-le (le-of-suc-le-suc h))
+  tab-at (suc n) i d h =
+      ⊎-elim (λ (w : i ≡ n). rw w (getD-at (tab f n) (f n) [] d n (tab-length n)))
+      (λ (w : i < n). List·getD-append (tab f n) (f n ∷ []) d i (subst (λ (k : ℕ). i < k) (sym (tab-length n)) w)
+      ∙ tab-at n i d w) (eq-or-lt-of-le (le-of-suc-le-suc h))
 
   pub tab-more : (n : ℕ) → tab f (n + 1) ≡ tab f n ++ (f n ∷ [])
   unfolding tab
@@ -164,7 +175,8 @@ module _ {A : Type 0} (f : ℕ → A) (r : A → A → Bool) where
       (all-each (λ e. r e (f i)) (tab f i) (f i)
       (λ j k.
       let b : j < i = subst (λ (m : ℕ). j < m) (tab-length f i) k in
-      let a : r (getD (tab f n) j (f i)) (getD (tab f n) i (f i)) ≡ true = pairs-at r (tab f n) j i (f i) b (subst (λ (m : ℕ). i < m) (sym (tab-length f n)) h) t in
+      let a : r (getD (tab f n) j (f i)) (getD (tab f n) i (f i)) ≡ true =
+      pairs-at r (tab f n) j i (f i) b (subst (λ (m : ℕ). i < m) (sym (tab-length f n)) h) t in
       subst (λ (x : A). r x (f i) ≡ true) (tab-at f n j (f i) (omega arith) ∙ sym (tab-at f i j (f i) b))
       (subst (λ (y : A). r (getD (tab f n) j (f i)) y ≡ true) (tab-at f n i (f i) h) a)))
       e)

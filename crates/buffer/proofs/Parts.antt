@@ -6,7 +6,8 @@ use mathlib.Core.Logic.{_⊎_, ⊎-elim}
 use native.Mathlib.Nat.{add-zero}
 use native.Mathlib.Omega.{arith}
 use lib.ListN.{length, getD, take, drop, length-drop}
-use lib.Seq.{drop-append-add, drop-append-le, drop-at, drop-drop, getD-drop, getD-take, length-take-le, take-add, take-append-le, take-nil, take-take}
+use lib.Seq.{drop-append-add, drop-append-le, drop-at, drop-drop, getD-drop, getD-take, length-take-le, take-add, take-append-le, take-nil}
+use lib.Seq.{take-take}
 use Rattle.buffer.specs.Buffer.{part, overwrite}
 use Rattle.buffer.proofs.Buffer.{overwrite-take, overwrite-part, part-behind}
 
@@ -80,21 +81,26 @@ module _ (d s : List ℕ) (at : ℕ) (h : at + length s ≤ length d) where
 
 -- what is left of a part behind its first m bytes
 part-tail : (l : List ℕ) (at m n : ℕ) → at + m ≤ length l → drop m (part l at (m + n)) ≡ part l (at + m) n
-part-tail l at m n h = ap (λ (r : List ℕ). drop m r) (part-split l at m n) ∙ drop-at (part l at m) (part l (at + m) n) m (part-length l at m h)
+part-tail l at m n h = ap (λ (r : List ℕ). drop m r) (part-split l at m n)
+    ∙ drop-at (part l at m) (part l (at + m) n) m (part-length l at m h)
 
-around : (d s : List ℕ) (i at m : ℕ) → i + (at + length s + m) ≤ length d → part (overwrite d (i + at) s) i (at + length s + m) ≡ overwrite (part d i (at + length s + m)) at s
+around : (d s : List ℕ) (i at m : ℕ) → i + (at + length s + m) ≤ length d
+    → part (overwrite d (i + at) s) i (at + length s + m) ≡ overwrite (part d i (at + length s + m)) at s
 around d s i at m h =
     let laid : List ℕ = overwrite d (i + at) s in
     let fits : i + at + length s ≤ length d = omega arith in
     let before : part laid i at ≡ part d i at = part-before d s (i + at) fits i at (omega arith) in
     let inside : part laid (i + at) (length s) ≡ s = overwrite-part d s (i + at) fits in
-    let behind : part laid (i + (at + length s)) m ≡ part d (i + (at + length s)) m = part-behind d s (i + at) fits (i + (at + length s)) m (omega arith) in
+    let behind : part laid (i + (at + length s)) m ≡ part d (i + (at + length s)) m =
+    part-behind d s (i + at) fits (i + (at + length s)) m (omega arith) in
     part-split laid i (at + length s) m
     ∙ ap (λ (r : List ℕ). r ++ part laid (i + (at + length s)) m) (part-split laid i at (length s))
     ∙ rw (before, inside, behind, part-tail d i (at + length s) m (omega arith), take-take at (at + length s + m) (drop i d) (omega arith))
 
 -- a part that holds all that was laid is itself overwritten
-pub part-around : (d s : List ℕ) (i n at : ℕ) → at + length s ≤ n → i + n ≤ length d → part (overwrite d (i + at) s) i n ≡ overwrite (part d i n) at s
+pub part-around : (d s : List ℕ) (i n at : ℕ) → at + length s ≤ n → i + n ≤ length d
+    → part (overwrite d (i + at) s) i n ≡ overwrite (part d i n) at s
 part-around d s i n at h k =
     let m : at + length s + (n - (at + length s)) ≡ n = omega arith in
-    subst (λ (a : ℕ). part (overwrite d (i + at) s) i a ≡ overwrite (part d i a) at s) m (around d s i at (n - (at + length s)) (omega arith))
+    subst (λ (a : ℕ). part (overwrite d (i + at) s) i a ≡ overwrite (part d i a) at s) m
+    (around d s i at (n - (at + length s)) (omega arith))

@@ -25,8 +25,10 @@ module _ {A : Type 0} (p : A → Bool) (d : A) where
   index-at [] i e = absurd (let z : _≡_ {A = ℕ} 0 1 = cc in omega arith)
   index-at (x ∷ l) i e = go (p x) refl (index p l) refl e (index-at l)
     where
-      go : (b : Bool) → p x ≡ b → (f : Found) → index p l ≡ f → hereOr b f ≡ At i → ((j : ℕ) → index p l ≡ At j → First l j) → First (x ∷ l) i
-      go true t f g h r = let w : 0 ≡ i = cc in subst (λ (k : ℕ). First (x ∷ l) k) w (record { inside = omega arith; holds = t; first = λ k n. absurd (not-suc-le-zero n) })
+      go : (b : Bool) → p x ≡ b → (f : Found) → index p l ≡ f → hereOr b f ≡ At i → ((j : ℕ) → index p l ≡ At j → First l j)
+          → First (x ∷ l) i
+      go true t f g h r = let w : 0 ≡ i = cc in
+          subst (λ (k : ℕ). First (x ∷ l) k) w (record { inside = omega arith; holds = t; first = λ k n. absurd (not-suc-le-zero n) })
       go false t Nowhere g h r = absurd (let z : _≡_ {A = ℕ} 0 1 = cc in omega arith)
       go false t (At j) g h r = let w : suc j ≡ i = cc in subst (λ (k : ℕ). First (x ∷ l) k) w (further (r j g))
         where
@@ -43,7 +45,8 @@ module _ {A : Type 0} (p : A → Bool) (d : A) where
   index-none (x ∷ l) e k h = go (p x) refl (index p l) refl e k h (index-none l)
     where
       go : (b : Bool) → p x ≡ b → (f : Found) → index p l ≡ f → hereOr b f ≡ Nowhere
-          → (k : ℕ) → k < length (x ∷ l) → (index p l ≡ Nowhere → (j : ℕ) → j < length l → p (getD l j d) ≡ false) → p (getD (x ∷ l) k d) ≡ false
+          → (k : ℕ) → k < length (x ∷ l) → (index p l ≡ Nowhere → (j : ℕ) → j < length l → p (getD l j d) ≡ false)
+          → p (getD (x ∷ l) k d) ≡ false
       go true t f g y k n r = absurd (let z : _≡_ {A = ℕ} 0 1 = cc in omega arith)
       go false t (At j) g y k n r = absurd (let z : _≡_ {A = ℕ} 0 1 = cc in omega arith)
       go false t Nowhere g y zero n r = t
@@ -72,7 +75,8 @@ module _ {A : Type 0} (f : ℕ → A) (n : ℕ) where
 
   pub pairs-tab-at : (r : A → A → Bool) (i j : ℕ) → i < j → j < n → pairs r (tab f n) ≡ true → r (f i) (f j) ≡ true
   pairs-tab-at r i j h k e =
-      subst₂ (λ (x y : A). r x y ≡ true) (tab-at f n i (f 0) (omega arith)) (tab-at f n j (f 0) k) (pairs-at r (tab f n) i j (f 0) h (below j k) e)
+      subst₂ (λ (x y : A). r x y ≡ true) (tab-at f n i (f 0) (omega arith)) (tab-at f n j (f 0) k)
+      (pairs-at r (tab f n) i j (f 0) h (below j k) e)
 
   -- the first in a table that a test holds of
   pub index-tab-at : (p : A → Bool) (i : ℕ) → index p (tab f n) ≡ At i → (i < n) × (p (f i) ≡ true)
@@ -101,18 +105,23 @@ module _ {A : Type 0} where
       rw (take-at l (x ∷ []) i e, drop-of-length-le (l ++ (x ∷ [])) {i = suc i} n) (append-nil l)
 
   without-earlier : (l : List A) (x : A) (i : ℕ) → i < length l → without i (l ++ (x ∷ [])) ≡ without i l ++ (x ∷ [])
-  without-earlier l x i h = rw (take-append-le i l (x ∷ []) (omega arith), drop-append-le (suc i) l (x ∷ []) h) (sym (append-assoc (take i l) (drop (suc i) l) (x ∷ [])))
+  without-earlier l x i h =
+      rw (take-append-le i l (x ∷ []) (omega arith), drop-append-le (suc i) l (x ∷ []) h)
+      (sym (append-assoc (take i l) (drop (suc i) l) (x ∷ [])))
 
   -- the elements behind i move down by one
-  pub tab-without : (f g : ℕ → A) (i n : ℕ) → i ≤ n → ((j : ℕ) → j < i → g j ≡ f j) → ((j : ℕ) → i ≤ j → j < n → g j ≡ f (suc j)) → tab g n ≡ without i (tab f (suc n))
+  pub tab-without : (f g : ℕ → A) (i n : ℕ) → i ≤ n → ((j : ℕ) → j < i → g j ≡ f j) → ((j : ℕ) → i ≤ j → j < n → g j ≡ f (suc j))
+      → tab g n ≡ without i (tab f (suc n))
   unfolding tab
   tab-without f g i zero h a b = sym (without-last [] (f 0) i (omega arith))
   tab-without f g i (suc n) h a b = ⊎-elim last (earlier (λ k. tab-without f g i n k a (λ j x y. b j x (omega arith)))) (eq-or-lt-of-le h)
     where
       last : i ≡ suc n → tab g (suc n) ≡ without i (tab f (suc (suc n)))
-      last w = tab-same g f (suc n) (λ j k. a j (omega arith)) ∙ sym (without-last (tab f (suc n)) (f (suc n)) i (tab-length f (suc n) ∙ sym w))
+      last w = tab-same g f (suc n) (λ j k. a j (omega arith))
+          ∙ sym (without-last (tab f (suc n)) (f (suc n)) i (tab-length f (suc n) ∙ sym w))
 
       earlier : (i ≤ n → tab g n ≡ without i (tab f (suc n))) → i < suc n → tab g (suc n) ≡ without i (tab f (suc (suc n)))
       earlier r w =
           let k : i ≤ n = le-of-suc-le-suc w in
-          rw (r k, b n k (omega arith)) (sym (without-earlier (tab f (suc n)) (f (suc n)) i (subst (λ (m : ℕ). i < m) (sym (tab-length f (suc n))) w)))
+          rw (r k, b n k (omega arith))
+          (sym (without-earlier (tab f (suc n)) (f (suc n)) i (subst (λ (m : ℕ). i < m) (sym (tab-length f (suc n))) w)))

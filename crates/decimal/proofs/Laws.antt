@@ -27,7 +27,8 @@ written k b d h =
     ∙ ap (λ (x : ℕ). x ∷ drop (suc k) (set b k d)) (getD-set-same b k d 0 h)
     ∙ ap (λ (l : List ℕ). d ∷ l) (drop-set-lt (suc k) b k d (omega arith))
 
-pub digit-next : (s r d : ℕ) (b : List ℕ) → 10 ≤ r → 0 < s → s < length b → d ≡ 48 + r / 10 % 10 → ifMore (leb 10 r) (lastDigits s (r / 10)) ++ drop s b ≡ ifMore (leb 10 (r / 10)) (lastDigits (s - 1) (r / 10 / 10)) ++ drop (s - 1) (set b (s - 1) d)
+pub digit-next : (s r d : ℕ) (b : List ℕ) → 10 ≤ r → 0 < s → s < length b → d ≡ 48 + r / 10 % 10 → ifMore (leb 10 r) (lastDigits s (r / 10))
+    ++ drop s b ≡ ifMore (leb 10 (r / 10)) (lastDigits (s - 1) (r / 10 / 10)) ++ drop (s - 1) (set b (s - 1) d)
 unfolding lastDigits
 digit-next zero r d b h k l e = absurd (not-suc-le-zero k)
 digit-next (suc s) r d b h k l e =

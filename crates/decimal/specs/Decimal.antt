@@ -25,4 +25,8 @@ decimal n = lastDigits maxDigits n
 
 -- the digits of n at the end, zeros before them
 abbrev pub digitsOf : ℕ → Digits
-digitsOf n = record { bytes = replicate (maxDigits - length (decimal n)) 0 ++ decimal n; start = maxDigits - length (decimal n) }
+digitsOf n = record {
+  bytes = replicate (maxDigits - length (decimal n)) 0
+      ++ decimal n;
+  start = maxDigits - length (decimal n);
+}

@@ -23,7 +23,9 @@ value-unique (fin t m e) s u a b c v w = (sym (v .0) ∙ w .0, eq-of-mul-eq-mul-
 -- a larger exponent has a full significand, too large for the smaller exponent
 exponent-le : (t k u l : ℕ) → t * 2 ^ k ≡ u * 2 ^ l → t < 16777216 → (0 < l → 8388608 ≤ u) → l ≤ k
 exponent-le t k u l e short full = elim (lt-or-le k l) [
-  | inl h ↦ absurd (clash (le-trans (mul-le-mul {n₁ = 8388608} {m₁ = 2 ^ 1} (full (omega arith)) (pow-mono {i = 1} (omega arith))) (le-of-eq (sym (shifted (omega arith))))))
+  | inl h ↦ absurd (clash
+      (le-trans (mul-le-mul {n₁ = 8388608} {m₁ = 2 ^ 1} (full (omega arith)) (pow-mono {i = 1} (omega arith)))
+      (le-of-eq (sym (shifted (omega arith))))))
   | inr h ↦ h
 ]
   where

@@ -27,12 +27,14 @@ module _ (a b c : ℕ) (hc : 0 < c) where
 below-times : (s t : Bool) (a b c : ℕ) → 0 < c → below s (a * c) t (b * c) ≡ below s a t b
 below-times false false a b c h = ltb-times a b c h
 below-times false true a b c h = refl
-below-times true false a b c h = ap (λ (n : ℕ). ltb n (a * c + b * c)) (sym (zero-mul c)) ∙ ap (ltb (0 * c)) (sym (add-mul a b c)) ∙ ltb-times 0 (a + b) c h
+below-times true false a b c h = ap (λ (n : ℕ). ltb n (a * c + b * c)) (sym (zero-mul c)) ∙ ap (ltb (0 * c)) (sym (add-mul a b c))
+    ∙ ltb-times 0 (a + b) c h
 below-times true true a b c h = ltb-times b a c h
 
 level-times : (s t : Bool) (a b c : ℕ) → 0 < c → level s (a * c) t (b * c) ≡ level s a t b
 level-times s t a b c h =
-    ap (λ (y : Bool). y && (Bool·beq s t || eqb (a * c) 0)) (eqb-times a b c h) ∙ ap (λ (y : Bool). eqb a b && (Bool·beq s t || y)) (zero-product a c h)
+    ap (λ (y : Bool). y && (Bool·beq s t || eqb (a * c) 0)) (eqb-times a b c h)
+    ∙ ap (λ (y : Bool). eqb a b && (Bool·beq s t || y)) (zero-product a c h)
 
 -- ---- y is ±n
 module _ (s : Bool) (n : ℕ) where

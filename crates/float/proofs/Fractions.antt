@@ -1,4 +1,5 @@
--- Whole numbers out of a fraction depend on the fraction alone; and those out of a number times one power of two over another. Assumes nothing.
+-- Whole numbers out of a fraction depend on the fraction alone; and those out of a number times one power of two over another. Assumes
+-- nothing.
 use mathlib.Core.Path.{_≡_, refl, sym, _∙_, ap, subst, subst⁻¹}
 use mathlib.Core.Bool.{Bool, true, false, not}
 use Prim.Native.Nat.{ℕ, zero, suc, _+_, _-_, _*_, _/_, _%_, _^_, _<_, _≤_}
@@ -18,21 +19,25 @@ half-away k = omega arith
 
 -- ---- n / d rounds up to at most k exactly where n is at most k * d
 up-le : (n d k : ℕ) → 0 < d → n ≤ k * d → directed true n d ≤ k
-up-le n d k h l = under (div-lt-iff-lt-mul {k = d} {x = n + (d - 1)} {y = k + 1} h .1 (subst⁻¹ (λ (a : ℕ). n + (d - 1) < a) (add-mul k 1 d) (omega arith)))
+up-le n d k h l = under
+    (div-lt-iff-lt-mul {k = d} {x = n + (d - 1)} {y = k + 1} h .1 (subst⁻¹ (λ (a : ℕ). n + (d - 1) < a) (add-mul k 1 d) (omega arith)))
   where
     under : directed true n d < k + 1 → directed true n d ≤ k
     under z = omega arith
 
 le-up : (n d k : ℕ) → 0 < d → directed true n d ≤ k → n ≤ k * d
-le-up n d k h l = omega (arith, subst (λ (a : ℕ). n + (d - 1) < a) (add-mul k 1 d) (div-lt-iff-lt-mul {k = d} {x = n + (d - 1)} {y = k + 1} h .0 (omega arith)))
+le-up n d k h l = omega
+    (arith, subst (λ (a : ℕ). n + (d - 1) < a) (add-mul k 1 d) (div-lt-iff-lt-mul {k = d} {x = n + (d - 1)} {y = k + 1} h .0 (omega arith)))
 
 -- ---- n / d is a / c
 pub fraction-le : (n d a c k : ℕ) → 0 < c → n * c ≡ a * d → a ≤ k * c → n ≤ k * d
-fraction-le n d a c k hc e h = le-of-mul-le-mul-right (le-trans (le-of-eq e) (le-trans (mul-le-mul-right d h) (le-of-eq (mul-right-comm k c d)))) hc
+fraction-le n d a c k hc e h =
+    le-of-mul-le-mul-right (le-trans (le-of-eq e) (le-trans (mul-le-mul-right d h) (le-of-eq (mul-right-comm k c d)))) hc
 
 up-mono : (n d a c : ℕ) → 0 < d → 0 < c → n * c ≡ a * d → directed true n d ≤ directed true a c
 up-mono n d a c hd hc e =
-    up-le n d (directed true a c) hd (fraction-le n d a c (directed true a c) hc e (le-up a c (directed true a c) hc (le-refl (directed true a c))))
+    up-le n d (directed true a c) hd
+    (fraction-le n d a c (directed true a c) hc e (le-up a c (directed true a c) hc (le-refl (directed true a c))))
 
 up-same : (n d a c : ℕ) → 0 < d → 0 < c → n * c ≡ a * d → directed true n d ≡ directed true a c
 up-same n d a c hd hc e = le-antisymm (up-mono n d a c hd hc e) (up-mono a c n d hc hd (sym e))
@@ -40,11 +45,13 @@ up-same n d a c hd hc e = le-antisymm (up-mono n d a c hd hc e) (up-mono a c n d
 half-same : (n d a c : ℕ) → 0 < d → 0 < c → n * c ≡ a * d → halfAway n d ≡ halfAway a c
 half-same n d a c hd hc e =
     div-same (2 * n + d) (2 * d) (2 * a + c) (2 * c) (omega arith) (omega arith)
-    (expand n d c ∙ ap (λ (x : ℕ). 2 * (2 * x) + 2 * (d * c)) e ∙ ap (λ (x : ℕ). 2 * (2 * (a * d)) + 2 * x) (mul-comm d c) ∙ sym (expand a c d))
+    (expand n d c ∙ ap (λ (x : ℕ). 2 * (2 * x) + 2 * (d * c)) e ∙ ap (λ (x : ℕ). 2 * (2 * (a * d)) + 2 * x) (mul-comm d c)
+    ∙ sym (expand a c d))
   where
     expand : (n d c : ℕ) → (2 * n + d) * (2 * c) ≡ 2 * (2 * (n * c)) + 2 * (d * c)
     expand n d c =
-        mul-left-comm (2 * n + d) 2 c ∙ ap (λ (x : ℕ). 2 * x) (add-mul (2 * n) d c ∙ ap (λ (x : ℕ). x + d * c) (mul-assoc 2 n c)) ∙ mul-add 2 (2 * (n * c)) (d * c)
+        mul-left-comm (2 * n + d) 2 c ∙ ap (λ (x : ℕ). 2 * x) (add-mul (2 * n) d c ∙ ap (λ (x : ℕ). x + d * c) (mul-assoc 2 n c))
+        ∙ mul-add 2 (2 * (n * c)) (d * c)
 
 directed-same : (up : Bool) (n d a c : ℕ) → 0 < d → 0 < c → n * c ≡ a * d → directed up n d ≡ directed up a c
 directed-same true n d a c hd hc e = up-same n d a c hd hc e
@@ -65,7 +72,8 @@ module _ (n d : ℕ) (h : 0 < d) where
   pub cut-least : (r : Rounding) (s : Bool) → n / d ≤ wholeSize r s n d
   cut-least TowardZero s = directed-least false
   cut-least HalfAway s =
-      div-mono n d (2 * n + d) (2 * d) h (omega arith) (le-trans (le-of-eq (mul-left-comm n 2 d ∙ sym (mul-assoc 2 n d))) (mul-le-mul-right d (omega arith)))
+      div-mono n d (2 * n + d) (2 * d) h (omega arith)
+      (le-trans (le-of-eq (mul-left-comm n 2 d ∙ sym (mul-assoc 2 n d))) (mul-le-mul-right d (omega arith)))
   cut-least Down s = directed-least s
   cut-least Up s = directed-least (not s)
 
@@ -87,7 +95,8 @@ module _ (r : Rounding) (s : Bool) (a k l : ℕ) where
   pub whole-shifted-left : l ≤ k → a * 2 ^ (k - l) ≡ wholeSize r s (a * 2 ^ k) (2 ^ l)
   whole-shifted-left h =
       sym (whole-same r s (a * 2 ^ k) (2 ^ l) (a * 2 ^ (k - l)) 1 (pow-pos l) (omega arith)
-      (omega (arith, ap (λ (n : ℕ). a * n) (power-split k l h) ∙ sym (mul-assoc a (2 ^ (k - l)) (2 ^ l)))) ∙ whole-one r s (a * 2 ^ (k - l)))
+      (omega (arith, ap (λ (n : ℕ). a * n) (power-split k l h) ∙ sym (mul-assoc a (2 ^ (k - l)) (2 ^ l))))
+      ∙ whole-one r s (a * 2 ^ (k - l)))
 
   pub whole-shifted-right : k ≤ l → wholeSize r s a (2 ^ (l - k)) ≡ wholeSize r s (a * 2 ^ k) (2 ^ l)
   whole-shifted-right h =

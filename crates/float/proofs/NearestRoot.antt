@@ -44,17 +44,20 @@ module _ (n d s nx dx x u : ℕ) (hu : 0 < u) (hd : 0 < d) (hx : 0 < dx) (sum : 
 
   fraction-under : s * s < 4 * (x * u) → n * n * dx < 4 * nx * (d * d)
   fraction-under h =
-      lt-of-mul-lt-mul-right (u * u) (lt-of-le-of-lt (le-of-eq left) (lt-of-lt-of-le (mul-lt-mul-of-pos-right h (mul-pos (mul-pos hd hd) hx)) (le-of-eq (sym right))))
+      lt-of-mul-lt-mul-right (u * u)
+      (lt-of-le-of-lt (le-of-eq left) (lt-of-lt-of-le (mul-lt-mul-of-pos-right h (mul-pos (mul-pos hd hd) hx)) (le-of-eq (sym right))))
 
   fraction-over : 4 * (x * u) < s * s → 4 * nx * (d * d) < n * n * dx
   fraction-over h =
-      lt-of-mul-lt-mul-right (u * u) (lt-of-le-of-lt (le-of-eq right) (lt-of-lt-of-le (mul-lt-mul-of-pos-right h (mul-pos (mul-pos hd hd) hx)) (le-of-eq (sym left))))
+      lt-of-mul-lt-mul-right (u * u)
+      (lt-of-le-of-lt (le-of-eq right) (lt-of-lt-of-le (mul-lt-mul-of-pos-right h (mul-pos (mul-pos hd hd) hx)) (le-of-eq (sym left))))
 
 sum-fraction : (nr dr ny dy r y u : ℕ) → nr * u ≡ r * dr → ny * u ≡ y * dy → (nr * dy + ny * dr) * u ≡ (r + y) * (dr * dy)
 sum-fraction nr dr ny dy r y u h k =
     add-mul (nr * dy) (ny * dr) u
     ∙ ap (λ (a : ℕ). a + ny * dr * u) (mul-right-comm nr dy u ∙ ap (λ (a : ℕ). a * dy) h ∙ mul-assoc r dr dy)
-    ∙ ap (λ (a : ℕ). r * (dr * dy) + a) (mul-right-comm ny dr u ∙ ap (λ (a : ℕ). a * dr) k ∙ mul-assoc y dy dr ∙ ap (λ (a : ℕ). y * a) (mul-comm dy dr))
+    ∙ ap (λ (a : ℕ). r * (dr * dy) + a) (mul-right-comm ny dr u ∙ ap (λ (a : ℕ). a * dr) k ∙ mul-assoc y dy dr
+    ∙ ap (λ (a : ℕ). y * a) (mul-comm dy dr))
     ∙ sym (add-mul r y (dr * dy))
 
 -- ---- values that are not negative
@@ -87,21 +90,26 @@ not-negative-finite (fin t m e) n = tt
 
 units-lt : (y r : Float) (a b u : ℕ) → 0 < u → HasValue y false a u → HasValue r false b u → num y * den r < num r * den y → a < b
 units-lt y r a b u hu v w l =
-    lt-of-not-le (λ (h : b ≤ a). not-le-of-lt l (transfer (num r) (num y) (den r) (den y) b a u u hu hu (value→cross r b u w) (value→cross y a u v) (mul-le-mul-right u h)))
+    lt-of-not-le (λ (h : b ≤ a).
+    not-le-of-lt l (transfer (num r) (num y) (den r) (den y) b a u u hu hu (value→cross r b u w) (value→cross y a u v)
+    (mul-le-mul-right u h)))
 
 -- ---- x is a units, a * 2 ^ 149 is m * 4 ^ g, q is the root of m, and r is c * (2 * 2 ^ g) units
-module _ (x r : Float) (a m g q c : ℕ) (v : HasValue x false a (2 ^ 149)) (w : HasValue r false (c * (2 * 2 ^ g)) (2 ^ 149)) (same : m * (2 ^ g * 2 ^ g) ≡ a * 2 ^ 149)
+module _ (x r : Float) (a m g q c : ℕ) (v : HasValue x false a (2 ^ 149)) (w : HasValue r false (c * (2 * 2 ^ g)) (2 ^ 149))
+    (same : m * (2 ^ g * 2 ^ g) ≡ a * 2 ^ 149)
     (i : IsRoot m q) (even : m % 2 ≡ 0) (least : 281474976710656 ≤ m) (near : (q ≤ 2 * c) × (2 * c ≤ q + 1)) (from : 8388608 ≤ c) where
   module _ (y : Float) (b : ℕ) (n : T (notNegative y)) (z : HasValue y false b (2 ^ 149)) (grid : OnGrid b (2 ^ g)) where
     summed : (num r * den y + num y * den r) * 2 ^ 149 ≡ (c * (2 * 2 ^ g) + b) * (den r * den y)
-    summed = sum-fraction (num r) (den r) (num y) (den y) (c * (2 * 2 ^ g)) b (2 ^ 149) (value→cross r (c * (2 * 2 ^ g)) (2 ^ 149) w) (value→cross y b (2 ^ 149) z)
+    summed = sum-fraction (num r) (den r) (num y) (den y) (c * (2 * 2 ^ g)) b (2 ^ 149) (value→cross r (c * (2 * 2 ^ g)) (2 ^ 149) w)
+        (value→cross y b (2 ^ 149) z)
 
     dens : 0 < den r * den y
     dens = mul-pos (den-pos r) (den-pos y)
 
     value-below : T (lt y r) → sumSquared r y * den x < 4 * num x * denSquared r y
     value-below l =
-        fraction-under (num r * den y + num y * den r) (den r * den y) (c * (2 * 2 ^ g) + b) (num x) (den x) a (2 ^ 149) (pow-pos 149) dens (den-pos x) summed
+        fraction-under (num r * den y + num y * den r) (den r * den y) (c * (2 * 2 ^ g) + b) (num x) (den x) a (2 ^ 149) (pow-pos 149) dens
+        (den-pos x) summed
         (value→cross x a (2 ^ 149) v)
         (subst (λ (e : ℕ). (c * (2 * 2 ^ g) + b) * (c * (2 * 2 ^ g) + b) < 4 * e) same
         (units-below m q c (2 ^ g) b (pow-pos g) i even near from least grid
@@ -109,7 +117,8 @@ module _ (x r : Float) (a m g q c : ℕ) (v : HasValue x false a (2 ^ 149)) (w :
 
     value-above : T (lt r y) → 4 * num x * denSquared r y < sumSquared r y * den x
     value-above l =
-        fraction-over (num r * den y + num y * den r) (den r * den y) (c * (2 * 2 ^ g) + b) (num x) (den x) a (2 ^ 149) (pow-pos 149) dens (den-pos x) summed
+        fraction-over (num r * den y + num y * den r) (den r * den y) (c * (2 * 2 ^ g) + b) (num x) (den x) a (2 ^ 149) (pow-pos 149) dens
+        (den-pos x) summed
         (value→cross x a (2 ^ 149) v)
         (subst (λ (e : ℕ). 4 * e < (c * (2 * 2 ^ g) + b) * (c * (2 * 2 ^ g) + b)) same
         (units-above m q c (2 ^ g) b (pow-pos g) i even near from least grid
@@ -118,11 +127,14 @@ module _ (x r : Float) (a m g q c : ℕ) (v : HasValue x false a (2 ^ 149)) (w :
   nearest : T (fits binary32 r) → IsNearestRoot x r
   nearest f = record {
     representable = f;
-    above-zero = positive-of-value r (c * (2 * 2 ^ g)) (2 ^ 149) w (mul-pos {m = c} (omega arith) (mul-pos {m = 2} (omega arith) (pow-pos g)));
+    above-zero = positive-of-value r (c * (2 * 2 ^ g)) (2 ^ 149) w
+        (mul-pos {m = c} (omega arith) (mul-pos {m = 2} (omega arith) (pow-pos g)));
     middle-below =
-        λ y h n l. let p = parts y h (not-negative-finite y n) in value-below y (p .1 * 2 ^ p .2) n (size y n p) (on-grid (p .1) (p .2) g (p .3 .short)) l;
+        λ y h n l. let p = parts y h (not-negative-finite y n) in
+        value-below y (p .1 * 2 ^ p .2) n (size y n p) (on-grid (p .1) (p .2) g (p .3 .short)) l;
     middle-above =
-        λ y h n l. let p = parts y h (not-negative-finite y n) in value-above y (p .1 * 2 ^ p .2) n (size y n p) (on-grid (p .1) (p .2) g (p .3 .short)) l;
+        λ y h n l. let p = parts y h (not-negative-finite y n) in
+        value-above y (p .1 * 2 ^ p .2) n (size y n p) (on-grid (p .1) (p .2) g (p .3 .short)) l;
   }
     where
       size : (y : Float) → T (notNegative y) → (p : Parts y) → HasValue y false (p .1 * 2 ^ p .2) (2 ^ 149)
@@ -135,7 +147,8 @@ module _ (x : Float) (t k : ℕ) (v : HasValue x false (t * 2 ^ k) (2 ^ 149)) wh
       let q = wholeRoot m in
       let i = root-is m in
       nearest x (rootOfUnits (t * 2 ^ k)) (t * 2 ^ k) m g q ((q + 1) / 2) v
-      (subst (λ (n : ℕ). HasValue (rootOfUnits (t * 2 ^ k)) false ((q + 1) / 2 * n) (2 ^ 149)) (pow-add 2 g 1 ∙ mul-comm (2 ^ g) 2) (root-value t k m g q d i))
+      (subst (λ (n : ℕ). HasValue (rootOfUnits (t * 2 ^ k)) false ((q + 1) / 2 * n) (2 ^ 149)) (pow-add 2 g 1
+      ∙ mul-comm (2 ^ g) 2) (root-value t k m g q d i))
       (radicand t k m g q d i) i (d .even) (d .least) (omega arith, omega arith) (half-24 t k m g q d i .0) (root-fits t k m g q d i)
 
   by-units : 0 < t → t < 16777216 → k < 254 → IsNearestRoot x (sqrtOf x)
@@ -153,4 +166,5 @@ pub correctly-rounded : CorrectlyRounded
 correctly-rounded x f p =
     let d = parts x f (positive-finite x p) in
     let v = plus-sign x (d .0) (d .1 * 2 ^ d .2) (2 ^ 149) (positive-plus x p) (d .3 .value) in
-    by-units x (d .1) (d .2) v (first-pos (d .1) (2 ^ d .2) (value-pos x (d .1 * 2 ^ d .2) (2 ^ 149) p (pow-pos 149) v)) (d .3 .short) (d .3 .near)
+    by-units x (d .1) (d .2) v (first-pos (d .1) (2 ^ d .2) (value-pos x (d .1 * 2 ^ d .2) (2 ^ 149) p (pow-pos 149) v)) (d .3 .short)
+    (d .3 .near)

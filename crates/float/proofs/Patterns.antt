@@ -56,7 +56,8 @@ finite-same {x} {y} {s} {t} {k} e d = subst (λ (z : Float). IsFinite z s t k) e
 module _ (b : ℕ) where
   pub field-inf : b % 2147483648 / 8388608 ≡ 255 → b % 8388608 ≡ 0 → ofBits binary32 b ≡ inf (leb 2147483648 b)
   unfolding ofBits ofFields
-  field-inf p q = ap (λ (x : ℕ). ofFields binary32 (leb 2147483648 b) x (b % 8388608)) p ∙ ap (λ (t : ℕ). ofFields binary32 (leb 2147483648 b) 255 t) q
+  field-inf p q = ap (λ (x : ℕ). ofFields binary32 (leb 2147483648 b) x (b % 8388608)) p
+      ∙ ap (λ (t : ℕ). ofFields binary32 (leb 2147483648 b) 255 t) q
 
   pub field-nan : b % 2147483648 / 8388608 ≡ 255 → (b % 8388608 ≡ 0 → ⊥) → ofBits binary32 b ≡ nan
   unfolding ofBits ofFields
@@ -67,7 +68,8 @@ module _ (b : ℕ) where
   pub field-subnormal : b % 2147483648 / 8388608 ≡ 0 → IsFinite (ofBits binary32 b) (leb 2147483648 b) (b % 8388608) 0
   unfolding ofBits ofFields
   field-subnormal p = record {
-    value = subst⁻¹ (λ (x : ℕ). HasValue (ofFields binary32 (leb 2147483648 b) x (b % 8388608)) (leb 2147483648 b) (b % 8388608 * 1) (2 ^ 149)) p
+    value = subst⁻¹ (λ (x : ℕ).
+        HasValue (ofFields binary32 (leb 2147483648 b) x (b % 8388608)) (leb 2147483648 b) (b % 8388608 * 1) (2 ^ 149)) p
         (odd-sign 24 (leb 2147483648 b) (b % 8388608) 0 149);
     short = omega arith;
     near = omega arith;
@@ -78,7 +80,8 @@ module _ (b : ℕ) where
   unfolding ofFields
   normal s zero t h k = absurd (k refl)
   normal s (suc n) t h k =
-      subst⁻¹ (λ (d : Bool). HasValue (cond d (cond (eqb t 0) (inf s) nan) (odd 24 s (8388608 + t) n 149)) s ((t + 8388608) * 2 ^ (suc n - 1)) (2 ^ 149))
+      subst⁻¹ (λ (d : Bool).
+      HasValue (cond d (cond (eqb t 0) (inf s) nan) (odd 24 s (8388608 + t) n 149)) s ((t + 8388608) * 2 ^ (suc n - 1)) (2 ^ 149))
       (ne-eqb (suc n) 255 h)
       (subst (λ (a : ℕ). HasValue (odd 24 s (8388608 + t) n 149) s a (2 ^ 149))
       (ap (λ (a : ℕ). a * 2 ^ n) (omega arith) ∙ ap (λ (j : ℕ). (t + 8388608) * 2 ^ j) (omega arith)) (odd-sign 24 s (8388608 + t) n 149))
@@ -105,7 +108,8 @@ abbrev pub Parts : Float → Type 0
 Parts x = (s : Bool) × (t : ℕ) × (k : ℕ) × IsFinite x s t k
 
 pub parts : (x : Float) → T (fits binary32 x) → T (finite x) → Parts x
-parts x f h = subst Parts (ofBits-toBits binary32 x f) (by (toBits binary32 x) (subst⁻¹ (λ (y : Float). T (finite y)) (ofBits-toBits binary32 x f) h))
+parts x f h = subst Parts (ofBits-toBits binary32 x f)
+    (by (toBits binary32 x) (subst⁻¹ (λ (y : Float). T (finite y)) (ofBits-toBits binary32 x f) h))
   where
     by : (b : ℕ) → T (finite (ofBits binary32 b)) → Parts (ofBits binary32 b)
     by b h = elim (eq-or-ne (b % 2147483648 / 8388608) 255) [

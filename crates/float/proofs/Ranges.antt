@@ -43,7 +43,8 @@ module _ (max : ℕ) (z : ℤ) where
 module _ (s : Bool) (q max : ℕ) where
   pub beyond-negative : s ≡ true → max + 1 < q → OutOfRange ≡ within max (signed s q)
   beyond-negative e h =
-      is-beyond max (negℤ (pos q)) (subst⁻¹ (λ (n : ℕ). max < n) (mag-negative q) (omega arith)) ∙ ap (λ (b : Bool). within max (signed b q)) (sym e)
+      is-beyond max (negℤ (pos q)) (subst⁻¹ (λ (n : ℕ). max < n) (mag-negative q) (omega arith))
+      ∙ ap (λ (b : Bool). within max (signed b q)) (sym e)
 
   pub beyond-positive : s ≡ false → max < q → OutOfRange ≡ within max (signed s q)
   beyond-positive e h = is-beyond max (pos q) h ∙ ap (λ (b : Bool). within max (signed b q)) (sym e)
@@ -65,4 +66,5 @@ module _ (q : ℕ) (small : q ≤ 65536) where
       ∙ ap (λ (b : Bool). within max (signed b q)) (sym e)
 
   pub is-positive : (s : Bool) (max : ℕ) → s ≡ false → q ≤ max → Is (toZ w32 q) ≡ within max (signed s q)
-  is-positive s max e h = ap Is (toZ-pos w32 {n = q} (omega arith)) ∙ is-within max (pos q) h ∙ ap (λ (b : Bool). within max (signed b q)) (sym e)
+  is-positive s max e h = ap Is (toZ-pos w32 {n = q} (omega arith)) ∙ is-within max (pos q) h
+      ∙ ap (λ (b : Bool). within max (signed b q)) (sym e)

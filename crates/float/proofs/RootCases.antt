@@ -37,11 +37,13 @@ module _ (s : Bool) (a : ℕ) where
   root-zero (inf t) v z = absurd v
   root-zero (fin t zero e) v z = refl
   root-zero (fin t (suc m) e) v z =
-      absurd (none (suc m * up e * 2 ^ 149) (mul-pos (mul-pos {m = suc m} (omega arith) (up-pos e)) (pow-pos 149)) (v .1 ∙ ap (λ (n : ℕ). n * down e) z ∙ zero-mul (down e)))
+      absurd (none (suc m * up e * 2 ^ 149) (mul-pos (mul-pos {m = suc m} (omega arith) (up-pos e)) (pow-pos 149)) (v .1
+      ∙ ap (λ (n : ℕ). n * down e) z ∙ zero-mul (down e)))
 
   module _ (some : 0 < a) where
     above : (t : Bool) (e : ℤ) → HasValue (fin t zero e) s a (2 ^ 149) → ⊥
-    above t e v = none (a * down e) (mul-pos some (down-pos e)) (sym (v .1) ∙ ap (λ (n : ℕ). n * 2 ^ 149) (zero-mul (up e)) ∙ zero-mul (2 ^ 149))
+    above t e v = none (a * down e) (mul-pos some (down-pos e)) (sym (v .1) ∙ ap (λ (n : ℕ). n * 2 ^ 149) (zero-mul (up e))
+        ∙ zero-mul (2 ^ 149))
 
     root-negative : (x : Float) {r : Float} → HasValue x s a (2 ^ 149) → s ≡ true → r ≡ ofBits binary32 2143289344 → r ≡ sqrtOf x
     unfolding sqrtOf

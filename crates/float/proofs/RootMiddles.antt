@@ -1,4 +1,5 @@
--- In units of the least value: the middle of the rounded root and a value below it lies below the root, and with a value above it above. Assumes nothing.
+-- In units of the least value: the middle of the rounded root and a value below it lies below the root, and with a value above it above.
+-- Assumes nothing.
 use mathlib.Core.Path.{_≡_, sym, _∙_, ap, subst, subst⁻¹}
 use mathlib.Core.Logic.{_⊎_, inl, inr}
 use Prim.Native.Nat.{ℕ, _+_, _-_, _*_, _%_, _^_, _<_, _≤_}
@@ -13,7 +14,8 @@ use Rattle.float.proofs.Fractions.{power-split}
 use Rattle.float.proofs.LastDigit.{odd-square}
 use Rattle.float.proofs.Tests.{lt-or-le}
 
--- ---- A binary32 value of y units, beside c * (2 * p) units with p = 2 ^ g: it is a multiple of 2 * p, or it has fewer than 24 digits above p.
+-- ---- A binary32 value of y units, beside c * (2 * p) units with p = 2 ^ g: it is a multiple of 2 * p, or it has fewer than 24 digits
+-- above p.
 abbrev pub OnGrid : ℕ → ℕ → Type 0
 OnGrid y p = ((h : ℕ) × (y ≡ h * (2 * p))) ⊎ (y ≤ 16777215 * p)
 
@@ -41,24 +43,28 @@ module _ (c p y : ℕ) (from : 8388608 ≤ c) (grid : OnGrid y p) where
 
   gap-above : c * (2 * p) < y → c * (2 * p) + 2 * p ≤ y
   gap-above l = elim grid [
-    | inl m ↦ subst⁻¹ (λ (n : ℕ). c * (2 * p) + 2 * p ≤ n) (m .1) (next-multiple c (m .0) (2 * p) (subst (λ (n : ℕ). c * (2 * p) < n) (m .1) l))
+    | inl m ↦ subst⁻¹ (λ (n : ℕ). c * (2 * p) + 2 * p ≤ n) (m .1)
+        (next-multiple c (m .0) (2 * p) (subst (λ (n : ℕ). c * (2 * p) < n) (m .1) l))
     | inr s ↦ omega (arith, enough)
   ]
 
   -- just below a power of two the values lie twice as close
   gap-below : y < c * (2 * p) → (y + 2 * p ≤ c * (2 * p)) ⊎ ((c ≡ 8388608) × (y + p ≤ c * (2 * p)))
   gap-below l = elim grid [
-    | inl m ↦ inl (subst⁻¹ (λ (n : ℕ). n + 2 * p ≤ c * (2 * p)) (m .1) (next-multiple (m .0) c (2 * p) (subst (λ (n : ℕ). n < c * (2 * p)) (m .1) l)))
+    | inl m ↦ inl (subst⁻¹ (λ (n : ℕ). n + 2 * p ≤ c * (2 * p)) (m .1)
+        (next-multiple (m .0) c (2 * p) (subst (λ (n : ℕ). n < c * (2 * p)) (m .1) l)))
     | inr s ↦ elim (eq-or-lt-of-le from) [
       | inl e ↦ inr (sym e, omega (arith, enough))
       | inr m ↦ inl (omega (arith, mul-le-mul-right (2 * p) m, add-mul 8388608 1 (2 * p)))
     ]
   ]
 
--- ---- m is the even radicand, q its whole root, and 2 * c the even one of q and q + 1: the root lies above 2 * c - 1, which is a, and below 2 * c + 1
+-- ---- m is the even radicand, q its whole root, and 2 * c the even one of q and q + 1: the root lies above 2 * c - 1, which is a, and
+-- below 2 * c + 1
 module _ (m q c a : ℕ) (i : IsRoot m q) (even : m % 2 ≡ 0) (near : (q ≤ 2 * c) × (2 * c ≤ q + 1)) (before : 2 * c ≡ a + 1) where
   less-square : a < q → a * a < q * q
-  less-square l = lt-of-le-of-lt (mul-le-mul-right a (le-of-lt l)) (subst (λ (n : ℕ). n < q * q) (mul-comm a q) (mul-lt-mul-of-pos-right l (omega arith)))
+  less-square l = lt-of-le-of-lt (mul-le-mul-right a (le-of-lt l))
+      (subst (λ (n : ℕ). n < q * q) (mul-comm a q) (mul-lt-mul-of-pos-right l (omega arith)))
 
   middle-under : a * a < m
   middle-under = elim (lt-or-le a q) [
@@ -74,7 +80,8 @@ module _ (s w p m : ℕ) (hp : 0 < p) where
   sum-under : s ≤ w * p → w * w < 4 * m → s * s < 4 * (m * (p * p))
   sum-under h l =
       lt-of-le-of-lt (square-mono h)
-      (lt-of-le-of-lt (le-of-eq (mul-mul-mul-comm w p w p)) (lt-of-lt-of-le (mul-lt-mul-of-pos-right l (mul-pos hp hp)) (le-of-eq (mul-assoc 4 m (p * p)))))
+      (lt-of-le-of-lt (le-of-eq (mul-mul-mul-comm w p w p))
+      (lt-of-lt-of-le (mul-lt-mul-of-pos-right l (mul-pos hp hp)) (le-of-eq (mul-assoc 4 m (p * p)))))
 
   sum-over : w * p ≤ s → 4 * m < w * w → 4 * (m * (p * p)) < s * s
   sum-over h l =
@@ -94,7 +101,8 @@ module _ (m q c p y : ℕ) (hp : 0 < p) (i : IsRoot m q) (even : m % 2 ≡ 0) (n
     where
       one-apart : (a : ℕ) → 2 * c ≡ a + 1 → y + 2 * p ≤ c * (2 * p) → (c * (2 * p) + y) * (c * (2 * p) + y) < 4 * (m * (p * p))
       one-apart a e h =
-          sum-under (c * (2 * p) + y) (2 * a) p m hp (omega (arith, mul-left-comm c 2 p, mul-assoc 2 c p, ap (λ (n : ℕ). n * p) e, add-mul a 1 p, mul-assoc 2 a p))
+          sum-under (c * (2 * p) + y) (2 * a) p m hp
+          (omega (arith, mul-left-comm c 2 p, mul-assoc 2 c p, ap (λ (n : ℕ). n * p) e, add-mul a 1 p, mul-assoc 2 a p))
           (omega (arith, double-square a, middle-under m q c a i even near e))
 
   pub units-above : c * (2 * p) < y → 4 * (m * (p * p)) < (c * (2 * p) + y) * (c * (2 * p) + y)

@@ -1,4 +1,5 @@
--- The rounded root by way of the whole root of the scaled operand: of the 25 digits of that root the last one is rounded off. Assumes nothing.
+-- The rounded root by way of the whole root of the scaled operand: of the 25 digits of that root the last one is rounded off. Assumes
+-- nothing.
 use mathlib.Core.Path.{_≡_, refl, sym, _∙_, ap, subst, subst⁻¹}
 use mathlib.Core.Logic.{⊎-elim}
 use mathlib.Core.Bool.{Bool, true, false, cond}
@@ -24,15 +25,18 @@ use Rattle.float.proofs.LastDigit.{last-digit, root-from, root-to}
 
 -- ---- the digits of a number
 size-exact : (a n : ℕ) → 2 ^ a ≤ n → n < 2 ^ suc a → size n ≡ suc a
-size-exact a n lo hi = le-antisymm (size-le n (suc a) hi) (lt-of-not-le (λ (h : size n ≤ a). not-le-of-lt (lt-of-lt-of-le (size-lt n) (pow-mono h)) lo))
+size-exact a n lo hi =
+    le-antisymm (size-le n (suc a) hi) (lt-of-not-le (λ (h : size n ≤ a). not-le-of-lt (lt-of-lt-of-le (size-lt n) (pow-mono h)) lo))
 
 -- ---- `round`'s grid: n / 2 ^ (l + 1) in units of 2 ^ -l is n / 2
 halve : (n l : ℕ) → n * 2 ^ l / 2 ^ suc l ≡ n / 2
-halve n l = ap (λ (a : ℕ). a / 2 ^ suc l) (mul-comm n (2 ^ l)) ∙ ap (λ (a : ℕ). 2 ^ l * n / a) (pow-suc 2 l) ∙ mul-div-mul-left n 2 (pow-pos l)
+halve n l = ap (λ (a : ℕ). a / 2 ^ suc l) (mul-comm n (2 ^ l)) ∙ ap (λ (a : ℕ). 2 ^ l * n / a) (pow-suc 2 l)
+    ∙ mul-div-mul-left n 2 (pow-pos l)
 
 cancel : (n l g : ℕ) → closest (n * 2 ^ l) (2 ^ suc l * 2 ^ (g + 1)) ≡ closest n (2 * (2 * 2 ^ g))
 cancel n l g =
-    closest-same (n * 2 ^ l) (2 ^ suc l * 2 ^ (g + 1)) n (2 * (2 * 2 ^ g)) (mul-pos (pow-pos (suc l)) (pow-pos (g + 1))) (omega (arith, pow-pos g))
+    closest-same (n * 2 ^ l) (2 ^ suc l * 2 ^ (g + 1)) n (2 * (2 * 2 ^ g)) (mul-pos (pow-pos (suc l)) (pow-pos (g + 1)))
+    (omega (arith, pow-pos g))
     (ap (λ (a : ℕ). n * 2 ^ l * a) (shape (2 ^ g)) ∙ mul-assoc n (2 ^ l) (2 * (2 ^ g * 2))
     ∙ ap (λ (a : ℕ). n * a)
     (sym (mul-assoc (2 ^ l) 2 (2 ^ g * 2)) ∙ ap (λ (a : ℕ). a * (2 ^ g * 2)) (sym (pow-suc 2 l))
@@ -47,7 +51,8 @@ unfolding toBits
 bits-value nan a v = absurd v
 bits-value (inf t) a v = absurd v
 bits-value (fin t m e) a v =
-    ap (λ (n : ℕ). cond t (top binary32) 0 + (size n - 24) * 8388608 + n / 2 ^ (size n - 24)) (ap (λ (n : ℕ). n / down e) (v .1) ∙ mul-div-cancel a (down-pos e))
+    ap (λ (n : ℕ). cond t (top binary32) 0 + (size n - 24) * 8388608 + n / 2 ^ (size n - 24)) (ap (λ (n : ℕ). n / down e) (v .1)
+    ∙ mul-div-cancel a (down-pos e))
     ∙ ap (λ (b : Bool). cond b (top binary32) 0 + (size a - 24) * 8388608 + a / 2 ^ (size a - 24)) (v .0) ∙ omega arith
 
 module _ (c j : ℕ) where
@@ -63,11 +68,13 @@ module _ (c j : ℕ) where
           (subst (λ (n : ℕ). c * 2 ^ j < 2 ^ n) (omega arith) (shl-lt 24 j hi)))
           ∙ omega arith
 
-bits-of : (c j : ℕ) → 8388608 ≤ c → c ≤ 16777216 → (size (c * 2 ^ j) - 24) * 8388608 + c * 2 ^ j / 2 ^ (size (c * 2 ^ j) - 24) ≡ j * 8388608 + c
+bits-of : (c j : ℕ) → 8388608 ≤ c → c ≤ 16777216
+    → (size (c * 2 ^ j) - 24) * 8388608 + c * 2 ^ j / 2 ^ (size (c * 2 ^ j) - 24) ≡ j * 8388608 + c
 bits-of c j lo hi = ⊎-elim full (bits-at c j (c * 2 ^ j) refl lo) (eq-or-lt-of-le hi)
   where
     full : c ≡ 16777216 → (size (c * 2 ^ j) - 24) * 8388608 + c * 2 ^ j / 2 ^ (size (c * 2 ^ j) - 24) ≡ j * 8388608 + c
-    full e = bits-at 8388608 (j + 1) (c * 2 ^ j) (omega (arith, ap (λ (n : ℕ). n * 2 ^ j) e, pow-add 2 j 1)) (omega arith) (omega arith) ∙ omega arith
+    full e = bits-at 8388608 (j + 1) (c * 2 ^ j) (omega (arith, ap (λ (n : ℕ). n * 2 ^ j) e, pow-add 2 j 1)) (omega arith) (omega arith)
+        ∙ omega arith
 
 -- ---- what a sticky bit says
 sticky-le : (b : Bool) → cond {0} b 0 1 ≤ 1
@@ -98,7 +105,9 @@ module _ (t k m g q : ℕ) (d : IsScaled t (k + 149) m g) (i : IsRoot m q) where
   module _ (r s : ℕ) (j : IsRoot (m * (2 ^ g * 2 ^ g)) r) (hs : s ≤ 1) (ex : s ≡ 0 → r * r ≡ m * (2 ^ g * 2 ^ g)) where
     root-size : size r ≡ 25 + g
     root-size =
-        size-exact (24 + g) r (le-trans (le-of-eq (pow-add 2 24 g)) (le-trans (mul-le-mul-right (2 ^ g) (root-25 .0)) (root-from m (2 ^ g) q r (pow-pos g) i j)))
+        size-exact (24 + g) r
+        (le-trans (le-of-eq (pow-add 2 24 g))
+        (le-trans (mul-le-mul-right (2 ^ g) (root-25 .0)) (root-from m (2 ^ g) q r (pow-pos g) i j)))
         (subst (λ (n : ℕ). r < n) (sym (ap (λ (n : ℕ). 2 ^ n) (omega arith) ∙ pow-add 2 25 g))
         (lt-of-lt-of-le (root-to m (2 ^ g) q r (pow-pos g) i j) (le-trans (le-of-eq next) (mul-le-mul-right (2 ^ g) (root-25 .1)))))
         ∙ omega arith
@@ -138,5 +147,7 @@ module _ (t k m g q : ℕ) (d : IsScaled t (k + 149) m g) (i : IsRoot m q) where
 
   pub root-bits : ofBits binary32 ((g + 1) * 8388608 + (q + 1) / 2) ≡ rootOfUnits (t * 2 ^ k)
   root-bits =
-      ap (ofBits binary32) (sym (bits-value (rootOfUnits (t * 2 ^ k)) ((q + 1) / 2 * 2 ^ (g + 1)) root-value ∙ bits-of ((q + 1) / 2) (g + 1) (half-24 .0) (half-24 .1)))
+      ap (ofBits binary32)
+      (sym (bits-value (rootOfUnits (t * 2 ^ k)) ((q + 1) / 2 * 2 ^ (g + 1)) root-value
+      ∙ bits-of ((q + 1) / 2) (g + 1) (half-24 .0) (half-24 .1)))
       ∙ ofBits-toBits binary32 (rootOfUnits (t * 2 ^ k)) root-fits

@@ -1,4 +1,5 @@
--- t * 2 ^ e as m * 4 ^ g with a larger m turn by turn, until m has 49 digits: the loop of `scale`, and that every t above 0 is so scaled. Assumes nothing.
+-- t * 2 ^ e as m * 4 ^ g with a larger m turn by turn, until m has 49 digits: the loop of `scale`, and that every t above 0 is so scaled.
+-- Assumes nothing.
 use mathlib.Core.Path.{_≡_, refl, sym, _∙_, ap, subst}
 use mathlib.Core.Logic.{inl, inr}
 use Prim.Native.Nat.{ℕ, zero, suc, _+_, _-_, _*_, _/_, _%_, _^_, _<_, _≤_}
@@ -49,7 +50,8 @@ module _ (t e : ℕ) (pre : (0 < t) × ((t < 16777216) × ((149 ≤ e) × (e < 4
 
   module _ (m : ℕ) where
     pub shift-left : (g : ℕ) → Scaling t e m g → m < 281474976710656 → 1 ≤ g
-    shift-left zero i h = absurd (none m (t * 2 ^ e) h (i .same) (mul-le-mul {n₁ = 1} {m₁ = 2 ^ 60} (pre .0) (pow-mono {i = 60} (omega arith))))
+    shift-left zero i h =
+        absurd (none m (t * 2 ^ e) h (i .same) (mul-le-mul {n₁ = 1} {m₁ = 2 ^ 60} (pre .0) (pow-mono {i = 60} (omega arith))))
       where
         none : (m n : ℕ) → m < 281474976710656 → m * 1 ≡ n → 2 ^ 60 ≤ n → ⊥
         none m n h e l = omega arith

@@ -38,8 +38,10 @@ whole-fits w r max x h e = record { sfits = lt-of-le-of-lt (whole-mag r max x e)
 
 -- ---- OPEN's size
 module _ (z : ℤ) (f : SFits w32 z) where
-  pub size-cast : ltZ (pos 0) (toZ w32 (ofZ w32 z)) ≡ true → mag z < 65536 → T (nonNeg (toZ w32 (ofZ w32 z))) × Fits w16 (natAbs (toZ w32 (ofZ w32 z)))
-  size-cast h l = subst⁻¹ (λ (y : ℤ). T (nonNeg y) × Fits w16 (natAbs y)) (toZ-ofZ f) (by z (subst (λ (y : ℤ). ltZ (pos 0) y ≡ true) (toZ-ofZ f) h) l)
+  pub size-cast : ltZ (pos 0) (toZ w32 (ofZ w32 z)) ≡ true → mag z < 65536 → T (nonNeg (toZ w32 (ofZ w32 z)))
+      × Fits w16 (natAbs (toZ w32 (ofZ w32 z)))
+  size-cast h l = subst⁻¹ (λ (y : ℤ). T (nonNeg y)
+      × Fits w16 (natAbs y)) (toZ-ofZ f) (by z (subst (λ (y : ℤ). ltZ (pos 0) y ≡ true) (toZ-ofZ f) h) l)
     where
       by : (y : ℤ) → ltZ (pos 0) y ≡ true → mag y < 65536 → T (nonNeg y) × Fits w16 (natAbs y)
       by (pos n) h l = (tt, record { fits = l })

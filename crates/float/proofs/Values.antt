@@ -26,10 +26,12 @@ use Rattle.float.proofs.Tests.{and-true, ltb-same, zero-product}
 
 -- ---- from a significand and an exponent to a size
 module _ (a k : ℕ) {q : ℕ} where
-  pub size-left : (r : Rounding) (s : Bool) → a < 2 ^ 32 → k < 158 → 149 ≤ k → q ≡ a * 2 ^ (k - 149) % 2 ^ 64 → q ≡ wholeSize r s (a * 2 ^ k) (2 ^ 149)
+  pub size-left : (r : Rounding) (s : Bool) → a < 2 ^ 32 → k < 158 → 149 ≤ k → q ≡ a * 2 ^ (k - 149) % 2 ^ 64
+      → q ≡ wholeSize r s (a * 2 ^ k) (2 ^ 149)
   size-left r s h l m e = e ∙ shl-exact 32 (k - 149) 64 h (omega arith) ∙ whole-shifted-left r s a k 149 m
 
-  pub size-right : (r t : Rounding) (s : Bool) → r ≡ t → k ≤ 149 → q ≡ wholeSize t s a (2 ^ (149 - k)) → q ≡ wholeSize r s (a * 2 ^ k) (2 ^ 149)
+  pub size-right : (r t : Rounding) (s : Bool) → r ≡ t → k ≤ 149 → q ≡ wholeSize t s a (2 ^ (149 - k))
+      → q ≡ wholeSize r s (a * 2 ^ k) (2 ^ 149)
   size-right r t s e l h = h ∙ whole-shifted-right t s a k 149 l ∙ ap (λ (v : Rounding). wholeSize v s (a * 2 ^ k) (2 ^ 149)) (sym e)
 
 -- ---- a value x that is ±a / c
@@ -57,11 +59,13 @@ module _ (s : Bool) (a c : ℕ) (hc : 0 < c) where
 
       zeros : eqb m 0 ≡ eqb a 0
       zeros =
-          sym (zero-product m (up e) (up-pos e)) ∙ sym (zero-product (m * up e) c hc) ∙ ap (λ (n : ℕ). eqb n 0) (v .1) ∙ zero-product a (down e) (down-pos e)
+          sym (zero-product m (up e) (up-pos e)) ∙ sym (zero-product (m * up e) c hc) ∙ ap (λ (n : ℕ). eqb n 0) (v .1)
+          ∙ zero-product a (down e) (down-pos e)
 
       overs : ltb (4294967040 * down e) (m * up e) ≡ ltb (4294967040 * c) a
       overs =
-          ltb-same (4294967040 * down e) (m * up e) (4294967040 * c) a (fraction-le a c (m * up e) (down e) 4294967040 (down-pos e) (sym (v .1)))
+          ltb-same (4294967040 * down e) (m * up e) (4294967040 * c) a
+          (fraction-le a c (m * up e) (down e) 4294967040 (down-pos e) (sym (v .1)))
           (fraction-le (m * up e) (down e) a c 4294967040 hc (v .1))
 
       hundreds : halfAway (100 * (m * up e)) (down e) ≡ halfAway (100 * a) c
@@ -77,29 +81,36 @@ module _ {x : Float} {s : Bool} {t k : ℕ} (d : IsFinite x s t k) where
   at-least : 158 ≤ k → 4294967296 * 2 ^ 149 ≤ t * 2 ^ k
   at-least h = mul-le-mul {n₁ = 8388608} {m₁ = 2 ^ 158} (d .full (omega arith)) (pow-mono h)
 
-  pub whole-finite : (r : Rounding) (max : ℕ) {q : ℕ} {o : Whole} → q ≡ wholeSize r s (t * 2 ^ k) (2 ^ 149) → o ≡ within max (signed s q) → o ≡ wholeOf r max x
-  whole-finite r max e h = h ∙ ap (λ (n : ℕ). within max (signed s n)) e ∙ whole-of-value s (t * 2 ^ k) (2 ^ 149) (pow-pos 149) r max x (d .value)
+  pub whole-finite : (r : Rounding) (max : ℕ) {q : ℕ} {o : Whole} → q ≡ wholeSize r s (t * 2 ^ k) (2 ^ 149) → o ≡ within max (signed s q)
+      → o ≡ wholeOf r max x
+  whole-finite r max e h = h ∙ ap (λ (n : ℕ). within max (signed s n)) e
+      ∙ whole-of-value s (t * 2 ^ k) (2 ^ 149) (pow-pos 149) r max x (d .value)
 
   pub whole-large : (r : Rounding) (max : ℕ) → max < 65536 → 158 ≤ k → OutOfRange ≡ wholeOf r max x
-  whole-large r max m h = whole-finite r max refl (too-large s (wholeSize r s (t * 2 ^ k) (2 ^ 149)) max (lt-of-lt-of-le (omega arith) beyond))
+  whole-large r max m h =
+      whole-finite r max refl (too-large s (wholeSize r s (t * 2 ^ k) (2 ^ 149)) max (lt-of-lt-of-le (omega arith) beyond))
     where
       beyond : 4294967296 ≤ wholeSize r s (t * 2 ^ k) (2 ^ 149)
-      beyond = le-trans (le-div-iff-mul-le {k = 2 ^ 149} {x = 4294967296} (pow-pos 149) .1 (at-least h)) (cut-least (t * 2 ^ k) (2 ^ 149) (pow-pos 149) r s)
+      beyond = le-trans (le-div-iff-mul-le {k = 2 ^ 149} {x = 4294967296} (pow-pos 149) .1 (at-least h))
+          (cut-least (t * 2 ^ k) (2 ^ 149) (pow-pos 149) r s)
 
   at-value : printedFraction (s && not (eqb t 0)) (t * 2 ^ k) (2 ^ 149) ≡ printedOf x
   at-value =
       ap (λ (b : Bool). printedFraction (s && not b) (t * 2 ^ k) (2 ^ 149)) (sym (zero-product t (2 ^ k) (pow-pos k)))
       ∙ printed-of-value s (t * 2 ^ k) (2 ^ 149) (pow-pos 149) x (d .value)
 
-  printed-hundredths : (b : Bool) {h : ℕ} → k < 158 → b ≡ (s && not (eqb t 0)) → h ≡ halfAway (100 * t * 2 ^ k) (2 ^ 149) → printed.Hundredths b h ≡ printedOf x
+  printed-hundredths : (b : Bool) {h : ℕ} → k < 158 → b ≡ (s && not (eqb t 0)) → h ≡ halfAway (100 * t * 2 ^ k) (2 ^ 149)
+      → printed.Hundredths b h ≡ printedOf x
   printed-hundredths b l e u =
       ap (λ (n : ℕ). printed.Hundredths b n) (u ∙ ap (λ (n : ℕ). halfAway n (2 ^ 149)) (mul-assoc 100 t (2 ^ k)))
       ∙ ap (λ (y : Bool). printed.Hundredths y (halfAway (100 * (t * 2 ^ k)) (2 ^ 149))) e
-      ∙ ap (λ (y : Bool). cond y (printed.Overflow (s && not (eqb t 0))) (printed.Hundredths (s && not (eqb t 0)) (halfAway (100 * (t * 2 ^ k)) (2 ^ 149))))
+      ∙ ap (λ (y : Bool). cond y (printed.Overflow (s && not (eqb t 0)))
+      (printed.Hundredths (s && not (eqb t 0)) (halfAway (100 * (t * 2 ^ k)) (2 ^ 149))))
       (sym (le-ltb _ _ (at-most l)))
       ∙ at-value
 
-  pub printed-minus : {h : ℕ} → k < 158 → s ≡ true → h ≡ halfAway (100 * t * 2 ^ k) (2 ^ 149) → printed.Hundredths (not (eqb t 0)) h ≡ printedOf x
+  pub printed-minus : {h : ℕ} → k < 158 → s ≡ true → h ≡ halfAway (100 * t * 2 ^ k) (2 ^ 149)
+      → printed.Hundredths (not (eqb t 0)) h ≡ printedOf x
   printed-minus l e u = printed-hundredths (not (eqb t 0)) l (ap (λ (b : Bool). b && not (eqb t 0)) (sym e)) u
 
   pub printed-plus : {h : ℕ} → k < 158 → s ≡ false → h ≡ halfAway (100 * t * 2 ^ k) (2 ^ 149) → printed.Hundredths s h ≡ printedOf x
@@ -108,7 +119,8 @@ module _ {x : Float} {s : Bool} {t k : ℕ} (d : IsFinite x s t k) where
   pub printed-overflow : 158 ≤ k → printed.Overflow s ≡ printedOf x
   printed-overflow h =
       ap printed.Overflow (sym (full-sign s t (d .full (omega arith))))
-      ∙ ap (λ (y : Bool). cond y (printed.Overflow (s && not (eqb t 0))) (printed.Hundredths (s && not (eqb t 0)) (halfAway (100 * (t * 2 ^ k)) (2 ^ 149))))
+      ∙ ap (λ (y : Bool). cond y (printed.Overflow (s && not (eqb t 0)))
+      (printed.Hundredths (s && not (eqb t 0)) (halfAway (100 * (t * 2 ^ k)) (2 ^ 149))))
       (sym (lt-ltb _ _ (lt-of-lt-of-le more (at-least h))))
       ∙ at-value
     where

@@ -7,8 +7,8 @@ use Rattle.float.specs.Whole.{halfAway}
 use Rattle.float.specs.declared.print.Printed.{Printed}
 use Rattle.float.specs.declared.print.Printed.the-variants.{NotANumber, Infinite, Overflow, Hundredths}
 
--- Document 01: "FLOAT to the nearest hundredth, half away from zero, two decimals, '-' if below zero; [..] "ovf" above 4294967040 and "-ovf" below its
--- negative." ±n / d, where below says whether it is below zero.
+-- Document 01: "FLOAT to the nearest hundredth, half away from zero, two decimals, '-' if below zero; [..] "ovf" above
+-- 4294967040 and "-ovf" below its negative." ±n / d, where below says whether it is below zero.
 abbrev pub printedFraction : Bool → ℕ → ℕ → Printed
 printedFraction below n d = cond (ltb (4294967040 * d) n) (Overflow below) (Hundredths below (halfAway (100 * n) d))
 

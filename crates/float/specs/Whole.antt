@@ -21,8 +21,8 @@ abbrev pub directed : Bool → ℕ → ℕ → ℕ
 directed true n d = (n + (d - 1)) / d
 directed false n d = n / d
 
--- Document 01: "TOINT and TOCHAR of a FLOAT cut toward zero; ROUND goes half away from zero." FLOOR goes down, CEIL up. The size of the whole number for ±n / d,
--- where s says whether it is negative.
+-- Document 01: "TOINT and TOCHAR of a FLOAT cut toward zero; ROUND goes half away from zero." FLOOR goes down, CEIL up.
+-- The size of the whole number for ±n / d, where s says whether it is negative.
 abbrev pub wholeSize : Rounding → Bool → ℕ → ℕ → ℕ
 wholeSize TowardZero s n d = directed false n d
 wholeSize HalfAway s n d = halfAway n d
@@ -33,7 +33,8 @@ abbrev pub signed : Bool → ℕ → ℤ
 signed false q = pos q
 signed true q = negℤ (pos q)
 
--- Document 01: "conversion of NaN or to a whole outside the type's range". max is the type's greatest whole; its least is -max - 1.
+-- Document 01: "conversion of NaN or to a whole outside the type's range". max is the type's greatest whole; its least
+-- is -max - 1.
 abbrev pub inRange : ℕ → ℤ → Bool
 inRange max z = leZ (negsuc max) z && leZ z (pos max)
 

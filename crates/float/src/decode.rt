@@ -7,7 +7,8 @@ pub const UNIT: u64 = 149;
 // From this exponent on, the size of a value is above 4294967040.
 pub const LARGE: u64 = 158;
 
-// A finite value is significand * 2^exponent times 2^-149, the smallest value; the first field says whether it has the minus sign.
+// A finite value is significand * 2^exponent times 2^-149, the smallest value; the first field says whether it has the
+// minus sign.
 pub enum Decoded {
     NotANumber,
     Infinite(bool),

@@ -9,7 +9,8 @@ use crate::decode::Decoded;
 use crate::decode::UNIT;
 use crate::decode::decode;
 
-// significand * 2^exponent as radicand * 4^shift, the radicand even, from 2^48 up and below 2^50: its root has 25 digits, one more than a FLOAT.
+// significand * 2^exponent as radicand * 4^shift, the radicand even, from 2^48 up and below 2^50: its root has 25
+// digits, one more than a FLOAT.
 pub struct Scaled {
     pub radicand: u64,
     pub shift: u64,
@@ -28,7 +29,8 @@ fn scale(significand: u64, exponent: u64) -> Scaled
     Scaled { radicand, shift }
 }
 
-// The root of significand * 2^exponent smallest values. Its 25th digit decides the rounding: no even radicand has an odd root.
+// The root of significand * 2^exponent smallest values. Its 25th digit decides the rounding: no even radicand has an
+// odd root.
 fn positive_root(significand: u64, exponent: u64) -> f32
     requires { ⌜ (0 < significand) × ((significand < 2 ^ 24) × (exponent < 254)) ⌝ }
     ensures { λ r. ⌜ r ≡ rootOfUnits (significand * 2 ^ exponent) ⌝ }

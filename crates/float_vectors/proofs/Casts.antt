@@ -23,7 +23,8 @@ record Flipped (y : ℤ) : Type 0 where
 
 module _ (z : ℤ) (f : SFits w32 z) where
   pub cast-nonneg : leZ (pos 0) (toZ w32 (ofZ w32 z)) ≡ true → T (nonNeg (toZ w32 (ofZ w32 z))) × Fits w64 (natAbs (toZ w32 (ofZ w32 z)))
-  cast-nonneg h = subst⁻¹ (λ (y : ℤ). T (nonNeg y) × Fits w64 (natAbs y)) (toZ-ofZ f) (by z f (subst (λ (y : ℤ). leZ (pos 0) y ≡ true) (toZ-ofZ f) h))
+  cast-nonneg h = subst⁻¹ (λ (y : ℤ). T (nonNeg y)
+      × Fits w64 (natAbs y)) (toZ-ofZ f) (by z f (subst (λ (y : ℤ). leZ (pos 0) y ≡ true) (toZ-ofZ f) h))
     where
       by : (y : ℤ) → SFits w32 y → leZ (pos 0) y ≡ true → T (nonNeg y) × Fits w64 (natAbs y)
       by (pos n) g h = (tt, record { fits = omega (arith, g .sfits) })
@@ -43,7 +44,8 @@ module _ (z : ℤ) (f : SFits w32 z) where
     seen : toZ w32 (ofZ w32 (negsuc 0 -ℤ toZ w32 (ofZ w32 z))) ≡ pos (flipped h .n)
     seen = toZ-ofZ flip-fits ∙ flipped h .is
 
-    pub cast-flip : T (nonNeg (toZ w32 (ofZ w32 (negsuc 0 -ℤ toZ w32 (ofZ w32 z))))) × Fits w64 (natAbs (toZ w32 (ofZ w32 (negsuc 0 -ℤ toZ w32 (ofZ w32 z)))))
+    pub cast-flip : T (nonNeg (toZ w32 (ofZ w32 (negsuc 0 -ℤ toZ w32 (ofZ w32 z)))))
+        × Fits w64 (natAbs (toZ w32 (ofZ w32 (negsuc 0 -ℤ toZ w32 (ofZ w32 z)))))
     cast-flip = subst⁻¹ (λ (y : ℤ). T (nonNeg y) × Fits w64 (natAbs y)) seen (tt, record { fits = omega (arith, flipped h .small) })
 
     pub flip-below : natAbs (toZ w32 (ofZ w32 (negsuc 0 -ℤ toZ w32 (ofZ w32 z)))) ≤ 4294967295

@@ -1,4 +1,5 @@
-// Reads patterns of FLOAT, four bytes each, and writes a line for each with what the proved functions answer: tools/float_vectors/generate.py says which field is what.
+// Reads patterns of FLOAT, four bytes each, and writes a line for each with what the proved functions answer:
+// tools/float_vectors/generate.py says which field is what.
 ghost use Prim.Native.Nat.{_+_, _≤_};
 use float::bits::from_bytes;
 use float::bits::to_bits;

@@ -37,7 +37,8 @@ module _ (w : Width) where
   quotient-fits (pos a) (negsuc b) f h = omega (arith, mag-negated (a / suc b), div-le-self a (suc b), f .sfits)
   quotient-fits (negsuc a) (pos b) f h = omega (arith, mag-negated (suc a / b), div-le-self (suc a) b, f .sfits)
   quotient-fits (negsuc a) (negsuc zero) f h = absurd (h refl)
-  quotient-fits (negsuc a) (negsuc (suc b)) f h = omega (arith, div-lt-self {n = suc a} {k = suc (suc b)} (omega arith) (omega arith), f .sfits)
+  quotient-fits (negsuc a) (negsuc (suc b)) f h =
+      omega (arith, div-lt-self {n = suc a} {k = suc (suc b)} (omega arith) (omega arith), f .sfits)
 
   -- the least number is its own negative, modulo the width
   least-negated : (a : ℤ) → SFits w a → ofZ w a ≡ 2 ^ hbits w → residue (2 ^ bits w) (negℤ a) ≡ ofZ w a
@@ -98,8 +99,10 @@ module _ (w : Width) (a b : ℤ) (fa : SFits w a) (fb : SFits w b) where
     pub quotient-negates : {r : ℤ} → r ≡ wrapped w (negℤ (toZ w (ofZ w a))) → toZ w (ofZ w r) ≡ wrapped w (quotZ a b)
     quotient-negates e =
         reads-wrapped w (quotZ a b)
-        (e ∙ ap (λ (y : ℤ). wrapped w (negℤ y)) (toZ-ofZ fa) ∙ ap (wrapped w) (sym (ap (quotZ a) (minus-one w b fb h) ∙ quotient-by-minus-one a)))
+        (e ∙ ap (λ (y : ℤ). wrapped w (negℤ y)) (toZ-ofZ fa)
+        ∙ ap (wrapped w) (sym (ap (quotZ a) (minus-one w b fb h) ∙ quotient-by-minus-one a)))
 
     pub remainder-vanishes : pos 0 ≡ wrapped w (remZ a b)
     remainder-vanishes =
-        sym (ap (wrapped w) (ap (remZ a) (minus-one w b fb h) ∙ remainder-by-minus-one a) ∙ wrapped-same w (pos 0) (record { sfits = pow-pos (hbits w) }))
+        sym (ap (wrapped w) (ap (remZ a) (minus-one w b fb h) ∙ remainder-by-minus-one a)
+        ∙ wrapped-same w (pos 0) (record { sfits = pow-pos (hbits w) }))

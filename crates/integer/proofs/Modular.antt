@@ -4,8 +4,10 @@ use mathlib.Core.Path.{_≡_, sym, _∙_, ap, subst⁻¹}
 use mathlib.Core.Logic.{⊎-elim}
 use Prim.Native.Nat.{ℕ, zero, suc, _+_, _-_, _*_, _/_, _%_, _<_, _^_}
 use native.Mathlib.Omega.{arith}
-use native.Mathlib.Nat.{add-mul, mul-right-comm, suc-mul, eq-or-lt-of-le, le-of-lt, lt-of-le-of-lt, mul-le-mul-left, mul-lt-mul-of-pos-right}
-use native.Mathlib.Nat.{mod-lt, mod-eq-of-lt, mod-self, suc-mod, mod-add-mod, add-mod-mod, add-mod-right, mod-add-div', add-mul-mod-self-right, zero-mod}
+use native.Mathlib.Nat.{add-mul, mul-right-comm, suc-mul, eq-or-lt-of-le, le-of-lt, lt-of-le-of-lt, mul-le-mul-left}
+use native.Mathlib.Nat.{mul-lt-mul-of-pos-right}
+use native.Mathlib.Nat.{mod-lt, mod-eq-of-lt, mod-self, suc-mod, mod-add-mod, add-mod-mod, add-mod-right, mod-add-div'}
+use native.Mathlib.Nat.{add-mul-mod-self-right, zero-mod}
 use lib.IntN.{ℤ, pos, negsuc, sucℤ, predℤ, _+ℤ_, _-ℤ_, _*ℤ_, suc-pred, +ℤ-sucℤ, +ℤ-idr, zero-*ℤ, sucℤ-*ℤ, predℤ-*ℤ, -ℤ-+ℤ-cancel}
 use lib.Pow.{pow-pos, pow-add}
 use mir.Syntax.{Width}
@@ -32,7 +34,8 @@ module _ (m : ℕ) (h : 0 < m) where
   suc-complement : (a : ℕ) → a < m → suc (m - suc (suc a % m)) % m ≡ m - suc a
   suc-complement a k =
       ⊎-elim
-      (λ (e : suc a ≡ m). ap (λ (x : ℕ). suc (m - suc x) % m) (ap (λ (y : ℕ). y % m) e ∙ mod-self m) ∙ ap (λ (y : ℕ). y % m) (omega arith) ∙ mod-self m ∙ omega arith)
+      (λ (e : suc a ≡ m). ap (λ (x : ℕ). suc (m - suc x) % m) (ap (λ (y : ℕ). y % m) e ∙ mod-self m) ∙ ap (λ (y : ℕ). y % m) (omega arith)
+      ∙ mod-self m ∙ omega arith)
       (λ (l : suc a < m). ap (λ (x : ℕ). suc (m - suc x) % m) (mod-eq-of-lt l) ∙ mod-eq-of-lt (omega arith) ∙ omega arith)
       (eq-or-lt-of-le k)
 
@@ -47,23 +50,27 @@ module _ (m : ℕ) (h : 0 < m) where
       back : (x : ℕ) → x < m → x ≡ (suc x % m + (m - 1)) % m
       back x p = sym (mod-add-mod (suc x) m (m - 1) ∙ ap (λ (u : ℕ). u % m) (omega arith) ∙ add-mod-right x m ∙ mod-eq-of-lt p)
 
-  add-suc : (a b : ℤ) → residue m (a +ℤ b) ≡ (residue m a + residue m b) % m → residue m (a +ℤ sucℤ b) ≡ (residue m a + residue m (sucℤ b)) % m
+  add-suc : (a b : ℤ) → residue m (a +ℤ b) ≡ (residue m a + residue m b) % m
+      → residue m (a +ℤ sucℤ b) ≡ (residue m a + residue m (sucℤ b)) % m
   add-suc a b e =
       ap (residue m) (+ℤ-sucℤ a b) ∙ residue-suc (a +ℤ b) ∙ ap (λ (u : ℕ). suc u % m) e
       ∙ sym (suc-mod (residue m a + residue m b) m) ∙ ap (λ (u : ℕ). u % m) (omega arith)
       ∙ sym (add-mod-mod (residue m a) (suc (residue m b)) m) ∙ ap (λ (u : ℕ). (residue m a + u) % m) (sym (residue-suc b))
 
-  add-pred : (a b : ℤ) → residue m (a +ℤ b) ≡ (residue m a + residue m b) % m → residue m (a +ℤ predℤ b) ≡ (residue m a + residue m (predℤ b)) % m
+  add-pred : (a b : ℤ) → residue m (a +ℤ b) ≡ (residue m a + residue m b) % m
+      → residue m (a +ℤ predℤ b) ≡ (residue m a + residue m (predℤ b)) % m
   add-pred a b e =
       suc-injective _ _ (residue-lt (a +ℤ predℤ b)) (mod-lt _ h)
       (sym (residue-suc (a +ℤ predℤ b)) ∙ ap (residue m) (sym (+ℤ-sucℤ a (predℤ b)) ∙ ap (λ (y : ℤ). a +ℤ y) (suc-pred b)) ∙ e
       ∙ ap (λ (u : ℕ). (residue m a + u) % m) (ap (residue m) (sym (suc-pred b)) ∙ residue-suc (predℤ b))
-      ∙ add-mod-mod (residue m a) (suc (residue m (predℤ b))) m ∙ ap (λ (u : ℕ). u % m) (omega arith) ∙ suc-mod (residue m a + residue m (predℤ b)) m)
+      ∙ add-mod-mod (residue m a) (suc (residue m (predℤ b))) m ∙ ap (λ (u : ℕ). u % m) (omega arith)
+      ∙ suc-mod (residue m a + residue m (predℤ b)) m)
 
   pub residue-add : (a b : ℤ) → residue m (a +ℤ b) ≡ (residue m a + residue m b) % m
   residue-add a b =
       by-steps (λ (z : ℤ). residue m (a +ℤ z) ≡ (residue m a + residue m z) % m)
-      (ap (residue m) (+ℤ-idr a) ∙ sym (ap (λ (u : ℕ). (residue m a + u) % m) residue-zero ∙ ap (λ (u : ℕ). u % m) (omega arith) ∙ mod-eq-of-lt (residue-lt a)))
+      (ap (residue m) (+ℤ-idr a)
+      ∙ sym (ap (λ (u : ℕ). (residue m a + u) % m) residue-zero ∙ ap (λ (u : ℕ). u % m) (omega arith) ∙ mod-eq-of-lt (residue-lt a)))
       (λ z e. add-suc a z e) (λ z e. add-pred a z e) b
 
   -- the one residue that b's, added to it, makes a's
@@ -73,10 +80,12 @@ module _ (m : ℕ) (h : 0 < m) where
       ∙ sym (back (residue m (a -ℤ b)) (residue-lt (a -ℤ b)))
     where
       back : (x : ℕ) → x < m → x ≡ ((x + residue m b) % m + (m - residue m b)) % m
-      back x p = sym (mod-add-mod (x + residue m b) m (m - residue m b) ∙ ap (λ (u : ℕ). u % m) (omega (arith, residue-lt b)) ∙ add-mod-right x m ∙ mod-eq-of-lt p)
+      back x p = sym (mod-add-mod (x + residue m b) m (m - residue m b) ∙ ap (λ (u : ℕ). u % m) (omega (arith, residue-lt b))
+          ∙ add-mod-right x m ∙ mod-eq-of-lt p)
 
   mod-mul : (x y : ℕ) → x % m * y % m ≡ x * y % m
-  mod-mul x y = sym (add-mul-mod-self-right (x % m * y) (x / m * y) m) ∙ ap (λ (u : ℕ). u % m) (regroup (x % m) (x / m) y ∙ ap (λ (u : ℕ). u * y) (mod-add-div' x m))
+  mod-mul x y = sym (add-mul-mod-self-right (x % m * y) (x / m * y) m)
+      ∙ ap (λ (u : ℕ). u % m) (regroup (x % m) (x / m) y ∙ ap (λ (u : ℕ). u * y) (mod-add-div' x m))
     where
       regroup : (p q y : ℕ) → p * y + q * y * m ≡ (p + q * m) * y
       regroup p q y = sym (add-mul p (q * m) y ∙ ap (λ (u : ℕ). p * y + u) (mul-right-comm q m y))
@@ -90,7 +99,8 @@ module _ (m : ℕ) (h : 0 < m) where
   mul-suc : (a b : ℤ) → residue m (a *ℤ b) ≡ residue m a * residue m b % m → residue m (sucℤ a *ℤ b) ≡ residue m (sucℤ a) * residue m b % m
   mul-suc a b e = ap (residue m) (sucℤ-*ℤ a b) ∙ residue-add (a *ℤ b) b ∙ ap (λ (u : ℕ). (u + residue m b) % m) e ∙ one-more a b
 
-  mul-pred : (a b : ℤ) → residue m (a *ℤ b) ≡ residue m a * residue m b % m → residue m (predℤ a *ℤ b) ≡ residue m (predℤ a) * residue m b % m
+  mul-pred : (a b : ℤ) → residue m (a *ℤ b) ≡ residue m a * residue m b % m
+      → residue m (predℤ a *ℤ b) ≡ residue m (predℤ a) * residue m b % m
   mul-pred a b e =
       ap (residue m) (predℤ-*ℤ a b)
       ∙ sym (residue-sub (a *ℤ b) b (residue m (predℤ a) * residue m b % m) (mod-lt _ h)
@@ -99,7 +109,8 @@ module _ (m : ℕ) (h : 0 < m) where
   pub residue-mul : (a b : ℤ) → residue m (a *ℤ b) ≡ residue m a * residue m b % m
   residue-mul a b =
       by-steps (λ (z : ℤ). residue m (z *ℤ b) ≡ residue m z * residue m b % m)
-      (ap (residue m) (zero-*ℤ b) ∙ residue-zero ∙ sym (ap (λ (u : ℕ). u * residue m b % m) residue-zero ∙ ap (λ (u : ℕ). u % m) (omega arith) ∙ zero-mod m))
+      (ap (residue m) (zero-*ℤ b) ∙ residue-zero
+      ∙ sym (ap (λ (u : ℕ). u * residue m b % m) residue-zero ∙ ap (λ (u : ℕ). u % m) (omega arith) ∙ zero-mod m))
       (λ z e. mul-suc z b e) (λ z e. mul-pred z b e) a
 
 -- two numbers of k bits have a product of at most k + k
@@ -132,7 +143,8 @@ module _ (w : Width) where
 -- the three wrapping operations: x and y are the bits of a and b as the calls give them, q the bits of the result, r its reading
 module _ (w : Width) (a b : ℤ) (fa : SFits w a) (fb : SFits w b) where
   -- g on the bits is g on the residues
-  on-bits : (g : ℕ → ℕ → ℕ) {x y : ℕ} → x ≡ ofZ w (toZ w (ofZ w a)) → y ≡ ofZ w (toZ w (ofZ w b)) → g x y ≡ g (residue (2 ^ bits w) a) (residue (2 ^ bits w) b)
+  on-bits : (g : ℕ → ℕ → ℕ) {x y : ℕ} → x ≡ ofZ w (toZ w (ofZ w a)) → y ≡ ofZ w (toZ w (ofZ w b))
+      → g x y ≡ g (residue (2 ^ bits w) a) (residue (2 ^ bits w) b)
   on-bits g {x} {y} ex ey =
       ap (λ (n : ℕ). g n y) (ex ∙ ap (ofZ w) (toZ-ofZ fa) ∙ sym (residue-bits w a fa))
       ∙ ap (λ (n : ℕ). g (residue (2 ^ bits w) a) n) (ey ∙ ap (ofZ w) (toZ-ofZ fb) ∙ sym (residue-bits w b fb))

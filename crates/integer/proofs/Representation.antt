@@ -73,7 +73,8 @@ module _ (w : Width) (z : ℤ) (f : SFits w z) (h : leZ (pos 0) (toZ w (ofZ w z)
   pub negative-difference : SFits w (negsuc 0 -ℤ toZ w (ofZ w z))
   negative-difference = subst⁻¹ (SFits w) difference mag-fits
 
-  pub negative-casts : T (nonNeg (toZ w (ofZ w (negsuc 0 -ℤ toZ w (ofZ w z))))) × Fits w (natAbs (toZ w (ofZ w (negsuc 0 -ℤ toZ w (ofZ w z)))))
+  pub negative-casts : T (nonNeg (toZ w (ofZ w (negsuc 0 -ℤ toZ w (ofZ w z)))))
+      × Fits w (natAbs (toZ w (ofZ w (negsuc 0 -ℤ toZ w (ofZ w z)))))
   negative-casts = subst⁻¹ (λ (y : ℤ). T (nonNeg y) × Fits w (natAbs y)) difference-read (tt, fits-ofZ mag-fits)
 
   pub negative-at-most : natAbs (toZ w (ofZ w (negsuc 0 -ℤ toZ w (ofZ w z)))) ≤ 2 ^ bits w - 1

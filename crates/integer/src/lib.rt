@@ -1,5 +1,6 @@
-// Whole numbers of 8 and 16 bits: their bits and bytes, the operations whose exact result is kept modulo 256 or 65,536, and
-// division that cuts toward zero. Each contract gives the definition of specs/Modular.antt, or the library's, at its width.
+// Whole numbers of 8 and 16 bits: their bits and bytes, the operations whose exact result is kept modulo 256 or 65,536,
+// and division that cuts toward zero. Each contract gives the definition of specs/Modular.antt, or the library's, at
+// its width.
 ghost use mathlib.Core.Path.{_≡_};
 ghost use mir.Syntax.{w8, w16};
 ghost use mir.Val.{toZ, ofZ};
@@ -132,8 +133,8 @@ pub fn negate16(a: i16) -> i16
     if a == -32768 { a } else { -a }
 }
 
-// Document 01: "DIVIDEDBY on whole numbers cuts toward zero". The one quotient that does not fit is that of the least number by
-// −1, so a divisor of −1 is a negation.
+// Document 01: "DIVIDEDBY on whole numbers cuts toward zero". The one quotient that does not fit is that of the least
+// number by −1, so a divisor of −1 is a negation.
 pub fn quotient8(a: i8, b: i8) -> i8
     requires { ⌜ (b ≡ pos 0 → ⊥) ⌝ }
     ensures { λ r. ⌜ r ≡ wrapped w8 (quotZ a b) ⌝ }

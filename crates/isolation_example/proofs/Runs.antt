@@ -58,7 +58,8 @@ record Computed (i n : ℕ) (calls : List Invocation) (rest : List Event) : Type
   rest-is : rest ≡ drop (suc n) (events calls empty)
   inside : ltb n (length (events calls empty)) ≡ true
   gives : givesOut i (getD (events calls empty) n none) ≡ true
-  program : fileNamed (getD (events calls empty) n none .before .disc) (startName (getD (events calls empty) n none .call) (getD (events calls empty) n none .before)) ≡ hours
+  program : fileNamed (getD (events calls empty) n none .before .disc)
+      (startName (getD (events calls empty) n none .call) (getD (events calls empty) n none .before)) ≡ hours
   undisturbed : Undisturbed i rest
   inputs-are : inputs (notRefused (watch i rest)) ≡ fed
 
@@ -69,13 +70,21 @@ started i n calls rest c =
       earlier = take n es;
       start = getD es n none;
       later = [];
-      splits = split-at es n none (ltb-true n (length es) (c .inside)) ∙ ap (λ (l : List Event). take n es ++ (getD es n none ∷ l)) (sym (c .rest-is) ∙ sym (append-nil rest));
+      splits = split-at es n none (ltb-true n (length es) (c .inside))
+          ∙ ap (λ (l : List Event). take n es ++ (getD es n none ∷ l)) (sym (c .rest-is) ∙ sym (append-nil rest));
       gives = c .gives;
       program = c .program;
     }
 
-runs : Computed 1 1 alone restAlone × Computed 5 12 beside restBeside × (length (watch 1 restAlone) ≡ 11) × (getD (observations (notRefused (watch 1 restAlone))) 7 (declined (pos 0)) ≡ printed)
-unfolding none restAlone restBeside placeIn givesOut lacksSpace turnDisturbs writeLands events turnEvents watch answer storeAnswer checked lookup index entryAt tab goodDisc goodFiles goodEntry goodField goodName besideEntry all pairs apart fits lowest place placeOf admission entered erased writtenAt readAt goodArea goodKernel goodHeader goodProcess goodLive goodRegisters goodFile isProgram otherId goodVariables goodVariable goodSize besideVariable kernelOf kernelBytes variablesOf flat inUse any keep ended turned carriedOut answered owned freed assigned placeFor placing added exec performs find instructionOf operatorOf lookupOperator takenBy operates settle pop popNumber popString wellFormed trimmed same unary binary whole wrapped wholeBits convertedFloat numberOf textOf printedOf wholeOf lastDigits ofBits ofFields trailingZeros commanded turnIfRunning turnsOf single starting endedSlot slotOf
+runs : Computed 1 1 alone restAlone × Computed 5 12 beside restBeside × (length (watch 1 restAlone) ≡ 11)
+    × (getD (observations (notRefused (watch 1 restAlone))) 7 (declined (pos 0)) ≡ printed)
+unfolding none restAlone restBeside placeIn givesOut lacksSpace turnDisturbs writeLands events turnEvents watch answer storeAnswer checked
+    lookup index entryAt tab goodDisc goodFiles goodEntry goodField goodName besideEntry all pairs apart fits lowest place placeOf admission
+    entered erased writtenAt readAt goodArea goodKernel goodHeader goodProcess goodLive goodRegisters goodFile isProgram otherId
+    goodVariables goodVariable goodSize besideVariable kernelOf kernelBytes variablesOf flat inUse any keep ended turned carriedOut answered
+    owned freed assigned placeFor placing added exec performs find instructionOf operatorOf lookupOperator takenBy operates settle pop
+    popNumber popString wellFormed trimmed same unary binary whole wrapped wholeBits convertedFloat numberOf textOf printedOf wholeOf
+    lastDigits ofBits ofFields trailingZeros commanded turnIfRunning turnsOf single starting endedSlot slotOf
 runs = (
   record { rest-is = refl; inside = refl; gives = refl; program = refl; undisturbed = refl; inputs-are = refl },
   record { rest-is = refl; inside = refl; gives = refl; program = refl; undisturbed = refl; inputs-are = refl },
@@ -87,7 +96,8 @@ runs = (
 alike : observations (notRefused (watch 1 restAlone)) ≡ observations (notRefused (watch 5 restBeside))
 unfolding Isolation
 alike =
-    isolated empty empty alone beside 1 5 hours restAlone restBeside (started 1 1 alone restAlone (runs .0)) (started 5 12 beside restBeside (runs .1)) (runs .0 .undisturbed) (runs .1 .undisturbed)
+    isolated empty empty alone beside 1 5 hours restAlone restBeside (started 1 1 alone restAlone (runs .0))
+    (started 5 12 beside restBeside (runs .1)) (runs .0 .undisturbed) (runs .1 .undisturbed)
     (runs .0 .inputs-are ∙ sym (runs .1 .inputs-are)) .0
 
 pub example-holds : Example

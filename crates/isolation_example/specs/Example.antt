@@ -1,5 +1,6 @@
--- Two runs in which all that demand 3 supposes holds, so that the claim is not empty: one process alone, started by run, and the same program under
--- another name, ID and slot, started by another's FORK within a round, beside neighbours that use its variable's name, print, fork and write a file.
+-- Two runs in which all that demand 3 supposes holds, so that the claim is not empty: one process alone, started by
+-- run, and the same program under another name, ID and slot, started by another's FORK within a round, beside
+-- neighbours that use its variable's name, print, fork and write a file.
 use Prim.Native.Nat.{ℕ}
 use mathlib.Core.Path.{_≡_}
 use mathlib.Core.List.{List, [], _∷_}
@@ -40,12 +41,15 @@ abbrev pub alone : List Invocation
 alone =
     lend (store (104 ∷ []) hours) ∷ lend (run (104 ∷ [])) ∷
     lend (turn 0 1) ∷ lend (command suspend 1) ∷ lend (command suspend 1) ∷ lend (command resume 1) ∷
-    lend (turn 0 2) ∷ lend (turn 0 3) ∷ lend (turn 0 4) ∷ lend (turn 0 5) ∷ lend (turn 0 6) ∷ lend (turn 0 7) ∷ lend (command kill 1) ∷ []
+    lend (turn 0 2) ∷ lend (turn 0 3) ∷ lend (turn 0 4) ∷ lend (turn 0 5) ∷ lend (turn 0 6) ∷ lend (turn 0 7) ∷ lend
+    (command kill 1) ∷ []
 
--- ID 5 in slot 4, by rounds: in the second one the meddler forks ID 4 and the starter ID 5, which has its first turn in that round
+-- ID 5 in slot 4, by rounds: in the second one the meddler forks ID 4 and the starter ID 5, which has its first turn in
+-- that round
 abbrev pub beside : List Invocation
 beside =
-    lend (store (108 ∷ []) lamp) ∷ lend (store (109 ∷ []) meddler) ∷ lend (store (99 ∷ []) hours) ∷ lend (store (115 ∷ []) starter) ∷
+    lend (store (108 ∷ []) lamp) ∷ lend (store (109 ∷ []) meddler) ∷ lend (store (99 ∷ []) hours) ∷ lend
+    (store (115 ∷ []) starter) ∷
     lend (run (108 ∷ [])) ∷ lend (run (109 ∷ [])) ∷ lend (run (115 ∷ [])) ∷
     lend (round 50) ∷ lend (round 1) ∷ lend (command suspend 5) ∷ lend (round 99) ∷ lend (command resume 5) ∷
     lend (round 2) ∷ lend (round 3) ∷ lend (round 4) ∷ lend (round 5) ∷ lend (round 6) ∷ lend (round 7) ∷ []

@@ -37,10 +37,44 @@ use Rattle.machine.specs.State.{ended}
 use Rattle.machine.specs.Turn.{turned}
 
 rows-hold : Every cases × Every misreadings
-unfolding turns after single exec instructionOf operatorOf lookupOperator takenBy operates settle pop wellFormed trimmed same unary binary whole wrapped wholeBits convertedFloat numberOf textOf printedOf wholeOf lastDigits ofBits ofFields trailingZeros answer formatAnswer storeAnswer checked lookup index entryAt tab flat goodDisc goodFiles goodEntry goodField goodName beside all pairs apart fits lowest place placeOf admission entered erased writtenAt goodArea goodKernel goodHeader goodProcess otherId goodVariables kernelOf inUse any keep ended turned owned freed assigned placeFor placing added
+unfolding turns after single exec instructionOf operatorOf lookupOperator takenBy operates settle pop wellFormed trimmed same unary binary
+    whole wrapped wholeBits convertedFloat numberOf textOf printedOf wholeOf lastDigits ofBits ofFields trailingZeros answer formatAnswer
+    storeAnswer checked lookup index entryAt tab flat goodDisc goodFiles goodEntry goodField goodName beside all pairs apart fits lowest
+    place placeOf admission entered erased writtenAt goodArea goodKernel goodHeader goodProcess otherId goodVariables kernelOf inUse any
+    keep ended turned owned freed assigned placeFor placing added
 rows-hold = (
-  ((refl, refl), ((refl, refl), ((refl, refl), ((refl, refl), ((refl, refl), ((refl, refl), ((refl, refl), ((refl, refl), ((refl, refl), ((refl, refl), ((refl, refl), ((refl, refl), ((refl, refl), (refl, (refl, tt))))))))))))))),
-  ((refl, refl), ((refl, refl), ((refl, refl), ((refl, refl), ((refl, refl), (refl, ((refl, refl), ((refl, refl), ((refl, refl), tt))))))))),
+  (
+    (refl, refl),
+    (
+      (refl, refl),
+      (
+        (refl, refl),
+        (
+          (refl, refl),
+          (
+            (refl, refl),
+            (
+              (refl, refl),
+              (
+                (refl, refl),
+                (
+                  (refl, refl),
+                  ((refl, refl), ((refl, refl), ((refl, refl), ((refl, refl), ((refl, refl), (refl, (refl, tt))))))),
+                ),
+              ),
+            ),
+          ),
+        ),
+      ),
+    ),
+  ),
+  (
+    (refl, refl),
+    (
+      (refl, refl),
+      ((refl, refl), ((refl, refl), ((refl, refl), (refl, ((refl, refl), ((refl, refl), ((refl, refl), tt))))))),
+    ),
+  ),
 )
 
 pub bench-holds : Bench

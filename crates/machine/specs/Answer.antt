@@ -13,7 +13,8 @@ use Rattle.store.specs.Directory.{entryAt, files as entries, goodDisc, isDiscLe
 use Rattle.store.specs.File.{erased, unless}
 use Rattle.machine.specs.Area.{isAreaLength, kernelBytes, kernelOf}
 use Rattle.machine.specs.GoodArea.{goodKernel}
-use Rattle.machine.specs.Operations.{Command, Commanded, becomes, refused as declined, commanded, inUse, listText, slots, turnsOf}
+use Rattle.machine.specs.Operations.{Command, Commanded, becomes, refused as declined, commanded, inUse, listText}
+use Rattle.machine.specs.Operations.{slots, turnsOf}
 use Rattle.machine.specs.Start.{Starting, starts, refuses, started, starting}
 use Rattle.machine.specs.State.{isRunning, processAt}
 use Rattle.machine.specs.Turn.{Turned, turned}
@@ -88,7 +89,8 @@ commandAnswer (declined n) b = refused n b
 commandAnswer (becomes k) b = done 0 k (b .disc) [] b
 
 abbrev pub listAnswer : List ℕ → Buffers → Answer
-listAnswer text b = withRoom (length text) b (record { number = pos (length text); disc = b .disc; area = b .area; out = overwrite (b .out) 0 text })
+listAnswer text b = withRoom (length text) b
+    (record { number = pos (length text); disc = b .disc; area = b .area; out = overwrite (b .out) 0 text })
 
 abbrev pub turnedAnswer : Turned → Buffers → Answer
 turnedAnswer t b = done (length (t .out)) (t .kernel) (t .disc) (t .out) b
@@ -122,7 +124,8 @@ abbrev pub booted : List ℕ
 booted = set (replicate 1056 0) 407 1
 
 unfoldable pub bootAnswer : Buffers → Answer
-bootAnswer b = unless (isAreaLength (length (b .area))) (refused 1 b) (record { number = pos 0; disc = b .disc; area = booted; out = b .out })
+bootAnswer b = unless (isAreaLength (length (b .area))) (refused 1 b)
+    (record { number = pos 0; disc = b .disc; area = booted; out = b .out })
 
 -- Document 01: "Format zeroes the disc, then boots."
 unfoldable pub formatAnswer : Buffers → Answer

@@ -29,7 +29,14 @@ abbrev pub AreBytes : List ℕ → Type 0
 AreBytes l = (i : ℕ) → getD l i 0 < 256
 
 abbrev pub variableOf : List ℕ → Variable
-variableOf b = record { name = getD b 0 0; kind = getD b 1 0; address = getD b 2 0; size = getD b 3 0; owner = wordAt b 4 }
+variableOf b = record {
+  name = getD b 0 0;
+  kind = getD b 1 0;
+  address = getD b 2 0;
+  size = getD b 3 0;
+  owner =
+      wordAt b 4;
+}
 
 abbrev pub variableBytes : Variable → List ℕ
 variableBytes e = e .name ∷ e .kind ∷ e .address ∷ e .size ∷ wordBytes (e .owner)
@@ -53,14 +60,19 @@ processOf b =
 -- the twenty bytes between name and stack
 abbrev pub registerBytes : Process → List ℕ
 registerBytes p =
-    wordBytes (p .id) ++ (p .state ∷ p .fault ∷ []) ++ wordBytes (p .code .start) ++ wordBytes (p .code .len) ++ wordBytes (p .pc) ++ wordBytes (p .loopstart)
+    wordBytes (p .id) ++ (p .state ∷ p .fault ∷ []) ++ wordBytes (p .code .start) ++ wordBytes (p .code .len)
+    ++ wordBytes (p .pc) ++ wordBytes (p .loopstart)
     ++ wordBytes (p .file .start) ++ wordBytes (p .file .len) ++ wordBytes (p .file .offset) ++ (p .sp ∷ p .spare ∷ [])
 
 abbrev pub processBytes : Process → List ℕ
 processBytes p = p .name ++ registerBytes p ++ p .stack
 
 unfoldable pub variablesOf : List ℕ → Variables
-variablesOf area = record { memory = take 256 area; entries = tab (λ i. variableOf (part area (256 + i * 6) 6)) 25; count = getD area 406 0 }
+variablesOf area = record {
+  memory = take 256 area;
+  entries = tab (λ i. variableOf (part area (256 + i * 6) 6)) 25;
+  count = getD area 406 0;
+}
 
 unfoldable pub kernelOf : List ℕ → Kernel
 unfolding variablesOf
@@ -74,7 +86,8 @@ kernelOf area =
 
 unfoldable pub kernelBytes : Kernel → List ℕ
 kernelBytes k =
-    k .variables .memory ++ flat variableBytes (k .variables .entries) ++ (k .variables .count ∷ []) ++ wordBytes (k .next) ++ k .zeros
+    k .variables .memory ++ flat variableBytes (k .variables .entries) ++ (k .variables .count ∷ [])
+    ++ wordBytes (k .next) ++ k .zeros
     ++ flat processBytes (k .processes)
 
 -- the area's bytes are those of the state that it says

@@ -1,5 +1,5 @@
--- Document 01's bench cases K1 to K12: one table with one statement. What a program leaves is seen twice: of the single process, and of the
--- kernel's turns.
+-- Document 01's bench cases K1 to K12: one table with one statement. What a program leaves is seen twice: of the single
+-- process, and of the kernel's turns.
 use Prim.Native.Nat.{ℕ, zero, suc}
 use mathlib.Core.Path.{_≡_}
 use mathlib.Core.Bool.{cond}
@@ -54,14 +54,16 @@ seenAlone stopped = refused
 abbrev pub alone : List ℕ → ℕ → Result
 alone program n = seenAlone (turns (λ s. responded (single program s (tick 0))) fresh n)
 
--- ---- of the kernel: started in slot 0, on a list of 161 zeros and then the program. It is no good disc; `turned` reads only the program's part of it.
+-- ---- of the kernel: started in slot 0, on a list of 161 zeros and then the program. It is no good disc; `turned`
+-- reads only the program's part of it.
 abbrev pub loaded : List ℕ → Turned
 loaded program =
     let file : Entry = record { name = padded (110 ∷ []); start = 161; len = length program } in
     record { kernel = started (kernelOf booted) 0 file; disc = replicate 161 0 ++ program; out = [] }
 
 abbrev pub turnOfFirst : Turned → Progress Turned
-turnOfFirst t = let u = turned (t .kernel) 0 0 (t .disc) in cond (isRunning (processAt (t .kernel) 0)) (reached (u .out) u) stopped
+turnOfFirst t = let u = turned (t .kernel) 0 0 (t .disc) in
+    cond (isRunning (processAt (t .kernel) 0)) (reached (u .out) u) stopped
 
 abbrev pub shown : Process → List ℕ → Result
 shown p text = shows (localOf p .stack) (p .fault) text

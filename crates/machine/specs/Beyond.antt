@@ -75,7 +75,8 @@ module _ (k : Kernel) (slot : ℕ) (disc : List ℕ) where
 
   -- Document 01: "size [..] matters only for a new file, whose bytes stay as found"
   abbrev pub openedAt : Found → List ℕ → Number → Local → Answered
-  openedAt (At i) name size l = continues l (opened (record { start = entryAt disc i .start; len = entryAt disc i .len })) disc
+  openedAt (At i) name size l =
+      continues l (opened (record { start = entryAt disc i .start; len = entryAt disc i .len })) disc
   openedAt Nowhere name size l = created (newFileSize disc size) name l
 
   -- ---- WRITE and the READs: "11 no open file; 12 past the file's end"
@@ -87,14 +88,18 @@ module _ (k : Kernel) (slot : ℕ) (disc : List ℕ) where
 
   -- Document 01: "WRITE and variable memory keep a value's bytes in stack order, without length and type."
   abbrev pub written : List ℕ → Local → Answered
-  written bytes l = withOpenFile (inside (length bytes) (continues l (advanced ownFile (length bytes)) (writtenAt disc (fileRun ownFile) (ownFile .offset) bytes)))
+  written bytes l = withOpenFile
+      (inside (length bytes)
+      (continues l (advanced ownFile (length bytes)) (writtenAt disc (fileRun ownFile) (ownFile .offset) bytes)))
 
   -- fault 4 comes after 11 and 12
   abbrev pub received : List ℕ → ℕ → Local → Answered
   received stack n l = unlessBreaks (leb (length stack) 32) 4 (continues (pushed l stack) (advanced ownFile n) disc)
 
   abbrev pub readNumberOf : ℕ → Local → Answered
-  readNumberOf kind l = withOpenFile (inside kind (received (push (l .stack) kind (readAt disc (fileRun ownFile) (ownFile .offset) kind)) kind l))
+  readNumberOf kind l =
+      withOpenFile (inside kind
+      (received (push (l .stack) kind (readAt disc (fileRun ownFile) (ownFile .offset) kind)) kind l))
 
   -- Document 01: "READSTRING seeks its zero before testing the stack."
   abbrev pub readText : Local → Answered
@@ -106,14 +111,17 @@ module _ (k : Kernel) (slot : ℕ) (disc : List ℕ) where
   -- ---- FORK: "pushes INT 0 where run would refuse"
   abbrev pub forked : Starting → Local → Answered
   forked (refuses r) l = carriesOn (withProcess k slot (withLocal (processAt k slot) (pushId l 0))) disc
-  forked (starts child e) l = carriesOn (withProcess (started k child e) slot (withLocal (processAt k slot) (pushId l (k .next)))) disc
+  forked (starts child e) l =
+      carriesOn (withProcess (started k child e) slot (withLocal (processAt k slot) (pushId l (k .next)))) disc
 
   -- ---- WAITUNTILDONE: "stays while a live process has that ID"
   abbrev pub isAwaited : Number → Process → Bool
   isAwaited id p = isLive p && equals id (pos (p .id))
 
   abbrev pub awaited : Number → Local → Local → Answered
-  awaited id stay go = carriesOn (withProcess k slot (withLocal (processAt k slot) (cond (any (isAwaited id) (k .processes)) stay go))) disc
+  awaited id stay go =
+      carriesOn (withProcess k slot (withLocal (processAt k slot) (cond (any (isAwaited id) (k .processes)) stay go)))
+      disc
 
   unfoldable pub answered : Request → Answered
   answered (opens name size l) = openedAt (lookup disc name) name size l

@@ -62,10 +62,12 @@ misreadings =
     runs (1 ∷ 0 ∷ 63 ∷ 1 ∷ 2 ∷ 1 ∷ 9 ∷ 64 ∷ 1 ∷ 7 ∷ []) 3 (shows (7 ∷ 1 ∷ []) 0 []) ∷
     -- "A.3.4 adds the condition length twice": ENDWHILE goes back to the condition
     runs down 29 (shows [] 0 (51 ∷ 10 ∷ 50 ∷ 10 ∷ 49 ∷ 10 ∷ [])) ∷
-    -- "Testing for a full variable table before freeing the old value (6.8)": one of 25 is set again; "a 26th variable gives fault 10"
+    -- "Testing for a full variable table before freeing the old value (6.8)": one of 25 is set again; "a 26th variable
+    -- gives fault 10"
     runs (assignments 25 ++ (1 ∷ 9 ∷ 5 ∷ 0 ∷ 6 ∷ 0 ∷ [])) 53 (shows (9 ∷ 1 ∷ []) 0 []) ∷
     runsInKernel (assignments 26) 52 (shows [] 10 []) ∷
-    -- "A jump measured from the instruction byte and not past its arguments": IF 2 on zero skips CHAR 9 and leaves what it looks at; ELSE 2 on a value not zero likewise
+    -- "A jump measured from the instruction byte and not past its arguments": IF 2 on zero skips CHAR 9 and leaves what
+    -- it looks at; ELSE 2 on a value not zero likewise
     runs (1 ∷ 0 ∷ 60 ∷ 2 ∷ 1 ∷ 9 ∷ 1 ∷ 7 ∷ []) 3 (shows (0 ∷ 1 ∷ 7 ∷ 1 ∷ []) 0 []) ∷
     runs (1 ∷ 1 ∷ 61 ∷ 2 ∷ 1 ∷ 9 ∷ 1 ∷ 7 ∷ []) 3 (shows (1 ∷ 1 ∷ 7 ∷ 1 ∷ []) 0 []) ∷
     -- "Appendix C gives BITWISENOT two operands; it pops one"

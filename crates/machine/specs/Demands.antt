@@ -1,4 +1,5 @@
--- What is demanded of every call beyond its own answer, each in one statement. Demand 3 has a file of its own, Isolation.
+-- What is demanded of every call beyond its own answer, each in one statement. Demand 3 has a file of its own,
+-- Isolation.
 use Prim.Native.Nat.{ℕ, _≤_, _<_}
 use mathlib.Core.Path.{_≡_}
 use mathlib.Core.Bool.{true, false, _&&_}
@@ -12,7 +13,8 @@ use Rattle.number.specs.declared.Number.{Number}
 use Rattle.store.specs.Directory.{fileCount, goodDisc, isDiscLength, taken, lookup}
 use Rattle.variable.specs.Table.{freed, isOf}
 use Rattle.buffer.specs.declared.Found.the-variants.{Nowhere}
-use Rattle.machine.specs.Answer.{Answer, Buffers, Call, store, turn, round, answer, bootAnswer, formatAnswer, refused}
+use Rattle.machine.specs.Answer.{Answer, Buffers, Call, store, turn, round, answer, bootAnswer, formatAnswer}
+use Rattle.machine.specs.Answer.{refused}
 use Rattle.machine.specs.Area.{AreBytes, Whole, isAreaLength, kernelOf}
 use Rattle.machine.specs.Beyond.{newFileSize}
 use Rattle.machine.specs.Effect.{asks, assigns, opens}
@@ -20,7 +22,8 @@ use Rattle.machine.specs.Ending.{Ends, Touched}
 use Rattle.machine.specs.Turn.{effectAt}
 use Rattle.machine.specs.NoPlace.{Lacking, NewFileRefused, NoneFits}
 use Rattle.machine.specs.Refusals.{stateOf, MayTurn, Names, Passes}
-use Rattle.machine.specs.Trace.{Invocation, IsItsEvents, Storage, afterCalls, events, lastStorage, lending, outputText, tenSlots, turnEvents}
+use Rattle.machine.specs.Trace.{Invocation, IsItsEvents, Storage, afterCalls, events, lastStorage, lending}
+use Rattle.machine.specs.Trace.{outputText, tenSlots, turnEvents}
 use Rattle.machine.specs.State.{Local, isRunning, processAt}
 use Rattle.machine.specs.declared.Kernel.{Kernel}
 
@@ -28,10 +31,12 @@ use Rattle.machine.specs.declared.Kernel.{Kernel}
 abbrev pub Unchanged : Answer → Buffers → Type 0
 Unchanged a b = (a .disc ≡ b .disc) × (a .area ≡ b .area) × (a .out ≡ b .out)
 
--- Document 01: "−n is refusal n with both buffers and the output unchanged". n is one that it names for that operation; "format and boot try only 1".
+-- Document 01: "−n is refusal n with both buffers and the output unchanged". n is one that it names for that operation;
+-- "format and boot try only 1".
 unfoldable pub RefusedUnchanged : Type 0
 RefusedUnchanged =
-    ((c : Call) (b : Buffers) → answer c b .number <ℤ pos 0 → Unchanged (answer c b) b × ((n : ℕ) × Names c n × (answer c b .number ≡ negℤ (pos n))))
+    ((c : Call) (b : Buffers) → answer c b .number <ℤ pos 0 → Unchanged (answer c b) b
+    × ((n : ℕ) × Names c n × (answer c b .number ≡ negℤ (pos n))))
     × ((b : Buffers) → formatAnswer b .number <ℤ pos 0 → formatAnswer b ≡ refused 1 b)
     × ((b : Buffers) → bootAnswer b .number <ℤ pos 0 → bootAnswer b ≡ refused 1 b)
 
@@ -41,60 +46,73 @@ abbrev pub turnedState : Buffers → ℕ → ℕ → Kernel
 turnedState b slot clock = kernelOf (answer (turn slot clock) b .area)
 
 abbrev pub EndedOnly : Buffers → ℕ → ℕ → Answer → Type 0
-EndedOnly b slot n a = (a .number ≡ pos 0) × (a .disc ≡ b .disc) × (a .out ≡ b .out) × Touched (stateOf b) slot n (kernelOf (a .area))
+EndedOnly b slot n a = (a .number ≡ pos 0) × (a .disc ≡ b .disc) × (a .out ≡ b .out)
+    × Touched (stateOf b) slot n (kernelOf (a .area))
 
--- Document 01: "A faulting instruction changes nothing but the ending." A turn that does not end its process leaves it running.
+-- Document 01: "A faulting instruction changes nothing but the ending." A turn that does not end its process leaves it
+-- running.
 unfoldable pub FaultTouchesOwn : Type 0
 FaultTouchesOwn =
     (b : Buffers) (slot clock : ℕ) → MayTurn b slot
     → ((n : ℕ) → Ends (stateOf b) slot clock (b .disc) n → EndedOnly b slot n (answer (turn slot clock) b))
-    × (((n : ℕ) × Ends (stateOf b) slot clock (b .disc) n) ⊎ (isRunning (processAt (turnedState b slot clock) slot) ≡ true))
+    × (((n : ℕ) × Ends (stateOf b) slot clock (b .disc) n)
+    ⊎ (isRunning (processAt (turnedState b slot clock) slot) ≡ true))
 
 -- ---- places
 -- Document 01, store: "8 ten files already"
 abbrev pub StoreFull : Type 0
-StoreFull = (b : Buffers) (name bytes : List ℕ) → answer (store name bytes) b .number ≡ negℤ (pos 8) → fileCount (b .disc) ≡ 10
+StoreFull = (b : Buffers) (name bytes : List ℕ) → answer (store name bytes) b .number ≡ negℤ (pos 8)
+    → fileCount (b .disc) ≡ 10
 
 -- Document 01, store: "9 no free run long enough"
 abbrev pub StoreNoRun : Type 0
-StoreNoRun = (b : Buffers) (name bytes : List ℕ) → answer (store name bytes) b .number ≡ negℤ (pos 9) → NoneFits (taken (b .disc)) 161 (length (b .disc)) (length bytes)
+StoreNoRun = (b : Buffers) (name bytes : List ℕ) → answer (store name bytes) b .number ≡ negℤ (pos 9)
+    → NoneFits (taken (b .disc)) 161 (length (b .disc)) (length bytes)
 
 -- after its turn the process runs no more, and its record has that fault
 abbrev pub EndsWith : Buffers → ℕ → ℕ → ℕ → Type 0
-EndsWith b slot clock n = (isRunning (processAt (turnedState b slot clock) slot) ≡ false) × (processAt (turnedState b slot clock) slot .fault ≡ n)
+EndsWith b slot clock n = (isRunning (processAt (turnedState b slot clock) slot) ≡ false)
+    × (processAt (turnedState b slot clock) slot .fault ≡ n)
 
--- Document 01, fault 10: "no variable entry or run". It comes of a SET alone. "SET first frees the old variable"; of the others there are 25, or no
--- address fits
+-- Document 01, fault 10: "no variable entry or run". It comes of a SET alone. "SET first frees the old variable"; of
+-- the others there are 25, or no address fits
 abbrev pub SetNoPlace : Type 0
 SetNoPlace =
     (b : Buffers) (slot clock : ℕ) → MayTurn b slot → EndsWith b slot clock 10
-    → (name : ℕ) × (kind : ℕ) × (bytes : List ℕ) × (l : Local) × (effectAt (stateOf b) slot clock (b .disc) ≡ assigns name kind bytes l)
+    → (name : ℕ) × (kind : ℕ) × (bytes : List ℕ) × (l : Local)
+    × (effectAt (stateOf b) slot clock (b .disc) ≡ assigns name kind bytes l)
     × Lacking (freed (stateOf b .variables) (isOf name (processAt (stateOf b) slot .id))) (length bytes)
 
--- Document 01, fault 13: "OPEN's new file refused by name, size or store's 8 or 9". It comes of an OPEN alone, of a name that is no file's
+-- Document 01, fault 13: "OPEN's new file refused by name, size or store's 8 or 9". It comes of an OPEN alone, of a
+-- name that is no file's
 abbrev pub OpenRefused : Type 0
 OpenRefused =
     (b : Buffers) (slot clock : ℕ) → MayTurn b slot → EndsWith b slot clock 13
-    → (name : List ℕ) × (size : Number) × (l : Local) × (effectAt (stateOf b) slot clock (b .disc) ≡ asks (opens name size l))
+    → (name : List ℕ) × (size : Number) × (l : Local)
+    × (effectAt (stateOf b) slot clock (b .disc) ≡ asks (opens name size l))
     × (lookup (b .disc) name ≡ Nowhere) × NewFileRefused (b .disc) name (newFileSize (b .disc) size)
 
--- a place is refused only where there is none: document 01, strictness c, shuts out a "no run" or a "table full" "said too early"
+-- a place is refused only where there is none: document 01, strictness c, shuts out a "no run" or a "table full" "said
+-- too early"
 unfoldable pub PlacesRefusedOnly : Type 0
 PlacesRefusedOnly = StoreFull × StoreNoRun × SetNoPlace × OpenRefused
 
 -- ---- lengths
 abbrev pub SameLengths : Answer → Buffers → Type 0
-SameLengths a b = (length (a .disc) ≡ length (b .disc)) × (length (a .area) ≡ length (b .area)) × (length (a .out) ≡ length (b .out))
+SameLengths a b = (length (a .disc) ≡ length (b .disc)) × (length (a .area) ≡ length (b .area))
+    × (length (a .out) ≡ length (b .out))
 
 -- every call leaves disc, area and output as long as they were lent, done or refused
 unfoldable pub LengthsKept : Type 0
-LengthsKept = ((c : Call) (b : Buffers) → SameLengths (answer c b) b) × ((b : Buffers) → SameLengths (formatAnswer b) b) × ((b : Buffers) → SameLengths (bootAnswer b) b)
+LengthsKept = ((c : Call) (b : Buffers) → SameLengths (answer c b) b) × ((b : Buffers) → SameLengths (formatAnswer b) b)
+    × ((b : Buffers) → SameLengths (bootAnswer b) b)
 
 -- ---- goodness
 abbrev pub RightLengths : Buffers → Type 0
 RightLengths b = isDiscLength (length (b .disc)) && isAreaLength (length (b .area)) ≡ true
 
--- good buffers stay good under every call; format makes good buffers of any of the right lengths, boot of those that also have a good disc
+-- good buffers stay good under every call; format makes good buffers of any of the right lengths, boot of those that
+-- also have a good disc
 unfoldable pub GoodKept : Type 0
 GoodKept =
     ((c : Call) (b : Buffers) → Passes (b .disc) (b .area) → Passes (answer c b .disc) (answer c b .area))
@@ -104,20 +122,23 @@ GoodKept =
 -- ---- rounds
 -- Document 01, Round: "needs 320 bytes"; lent them on good buffers it is done
 unfoldable pub RoundNeverRefused : Type 0
-RoundNeverRefused = (b : Buffers) (clock : ℕ) → Passes (b .disc) (b .area) → leb 320 (length (b .out)) ≡ true → (n : ℕ) × (answer (round clock) b .number ≡ pos n)
+RoundNeverRefused = (b : Buffers) (clock : ℕ) → Passes (b .disc) (b .area) → leb 320 (length (b .out)) ≡ true → (n : ℕ)
+    × (answer (round clock) b .number ≡ pos n)
 
--- Document 01: "a turn for slots 0 to 9, each if running when reached, under one clock reading, outputs joined". 1,056 bytes are whole, and so is
--- what every call leaves of them.
+-- Document 01: "a turn for slots 0 to 9, each if running when reached, under one clock reading, outputs joined". 1,056
+-- bytes are whole, and so is what every call leaves of them.
 unfoldable pub RoundIsTurns : Type 0
 RoundIsTurns =
     ((s : Storage) (out : List ℕ) (clock n : ℕ) → Whole (s .area) → answer (round clock) (lending s out) .number ≡ pos n
-    → IsItsEvents s out (answer (round clock) (lending s out)) (turnEvents tenSlots clock s (outputText (answer (round clock) (lending s out)))))
+    → IsItsEvents s out (answer (round clock) (lending s out))
+    (turnEvents tenSlots clock s (outputText (answer (round clock) (lending s out)))))
     × ((area : List ℕ) → AreBytes area → length area ≡ 1056 → Whole area)
     × ((s : Storage) (out : List ℕ) (c : Call) → Whole (s .area) → Whole (answer c (lending s out) .area))
 
 -- the events of a run lead where its calls lead, from any disc and any area of bytes, good or not, of any length
 unfoldable pub EventsAreCalls : Type 0
-EventsAreCalls = (calls : List Invocation) (s : Storage) → AreBytes (s .area) → lastStorage s (events calls s) ≡ afterCalls calls s
+EventsAreCalls = (calls : List Invocation) (s : Storage) → AreBytes (s .area)
+    → lastStorage s (events calls s) ≡ afterCalls calls s
 
 -- Document 01, Turn: "at least 32 output bytes" are enough. "Returns the bytes printed"
 unfoldable pub TurnOutputBound : Type 0

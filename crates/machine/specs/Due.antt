@@ -7,7 +7,8 @@ use lib.IntN.{pos}
 use lib.ListN.{length}
 use Rattle.buffer.specs.declared.Found.the-variants.{At, Nowhere}
 use Rattle.place.specs.Place.{fits}
-use Rattle.store.specs.Directory.{contents, entryAt, fileCount, goodDisc, isDiscLength, lookup, runOf, taken, files as entries}
+use Rattle.store.specs.Directory.{contents, entryAt, fileCount, goodDisc, isDiscLength, lookup, runOf, taken}
+use Rattle.store.specs.Directory.{files as entries}
 use Rattle.store.specs.File.{goodSize}
 use Rattle.store.specs.Name.{goodName}
 use Rattle.buffer.specs.Buffer.{overwrite}
@@ -15,7 +16,8 @@ use Rattle.buffer.specs.Lists.{flat}
 use Rattle.store.specs.Answer.{fileLine}
 use Rattle.machine.specs.Turn.{effectAt}
 use Rattle.machine.specs.Effect.{asks, forks}
-use Rattle.machine.specs.Answer.{Buffers, store, erase, run, freeSpace, command, turn, answer, Answer, retrieve, files, list}
+use Rattle.machine.specs.Answer.{Buffers, store, erase, run, freeSpace, command, turn, answer, Answer, retrieve}
+use Rattle.machine.specs.Answer.{files, list}
 use Rattle.machine.specs.NoPlace.{NoneFits}
 use Rattle.machine.specs.Area.{kernelOf}
 use Rattle.machine.specs.Operations.{Command, inUse, listText}
@@ -44,19 +46,22 @@ TurnDue = (b : Buffers) (slot clock : ℕ) → MayTurn b slot → (n : ℕ) × (
 abbrev pub StoreDue : Type 0
 StoreDue =
     (b : Buffers) (name bytes : List ℕ) (start : ℕ) → Usable (b .disc)
-    → goodName name ≡ true → goodSize (b .disc) (length bytes) ≡ true → fileCount (b .disc) < 10 → lookup (b .disc) name ≡ Nowhere
+    → goodName name ≡ true → goodSize (b .disc) (length bytes) ≡ true → fileCount (b .disc) < 10
+    → lookup (b .disc) name ≡ Nowhere
     → fits (taken (b .disc)) 161 (length (b .disc)) (length bytes) start ≡ true
     → (answer (store name bytes) b .number ≡ pos 0) × Holds (answer (store name bytes) b .disc) name bytes
 
 -- Document 01, retrieve: "Returns the length, its bytes written."
 abbrev pub RetrieveDue : Type 0
 RetrieveDue =
-    (b : Buffers) (name : List ℕ) (i : ℕ) → Usable (b .disc) → lookup (b .disc) name ≡ At i → entryAt (b .disc) i .len ≤ length (b .out)
+    (b : Buffers) (name : List ℕ) (i : ℕ) → Usable (b .disc) → lookup (b .disc) name ≡ At i
+    → entryAt (b .disc) i .len ≤ length (b .out)
     → Writes (entryAt (b .disc) i .len) (contents (b .disc) (runOf (entryAt (b .disc) i))) b (answer (retrieve name) b)
 
 -- files and list: an output that holds their text
 abbrev pub FilesDue : Type 0
-FilesDue = (b : Buffers) → Usable (b .disc) → length (filesText b) ≤ length (b .out) → Writes (length (filesText b)) (filesText b) b (answer files b)
+FilesDue = (b : Buffers) → Usable (b .disc) → length (filesText b) ≤ length (b .out)
+    → Writes (length (filesText b)) (filesText b) b (answer files b)
 
 abbrev pub ListDue : Type 0
 ListDue =
@@ -68,34 +73,41 @@ abbrev pub RunDue : Type 0
 RunDue =
     (b : Buffers) (name : List ℕ) (slot i : ℕ) → Passes (b .disc) (b .area)
     → endedSlot (stateOf b) ≡ At slot → lookup (b .disc) name ≡ At i → (stateOf b .next ≡ 32768 → ⊥)
-    → (answer (run name) b .number ≡ pos (stateOf b .next)) × (slotOf (kernelOf (answer (run name) b .area)) (stateOf b .next) ≡ At slot)
+    → (answer (run name) b .number ≡ pos (stateOf b .next))
+    × (slotOf (kernelOf (answer (run name) b .area)) (stateOf b .next) ≡ At slot)
 
 -- the same of FORK: where run would not refuse, the child is started
 abbrev pub ForkDue : Type 0
 ForkDue =
-    (b : Buffers) (slot clock : ℕ) (name : List ℕ) (l : Local) (child i : ℕ) → MayTurn b slot → effectAt (stateOf b) slot clock (b .disc) ≡ asks (forks name l)
+    (b : Buffers) (slot clock : ℕ) (name : List ℕ) (l : Local) (child i : ℕ) → MayTurn b slot
+    → effectAt (stateOf b) slot clock (b .disc) ≡ asks (forks name l)
     → endedSlot (stateOf b) ≡ At child → lookup (b .disc) name ≡ At i → (stateOf b .next ≡ 32768 → ⊥)
     → slotOf (kernelOf (answer (turn slot clock) b .area)) (stateOf b .next) ≡ At child
 
 -- a file of that name that no live process uses
 abbrev pub EraseDue : Type 0
 EraseDue =
-    (b : Buffers) (name : List ℕ) (i : ℕ) → Passes (b .disc) (b .area) → lookup (b .disc) name ≡ At i → inUse (stateOf b) (entryAt (b .disc) i) ≡ false
+    (b : Buffers) (name : List ℕ) (i : ℕ) → Passes (b .disc) (b .area) → lookup (b .disc) name ≡ At i
+    → inUse (stateOf b) (entryAt (b .disc) i) ≡ false
     → (answer (erase name) b .number ≡ pos 0) × (lookup (answer (erase name) b .disc) name ≡ Nowhere)
 
 -- a run that long has a place, no longer one has
 abbrev pub FreeSpaceDue : Type 0
 FreeSpaceDue =
     (b : Buffers) → Usable (b .disc)
-    → (n : ℕ) × (answer freeSpace b .number ≡ pos n) × (0 < n → (start : ℕ) × (fits (taken (b .disc)) 161 (length (b .disc)) n start ≡ true))
+    → (n : ℕ) × (answer freeSpace b .number ≡ pos n)
+    × (0 < n → (start : ℕ) × (fits (taken (b .disc)) 161 (length (b .disc)) n start ≡ true))
     × ((m : ℕ) → n < m → NoneFits (taken (b .disc)) 161 (length (b .disc)) m)
 
 -- a live process of that ID, which is not "already in that state"
 abbrev pub CommandDue : Type 0
 CommandDue =
-    (b : Buffers) (c : Command) (id slot : ℕ) → Passes (b .disc) (b .area) → slotOf (stateOf b) id ≡ At slot → takes c (processAt (stateOf b) slot) ≡ true
+    (b : Buffers) (c : Command) (id slot : ℕ) → Passes (b .disc) (b .area) → slotOf (stateOf b) id ≡ At slot
+    → takes c (processAt (stateOf b) slot) ≡ true
     → answer (command c id) b .number ≡ pos 0
 
--- Document 01, strictness c, shuts out refusals said too early, an invented free space and a store that declines everything
+-- Document 01, strictness c, shuts out refusals said too early, an invented free space and a store that declines
+-- everything
 unfoldable pub DoneWhenDue : Type 0
-DoneWhenDue = TurnDue × StoreDue × RetrieveDue × FilesDue × ListDue × RunDue × ForkDue × EraseDue × FreeSpaceDue × CommandDue
+DoneWhenDue = TurnDue × StoreDue × RetrieveDue × FilesDue × ListDue × RunDue × ForkDue × EraseDue × FreeSpaceDue
+    × CommandDue

@@ -51,7 +51,8 @@ unlessFaults false fault rest = faults fault
 -- Document 01, tried last: "4 stack above 32; 3 jump outside 0 to the code length, or ENDLOOP with no loop"
 abbrev pub land : List ℕ → Found → List ℕ → ℕ → List ℕ → Effect
 land prog Nowhere stack loopstart out = faults 3
-land prog (At pc) stack loopstart out = unlessFaults (leb pc (length prog)) 3 (goes (record { stack = stack; pc = pc; loopstart = loopstart }) out)
+land prog (At pc) stack loopstart out =
+    unlessFaults (leb pc (length prog)) 3 (goes (record { stack = stack; pc = pc; loopstart = loopstart }) out)
 
 unfoldable pub settle : List ℕ → Found → List ℕ → ℕ → List ℕ → Effect
 settle prog target stack loopstart out = unlessFaults (leb (length stack) 32) 4 (land prog target stack loopstart out)

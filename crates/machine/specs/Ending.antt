@@ -21,13 +21,16 @@ use Rattle.machine.specs.declared.Kernel.{Kernel}
 abbrev pub placed : Kernel → ℕ → (name kind : ℕ) → List ℕ → Assigned
 placed k slot name kind bytes = assigned (k .variables) name (processAt k slot .id) (valueOf kind bytes)
 
--- with the fault: STOP's 0, a fault of the instruction itself, 1 to 9, SET's "10 no variable entry or run", a fault that disc or table answer
+-- with the fault: STOP's 0, a fault of the instruction itself, 1 to 9, SET's "10 no variable entry or run", a fault
+-- that disc or table answer
 pub data Ends (k : Kernel) (slot clock : ℕ) (disc : List ℕ) (n : ℕ) : Type 0 where
   stopped : effectAt k slot clock disc ≡ stops → n ≡ 0 → Ends k slot clock disc n
   faulted : effectAt k slot clock disc ≡ faults n → 1 ≤ n → n ≤ 9 → Ends k slot clock disc n
   unplaced : (name kind : ℕ) (bytes : List ℕ) (l : Local) → effectAt k slot clock disc ≡ assigns name kind bytes l
-      → (placed k slot name kind bytes .placing ≡ NoEntry) ⊎ (placed k slot name kind bytes .placing ≡ NoRun) → n ≡ 10 → Ends k slot clock disc n
-  broken : (r : Request) → effectAt k slot clock disc ≡ asks r → answered k slot disc r ≡ breaks n → Ends k slot clock disc n
+      → (placed k slot name kind bytes .placing ≡ NoEntry) ⊎ (placed k slot name kind bytes .placing ≡ NoRun) → n ≡ 10
+      → Ends k slot clock disc n
+  broken : (r : Request) → effectAt k slot clock disc ≡ asks r → answered k slot disc r ≡ breaks n
+      → Ends k slot clock disc n
 
 -- the entries that are not of that process, in table order, addresses included
 abbrev pub entriesOfOthers : ℕ → Variables → List Variable
@@ -41,7 +44,8 @@ pub record Touched (k : Kernel) (slot n : ℕ) (j : Kernel) : Type 0 where
   -- Document 01: "Its record keeps name, ID and fault (0 unless a fault) and is otherwise zero."
   pub own : processAt j slot ≡ endedProcess (processAt k slot) n
   pub other-variables : (id : ℕ) → (id ≡ processAt k slot .id → ⊥) → owned (j .variables) id ≡ owned (k .variables) id
-  pub other-entries : entriesOfOthers (processAt k slot .id) (j .variables) ≡ entriesOfOthers (processAt k slot .id) (k .variables)
+  pub other-entries : entriesOfOthers (processAt k slot .id) (j .variables) ≡ entriesOfOthers (processAt k slot .id)
+      (k .variables)
   -- Document 01: "Ending (STOP, kill, fault) frees the process's variables."
   pub own-variables : owned (j .variables) (processAt k slot .id) ≡ []
   pub next : j .next ≡ k .next

@@ -1,5 +1,5 @@
--- One instruction, as a function of the process alone: its program bytes, the clock, its own state and its own variables.
--- The order of faults is the order of the lines.
+-- One instruction, as a function of the process alone: its program bytes, the clock, its own state and its own
+-- variables. The order of faults is the order of the lines.
 use Prim.Native.Nat.{ℕ, _+_, _-_, _/_, _%_}
 use mathlib.Core.Bool.{Bool, Bool·beq, cond}
 use mathlib.Core.List.{List, [], _∷_, _++_}
@@ -12,8 +12,13 @@ use Rattle.number.specs.Compare.{exceeds}
 use Rattle.number.specs.Value.{isZero}
 use Rattle.store.specs.Name.{trimmed}
 use Rattle.variable.specs.Table.{Cell}
-use Rattle.machine.specs.Effect.{opens, closes, writes, reads, readsString, forks, awaits, Effect, goes, assigns, stops, faults, asks, unlessFaults, settle, withPopped, number, operates, printed, newline, clockInt, withCell, back, loopTarget}
-use Rattle.machine.specs.Instruction.{Instruction, Reach, literal, stringLiteral, setVariable, getVariable, operate, delayUntil, millis, print, jumpIf, endIf, while, endWhile, loop, endLoop, stop, reach, unknown, openFile, closeFile, writeFile, readString, fork, waitUntilDone, readNumber, instructionOf}
+use Rattle.machine.specs.Effect.{opens, closes, writes, reads, readsString, forks, awaits, Effect, goes, assigns}
+use Rattle.machine.specs.Effect.{stops, faults, asks, unlessFaults, settle, withPopped, number, operates, printed}
+use Rattle.machine.specs.Effect.{newline, clockInt, withCell, back, loopTarget}
+use Rattle.machine.specs.Instruction.{Instruction, Reach, literal, stringLiteral, setVariable, getVariable}
+use Rattle.machine.specs.Instruction.{operate, delayUntil, millis, print, jumpIf, endIf, while, endWhile, loop}
+use Rattle.machine.specs.Instruction.{endLoop, stop, reach, unknown, openFile, closeFile, writeFile, readString}
+use Rattle.machine.specs.Instruction.{fork, waitUntilDone, readNumber, instructionOf}
 use Rattle.machine.specs.Stack.{aNumber, aString, aValue, pop, push, pushItem, pushString}
 use Rattle.machine.specs.State.{Local, noLoop}
 
@@ -38,7 +43,8 @@ module _ (prog : List ℕ) (clock : ℕ) where
   abbrev pub pushText : Local → ℕ → Effect
   pushText l pc =
       let text = trimmed (drop pc prog) in
-      withArguments pc (length text + 1) (onward l (pc + (length text + 1)) (pushString (l .stack) (text ++ (0 ∷ []))) [])
+      withArguments pc (length text + 1)
+      (onward l (pc + (length text + 1)) (pushString (l .stack) (text ++ (0 ∷ []))) [])
 
   -- ---- variables
   abbrev pub sets : Local → ℕ → Effect
@@ -61,7 +67,8 @@ module _ (prog : List ℕ) (clock : ℕ) where
       withPopped (pop aNumber (l .stack)) λ x rest.
       cond (exceeds (number x) (clockInt clock)) (goes l []) (onward l pc rest [])
 
-  -- MILLIS pushes the milliseconds counter as an INT (guide 9.5) of 16 bits (A.4): document 01's "the clock's low 16 bits taken as INT"
+  -- MILLIS pushes the milliseconds counter as an INT (guide 9.5) of 16 bits (A.4): document 01's "the clock's low 16
+  -- bits taken as INT"
   abbrev pub pushClock : Local → ℕ → Effect
   pushClock l pc = onward l pc (push (l .stack) 2 (clock % 65536 / 256 ∷ clock % 256 ∷ [])) []
 
@@ -80,7 +87,8 @@ module _ (prog : List ℕ) (clock : ℕ) where
   abbrev pub drops : Local → ℕ → Effect
   drops l pc = withPopped (pop aNumber (l .stack)) λ x rest. onward l pc rest []
 
-  -- Document 01: "WHILE c b pops; zero skips b + 1; otherwise the raw byte c + b + 4 is pushed."; fault 8: "c + b above 251 on a value not zero"
+  -- Document 01: "WHILE c b pops; zero skips b + 1; otherwise the raw byte c + b + 4 is pushed."; fault 8: "c + b above
+  -- 251 on a value not zero"
   abbrev pub whiles : Local → ℕ → Effect
   whiles l pc =
       let c = argument pc in
@@ -96,7 +104,8 @@ module _ (prog : List ℕ) (clock : ℕ) where
   endsWhile l pc =
       let n = length (l .stack) in
       let distance = getD (l .stack) (n - 1) 0 in
-      unlessFaults (leb 1 n) 5 (settle prog (back (leb distance pc) pc distance) (take (n - 1) (l .stack)) (l .loopstart) [])
+      unlessFaults (leb 1 n) 5
+      (settle prog (back (leb distance pc) pc distance) (take (n - 1) (l .stack)) (l .loopstart) [])
 
   abbrev pub marksLoop : Local → ℕ → Effect
   marksLoop l pc = settle prog (At pc) (l .stack) pc []
@@ -112,11 +121,14 @@ module _ (prog : List ℕ) (clock : ℕ) where
       withPopped (pop aString rest) λ name rest.
       asks (opens (trimmed (name .bytes)) (number size) (record { stack = rest; pc = pc; loopstart = l .loopstart }))
   reaches l pc closeFile = asks (closes (record { stack = l .stack; pc = pc; loopstart = l .loopstart }))
-  reaches l pc writeFile = withPopped (pop aValue (l .stack)) λ x rest. asks (writes (x .bytes) (record { stack = rest; pc = pc; loopstart = l .loopstart }))
+  reaches l pc writeFile = withPopped (pop aValue (l .stack)) λ x rest.
+      asks (writes (x .bytes) (record { stack = rest; pc = pc; loopstart = l .loopstart }))
   reaches l pc (readNumber kind) = asks (reads kind (record { stack = l .stack; pc = pc; loopstart = l .loopstart }))
   reaches l pc readString = asks (readsString (record { stack = l .stack; pc = pc; loopstart = l .loopstart }))
-  reaches l pc fork = withPopped (pop aString (l .stack)) λ name rest. asks (forks (trimmed (name .bytes)) (record { stack = rest; pc = pc; loopstart = l .loopstart }))
-  reaches l pc waitUntilDone = withPopped (pop aNumber (l .stack)) λ x rest. asks (awaits (number x) l (record { stack = rest; pc = pc; loopstart = l .loopstart }))
+  reaches l pc fork = withPopped (pop aString (l .stack)) λ name rest.
+      asks (forks (trimmed (name .bytes)) (record { stack = rest; pc = pc; loopstart = l .loopstart }))
+  reaches l pc waitUntilDone = withPopped (pop aNumber (l .stack)) λ x rest.
+      asks (awaits (number x) l (record { stack = rest; pc = pc; loopstart = l .loopstart }))
 
   -- pc is the place behind the instruction byte
   unfoldable pub performs : Instruction → Local → ℕ → List Cell → Effect
@@ -141,4 +153,5 @@ module _ (prog : List ℕ) (clock : ℕ) where
   -- Document 01: "1 no such instruction; 2 code ended": past the last byte there is no instruction byte to judge
   unfoldable pub exec : Local → List Cell → Effect
   unfolding performs
-  exec l own = unlessFaults (ltb (l .pc) (length prog)) 2 (performs (instructionOf (getD prog (l .pc) 0)) l (l .pc + 1) own)
+  exec l own = unlessFaults (ltb (l .pc) (length prog)) 2
+      (performs (instructionOf (getD prog (l .pc) 0)) l (l .pc + 1) own)

@@ -17,7 +17,9 @@ goodHeader k = all (eqb 0) (k .zeros) && (leb 1 (k .next) && leb (k .next) 32768
 
 -- "zero spare bytes in live records [..] SP at most 32, PC, loop (unless none) [..] at most their lengths"
 unfoldable pub goodRegisters : Process → Bool
-goodRegisters p = eqb (p .spare) 0 && (leb (p .sp) 32 && (leb (p .pc) (p .code .len) && (eqb (p .loopstart) noLoop || leb (p .loopstart) (p .code .len))))
+goodRegisters p = eqb (p .spare) 0
+    && (leb (p .sp) 32 && (leb (p .pc) (p .code .len)
+    && (eqb (p .loopstart) noLoop || leb (p .loopstart) (p .code .len))))
 
 -- "code equal to the directory's file of that name"
 unfoldable pub isProgram : Process → Entry → Bool
@@ -35,7 +37,8 @@ abbrev pub goodId : ℕ → Process → Bool
 goodId next p = leb 1 (p .id) && ltb (p .id) next
 
 unfoldable pub goodLive : List Entry → ℕ → Process → Bool
-goodLive entries next p = goodId next p && (goodRegisters p && (any (isProgram p) entries && goodFile entries (p .file)))
+goodLive entries next p = goodId next p
+    && (goodRegisters p && (any (isProgram p) entries && goodFile entries (p .file)))
 
 -- "known states"; "all of an ended record but its state [is] not read"
 unfoldable pub goodProcess : List Entry → ℕ → Process → Bool
@@ -46,4 +49,5 @@ unfoldable pub otherId : Process → Process → Bool
 otherId p q = not (isLive p && (isLive q && eqb (p .id) (q .id)))
 
 unfoldable pub goodKernel : List Entry → Kernel → Bool
-goodKernel entries k = goodVariables (liveIds k) (k .variables) && (goodHeader k && (all (goodProcess entries (k .next)) (k .processes) && pairs otherId (k .processes)))
+goodKernel entries k = goodVariables (liveIds k) (k .variables)
+    && (goodHeader k && (all (goodProcess entries (k .next)) (k .processes) && pairs otherId (k .processes)))

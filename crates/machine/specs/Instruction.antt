@@ -30,9 +30,12 @@ pub data Instruction : Type 0 where
 -- Document 01: "Numbered 1 to 69 by place in appendix C"
 abbrev pub others : List (ℕ × Instruction)
 others =
-    (1, literal 1) ∷ (2, literal 2) ∷ (3, stringLiteral) ∷ (4, literal 4) ∷ (5, setVariable) ∷ (6, getVariable) ∷ (44, delayUntil) ∷ (45, millis) ∷ (51, print false) ∷ (52, print true) ∷
-    (53, reach openFile) ∷ (54, reach closeFile) ∷ (55, reach writeFile) ∷ (56, reach (readNumber 2)) ∷ (57, reach (readNumber 1)) ∷ (58, reach (readNumber 4)) ∷ (59, reach readString) ∷
-    (60, jumpIf true) ∷ (61, jumpIf false) ∷ (62, endIf) ∷ (63, while) ∷ (64, endWhile) ∷ (65, loop) ∷ (66, endLoop) ∷ (67, stop) ∷ (68, reach fork) ∷ (69, reach waitUntilDone) ∷ []
+    (1, literal 1) ∷ (2, literal 2) ∷ (3, stringLiteral) ∷ (4, literal 4) ∷ (5, setVariable) ∷ (6, getVariable) ∷
+    (44, delayUntil) ∷ (45, millis) ∷ (51, print false) ∷ (52, print true) ∷
+    (53, reach openFile) ∷ (54, reach closeFile) ∷ (55, reach writeFile) ∷ (56, reach (readNumber 2)) ∷
+    (57, reach (readNumber 1)) ∷ (58, reach (readNumber 4)) ∷ (59, reach readString) ∷
+    (60, jumpIf true) ∷ (61, jumpIf false) ∷ (62, endIf) ∷ (63, while) ∷ (64, endWhile) ∷ (65, loop) ∷ (66, endLoop) ∷
+    (67, stop) ∷ (68, reach fork) ∷ (69, reach waitUntilDone) ∷ []
 
 unfoldable pub find : ℕ → List (ℕ × Instruction) → Instruction
 find n [] = unknown

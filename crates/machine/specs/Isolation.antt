@@ -44,7 +44,8 @@ contentsAt Nowhere disc = []
 abbrev pub fileNamed : List ℕ → List ℕ → List ℕ
 fileNamed disc name = contentsAt (lookup disc name) disc
 
--- "its program bytes, which are the named file's at the moment" of the start; rest is what follows it, up to any event of the run
+-- "its program bytes, which are the named file's at the moment" of the start; rest is what follows it, up to any event
+-- of the run
 pub record Started (i : ℕ) (prog : List ℕ) (trace rest : List Event) : Type 0 where
   pub earlier : List Event
   pub start : Event
@@ -58,8 +59,9 @@ pub record Started (i : ℕ) (prog : List ℕ) (trace rest : List Event) : Type 
 abbrev pub AsSingle : List ℕ → List Watched → Type 0
 AsSingle prog l = observations l ≡ singleRun prog fresh (inputs l)
 
--- Buffers, calls, IDs, slots, names and neighbours of the two runs may differ. Where the process is fed the same, what is observed of it is alike in
--- both and as of the single process; the last two parts say it of all inputs, refused ones included.
+-- Buffers, calls, IDs, slots, names and neighbours of the two runs may differ. Where the process is fed the same, what
+-- is observed of it is alike in both and as of the single process; the last two parts say it of all inputs, refused
+-- ones included.
 unfoldable pub Isolation : Type 0
 Isolation =
     (s₁ s₂ : Storage) (calls₁ calls₂ : List Invocation) (i₁ i₂ : ℕ) (prog : List ℕ) (rest₁ rest₂ : List Event)

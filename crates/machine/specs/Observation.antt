@@ -28,7 +28,8 @@ abbrev pub isAt : Found → ℕ → Bool
 isAt (At s) slot = eqb s slot
 isAt Nowhere slot = false
 
--- ---- what the process i is fed: "the clock of each turn of its slot until it ends [..], and each suspend, resume and kill of its ID"
+-- ---- what the process i is fed: "the clock of each turn of its slot until it ends [..], and each suspend, resume and
+-- kill of its ID"
 abbrev pub inputIf : Bool → Input → Option Input
 inputIf true x = some x
 inputIf false x = none
@@ -45,8 +46,8 @@ inputOf i (command c id) place = inputIf (eqb id i) (given c)
 inputOf i (turn slot clock) place = inputIf (isAt place slot) (tick clock)
 inputOf i (round clock) place = none
 
--- ---- what is observed after it: "stack (SP, 32 bytes), variables (those counted under its ID, by name, type and bytes [..]), place (PC, loop), end
--- (state, fault) and output (a turn's bytes and their number)"
+-- ---- what is observed after it: "stack (SP, 32 bytes), variables (those counted under its ID, by name, type and bytes
+-- [..]), place (PC, loop), end (state, fault) and output (a turn's bytes and their number)"
 pub record Seen : Type 0 where
   pub sp : ℕ
   pub stack : List ℕ
@@ -65,7 +66,18 @@ pub data Observation : Type 0 where
 
 abbrev pub seenIn : Process → List Cell → List ℕ → ℤ → Seen
 seenIn p variables text number =
-    record { sp = p .sp; stack = p .stack; variables = variables; pc = p .pc; loopstart = p .loopstart; state = p .state; fault = p .fault; text = text; number = number }
+    record {
+      sp = p .sp;
+      stack = p .stack;
+      variables = variables;
+      pc = p .pc;
+      loopstart = p .loopstart;
+      state =
+          p .state;
+      fault = p .fault;
+      text = text;
+      number = number;
+    }
 
 -- its record stays in the slot that it had, also when the input ends it
 abbrev pub slotIn : Found → ℕ
@@ -75,7 +87,8 @@ slotIn Nowhere = 0
 abbrev pub observedBy : ℤ → Event → ℕ → Observation
 observedBy (negsuc n) e i = declined (negsuc n)
 observedBy (pos n) e i =
-    seen (seenIn (processAt (kernelOf (e .after .area)) (slotIn (placeIn (e .before) i))) (owned (kernelOf (e .after .area) .variables) i) (e .text) (pos n))
+    seen (seenIn (processAt (kernelOf (e .after .area)) (slotIn (placeIn (e .before) i)))
+    (owned (kernelOf (e .after .area) .variables) i) (e .text) (pos n))
 
 pub record Watched : Type 0 where
   pub input : Input

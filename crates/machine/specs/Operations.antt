@@ -10,7 +10,8 @@ use Rattle.decimal.specs.Decimal.{decimal}
 use Rattle.store.specs.Name.{trimmed}
 use Rattle.store.specs.declared.Entry.{Entry}
 use Rattle.machine.specs.GoodArea.{isOpenIn, isProgram}
-use Rattle.machine.specs.State.{ended, isLive, isRunning, paused, processAt, running, slotOf, withProcess, withState}
+use Rattle.machine.specs.State.{ended, isLive, isRunning, paused, processAt, running, slotOf, withProcess}
+use Rattle.machine.specs.State.{withState}
 use Rattle.machine.specs.Turn.{Turned, turned}
 use Rattle.machine.specs.declared.Kernel.{Kernel}
 use Rattle.machine.specs.declared.Process.{Process}
@@ -33,7 +34,9 @@ pub data Commanded : Type 0 where
 
 -- Document 01: "15 already in that state"
 abbrev pub changed : Kernel → ℕ → ℕ → Commanded
-changed k slot state = cond (eqb (processAt k slot .state) state) (refused 15) (becomes (withProcess k slot (withState (processAt k slot) state)))
+changed k slot state =
+    cond (eqb (processAt k slot .state) state) (refused 15)
+    (becomes (withProcess k slot (withState (processAt k slot) state)))
 
 abbrev pub commandAt : Found → Command → Kernel → Commanded
 commandAt Nowhere c k = refused 14
@@ -54,7 +57,8 @@ listText k = flat processLine (keep isLive (k .processes))
 
 -- ---- round: "a turn for slots 0 to 9, each if running when reached, under one clock reading, outputs joined"
 unfoldable pub turnIfRunning : Kernel → ℕ → ℕ → List ℕ → Turned
-turnIfRunning k slot clock disc = cond (isRunning (processAt k slot)) (turned k slot clock disc) (record { kernel = k; disc = disc; out = [] })
+turnIfRunning k slot clock disc =
+    cond (isRunning (processAt k slot)) (turned k slot clock disc) (record { kernel = k; disc = disc; out = [] })
 
 unfoldable pub turnsOf : List ℕ → Kernel → ℕ → List ℕ → Turned
 turnsOf [] k clock disc = record { kernel = k; disc = disc; out = [] }

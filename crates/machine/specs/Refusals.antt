@@ -7,7 +7,8 @@ use lib.Dec.{eqb, leb, ltb}
 use lib.ListN.{length}
 use Rattle.buffer.specs.Lists.{any}
 use Rattle.store.specs.Directory.{goodDisc, isDiscLength}
-use Rattle.machine.specs.Answer.{Buffers, Call, store, retrieve, erase, run, files, freeSpace, list, command, turn, round, goodArea}
+use Rattle.machine.specs.Answer.{Buffers, Call, store, retrieve, erase, run, files, freeSpace, list, command}
+use Rattle.machine.specs.Answer.{turn, round, goodArea}
 use Rattle.machine.specs.Area.{isAreaLength, kernelOf}
 use Rattle.machine.specs.Operations.{Command, suspend, resume, kill}
 use Rattle.machine.specs.State.{isRunning, processAt}

@@ -1,4 +1,5 @@
--- Document 01's single process: fed only its program bytes, turns, clock readings and commands; it has unlimited variable space.
+-- Document 01's single process: fed only its program bytes, turns, clock readings and commands; it has unlimited
+-- variable space.
 use Prim.Native.Nat.{ℕ}
 use mathlib.Core.Bool.{Bool, true, false, cond, not}
 use mathlib.Core.List.{List, [], _∷_, _++_}
@@ -10,8 +11,8 @@ use Rattle.machine.specs.Exec.{exec}
 use Rattle.machine.specs.Operations.{Command, suspend, resume, kill}
 use Rattle.machine.specs.State.{Local, noLoop, paused, running}
 
--- "a state, fault, PC, loop, SP, 32 stack bytes and any number of variables: name, type, value bytes, one per name". The stack is the list of the
--- bytes below SP: SP is its length, and above it are zeros.
+-- "a state, fault, PC, loop, SP, 32 stack bytes and any number of variables: name, type, value bytes, one per name".
+-- The stack is the list of the bytes below SP: SP is its length, and above it are zeros.
 pub record Single : Type 0 where
   pub state : ℕ
   pub fault : ℕ
@@ -31,7 +32,8 @@ advancedTo s l cells = record { state = s .state; fault = s .fault; loc = l; cel
 
 -- "A SET without fault drops the old variable, then adds the new one"
 abbrev pub assignedCells : List Cell → ℕ → ℕ → List ℕ → List Cell
-assignedCells cells name kind bytes = keep (λ c. not (eqb (c .name) name)) cells ++ (record { name = name; kind = kind; bytes = bytes } ∷ [])
+assignedCells cells name kind bytes = keep (λ c. not (eqb (c .name) name)) cells
+    ++ (record { name = name; kind = kind; bytes = bytes } ∷ [])
 
 -- what it is fed
 pub data Input : Type 0 where
@@ -43,8 +45,8 @@ pub data Response : Type 0 where
   refusedBy : ℕ → Response
   did : (out : List ℕ) → Single → Response
 
--- "Turn while running: the instruction at PC of those bytes, as above, printing what that prints." "STOP, or a fault, ends it."
--- What it does at a file, FORK or WAITUNTILDONE instruction is free: here it stays as it is.
+-- "Turn while running: the instruction at PC of those bytes, as above, printing what that prints." "STOP, or a fault,
+-- ends it." What it does at a file, FORK or WAITUNTILDONE instruction is free: here it stays as it is.
 abbrev pub singleEffect : Single → Effect → Response
 singleEffect s (goes l out) = did out (advancedTo s l (s .cells))
 singleEffect s (assigns name kind bytes l) = did [] (advancedTo s l (assignedCells (s .cells) name kind bytes))
@@ -56,7 +58,8 @@ singleEffect s (asks r) = did [] s
 abbrev pub inState : Single → ℕ → Response
 inState s state = did [] (record { state = state; fault = s .fault; loc = s .loc; cells = s .cells })
 
--- "kill ends it". "a command once ended (14), suspend while paused and resume while running (15)"; the first argument: has it ended?
+-- "kill ends it". "a command once ended (14), suspend while paused and resume while running (15)"; the first argument:
+-- has it ended?
 abbrev pub singleCommand : Bool → Single → Command → Response
 singleCommand true s c = refusedBy 14
 singleCommand false s suspend = cond (eqb (s .state) paused) (refusedBy 15) (inState s paused)
@@ -65,5 +68,6 @@ singleCommand false s kill = did [] (over 0)
 
 -- "Refused, changing nothing: a turn unless running (16)"
 unfoldable pub single : List ℕ → Single → Input → Response
-single prog s (tick clock) = cond (eqb (s .state) running) (singleEffect s (exec prog clock (s .loc) (s .cells))) (refusedBy 16)
+single prog s (tick clock) =
+    cond (eqb (s .state) running) (singleEffect s (exec prog clock (s .loc) (s .cells))) (refusedBy 16)
 single prog s (given c) = singleCommand (eqb (s .state) 0) s c

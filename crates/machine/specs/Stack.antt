@@ -45,7 +45,8 @@ popNumber stack n kind =
     unlessFault (leb (kind + 1) n) 5
     (popped (record { kind = kind; bytes = part stack (n - 1 - kind) kind }) (take (n - 1 - kind) stack))
 
--- Document 01: "popping from the top, for each value 5 nothing there, 6 a type not taken here, 5 too few bytes below it, 6 malformed string"
+-- Document 01: "popping from the top, for each value 5 nothing there, 6 a type not taken here, 5 too few bytes below
+-- it, 6 malformed string"
 unfoldable pub pop : (ℕ → Bool) → List ℕ → Popped
 unfolding popString popNumber
 pop takes stack =

@@ -39,13 +39,32 @@ noFile = record { start = 0; len = 0; offset = 0 }
 
 -- what lies past the ten records: nothing live
 abbrev pub noProcess : Process
-noProcess = record { name = []; id = 0; state = 0; fault = 0; code = noRun; pc = 0; loopstart = 0; file = noFile; sp = 0; spare = 0; stack = [] }
+noProcess = record {
+  name = [];
+  id = 0;
+  state = 0;
+  fault = 0;
+  code = noRun;
+  pc = 0;
+  loopstart = 0;
+  file = noFile;
+  sp =
+      0;
+  spare = 0;
+  stack = [];
+}
 
 abbrev pub processAt : Kernel → ℕ → Process
 processAt k i = getD (k .processes) i noProcess
 
 abbrev pub withProcess : Kernel → ℕ → Process → Kernel
-withProcess k i p = record { variables = k .variables; next = k .next; zeros = k .zeros; processes = set (k .processes) i p }
+withProcess k i p = record {
+  variables = k .variables;
+  next = k .next;
+  zeros = k .zeros;
+  processes =
+      set (k .processes) i p;
+}
 
 abbrev pub withVariables : Kernel → Variables → Kernel
 withVariables k v = record { variables = v; next = k .next; zeros = k .zeros; processes = k .processes }
@@ -125,8 +144,23 @@ liveIds k = map (λ p. p .id) (keep isLive (k .processes))
 -- ---- ending
 -- Document 01: "Its record keeps name, ID and fault (0 unless a fault) and is otherwise zero."
 abbrev pub endedProcess : Process → ℕ → Process
-endedProcess p fault = record { name = p .name; id = p .id; state = 0; fault = fault; code = noRun; pc = 0; loopstart = 0; file = noFile; sp = 0; spare = 0; stack = replicate 32 0 }
+endedProcess p fault =
+    record {
+      name = p .name;
+      id = p .id;
+      state = 0;
+      fault = fault;
+      code = noRun;
+      pc = 0;
+      loopstart = 0;
+      file = noFile;
+      sp = 0;
+      spare = 0;
+      stack = replicate 32 0;
+    }
 
 -- Document 01: "Ending (STOP, kill, fault) frees the process's variables."
 unfoldable pub ended : Kernel → ℕ → ℕ → Kernel
-ended k slot fault = withVariables (withProcess k slot (endedProcess (processAt k slot) fault)) (freedAll (k .variables) (processAt k slot .id))
+ended k slot fault =
+    withVariables (withProcess k slot (endedProcess (processAt k slot) fault))
+    (freedAll (k .variables) (processAt k slot .id))

@@ -1,5 +1,5 @@
--- What demand 3 supposes of a process, event by event: it executes no file, FORK or WAITUNTILDONE instruction, no write lands in its program file,
--- and no SET of its own lacks space.
+-- What demand 3 supposes of a process, event by event: it executes no file, FORK or WAITUNTILDONE instruction, no write
+-- lands in its program file, and no SET of its own lacks space.
 use Prim.Native.Nat.{ℕ}
 use mathlib.Core.Path.{_≡_}
 use mathlib.Core.Bool.{Bool, true, false, _&&_, _||_, not}
@@ -40,8 +40,9 @@ abbrev pub isBarred : ℕ → Bool
 isBarred byte = (leb 53 byte && leb byte 59) || (eqb byte 68 || eqb byte 69)
 
 -- ---- a SET that lacks space
--- Document 01: "A SET lacks space where fault 10 is defined for it in the buffers as its turn finds them": with the old variable of that name
--- dropped, there are 25 others, or no address from 0 to 255 where the value would lie in memory and apart from them
+-- Document 01: "A SET lacks space where fault 10 is defined for it in the buffers as its turn finds them": with the old
+-- variable of that name dropped, there are 25 others, or no address from 0 to 255 where the value would lie in memory
+-- and apart from them
 unfoldable pub lacksSpace : Variables → ℕ → ℕ → ℕ → Bool
 lacksSpace v name i n =
     let others = keep (λ e. not (isOf name i e)) (counted v) in
@@ -62,12 +63,15 @@ setLacks i slot clock s =
     eqb (executedBy s slot) 5 && isLacking (exec (programOf (s .disc) p) clock (localOf p) (owned v i)) v i
 
 -- ---- a write that lands
--- Document 01: "A write lands when another process with that program file open does a WRITE without fault", so it is still live
+-- Document 01: "A write lands when another process with that program file open does a WRITE without fault", so it is
+-- still live
 unfoldable pub writeLands : ℕ → ℕ → Event → Bool
 writeLands own other e =
     let p = processIn (e .before) own in
     let q = processIn (e .before) other in
-    eqb (executedBy (e .before) other) 55 && (isLive (processIn (e .after) other) && (eqb (q .file .start) (p .code .start) && eqb (q .file .len) (p .code .len)))
+    eqb (executedBy (e .before) other) 55
+    && (isLive (processIn (e .after) other)
+    && (eqb (q .file .start) (p .code .start) && eqb (q .file .len) (p .code .len)))
 
 -- ---- an event that is not supposed: a done turn, while the process i is in slot own
 unfoldable pub turnDisturbs : ℕ → ℕ → ℕ → ℕ → Event → Bool

@@ -8,7 +8,8 @@ use lib.IntN.{ℤ, pos, negsuc}
 use lib.ListN.{length, drop, replicate, take}
 use Rattle.buffer.specs.Buffer.{overwrite}
 use Rattle.buffer.specs.Lists.{consIf, flat}
-use Rattle.machine.specs.Answer.{Answer, Buffers, Call, store, retrieve, erase, run, files, freeSpace, list, command, turn, round, answer}
+use Rattle.machine.specs.Answer.{Answer, Buffers, Call, store, retrieve, erase, run, files, freeSpace, list}
+use Rattle.machine.specs.Answer.{command, turn, round, answer}
 use Rattle.machine.specs.Area.{kernelOf}
 use Rattle.machine.specs.State.{isRunning, processAt}
 
@@ -32,8 +33,8 @@ abbrev pub answerOf : Invocation → Storage → Answer
 answerOf i s = answer (i .call) (lending s (i .out))
 
 -- ---- events
--- one call, or one turn of a round (a round itself is never an event): the two buffers before and after it, the number it returns, and what
--- retrieve, files, list or a turn wrote into the lent output, as it stands there
+-- one call, or one turn of a round (a round itself is never an event): the two buffers before and after it, the number
+-- it returns, and what retrieve, files, list or a turn wrote into the lent output, as it stands there
 pub record Event : Type 0 where
   pub call : Call
   pub before : Storage
@@ -52,14 +53,16 @@ counts (negsuc n) = 0
 abbrev pub outputText : Answer → List ℕ
 outputText a = take (counts (a .number)) (a .out)
 
--- Document 01: "A done round stands for its turns in order, each printing its part of the output." A turn of a round is the call `turn` on the
--- buffers as they are when its slot is reached, lent 32 zeros; text is what the round printed from this turn on.
+-- Document 01: "A done round stands for its turns in order, each printing its part of the output." A turn of a round is
+-- the call `turn` on the buffers as they are when its slot is reached, lent 32 zeros; text is what the round printed
+-- from this turn on.
 unfoldable pub turnEvents : List ℕ → ℕ → Storage → List ℕ → List Event
 turnEvents [] clock s text = []
 turnEvents (slot ∷ slots) clock s text =
     let a = answer (turn slot clock) (lending s (replicate 32 0)) in
     let n = counts (a .number) in
-    consIf (isRunning (processAt (kernelOf (s .area)) slot)) (event (turn slot clock) s a (take n text)) (turnEvents slots clock (storageOf a) (drop n text))
+    consIf (isRunning (processAt (kernelOf (s .area)) slot)) (event (turn slot clock) s a (take n text))
+    (turnEvents slots clock (storageOf a) (drop n text))
 
 -- not `slots` of the definition of a round: a round that left one out would have to show here
 abbrev pub tenSlots : List ℕ
@@ -86,8 +89,8 @@ eventsBy (command c id) out s a = event (command c id) s a [] ∷ []
 eventsBy (turn slot clock) out s a = onlyIf (leb 32 (length out)) (event (turn slot clock) s a (outputText a))
 eventsBy (round clock) out s a = roundEvents (a .number) clock s (outputText a)
 
--- Demand 3: "each any list of the calls [..], refused ones included, from any disc and work area. Each call gets what it takes of these two as the
--- calls before left it"
+-- Demand 3: "each any list of the calls [..], refused ones included, from any disc and work area. Each call gets what
+-- it takes of these two as the calls before left it"
 unfoldable pub events : List Invocation → Storage → List Event
 events [] s = []
 events (i ∷ is) s = eventsBy (i .call) (i .out) s (answerOf i s) ++ events is (storageOf (answerOf i s))
@@ -110,9 +113,11 @@ total (e ∷ es) = counts (e .number) + total es
 unfoldable pub PrintsItsPart : List Event → Type 0
 PrintsItsPart [] = Unit {0}
 PrintsItsPart (e ∷ es) =
-    (e .number ≡ pos (length (e .text))) × (e .text ≡ outputText (answer (e .call) (lending (e .before) (replicate 32 0)))) × PrintsItsPart es
+    (e .number ≡ pos (length (e .text)))
+    × (e .text ≡ outputText (answer (e .call) (lending (e .before) (replicate 32 0)))) × PrintsItsPart es
 
--- a done round leaves what its last turn leaves, returns the sum of what they return, and writes their bytes one behind the other and nothing else
+-- a done round leaves what its last turn leaves, returns the sum of what they return, and writes their bytes one behind
+-- the other and nothing else
 abbrev pub IsItsEvents : Storage → List ℕ → Answer → List Event → Type 0
 IsItsEvents s out a es =
     (storageOf a ≡ lastStorage s es)

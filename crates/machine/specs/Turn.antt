@@ -36,7 +36,8 @@ module _ (k : Kernel) (slot : ℕ) (disc : List ℕ) where
 
   -- Document 01, fault 10: "no variable entry or run"
   abbrev pub setting : Placing → Variables → Local → Turned
-  setting (Address a) v l = record { kernel = withVariables (withProcess k slot (withLocal (processAt k slot) l)) v; disc = disc; out = [] }
+  setting (Address a) v l =
+      record { kernel = withVariables (withProcess k slot (withLocal (processAt k slot) l)) v; disc = disc; out = [] }
   setting NoEntry v l = finished 10
   setting NoRun v l = finished 10
 
@@ -55,13 +56,16 @@ module _ (k : Kernel) (slot : ℕ) (disc : List ℕ) where
   carriedOut (asks r) = answering (answered k slot disc r)
 
 -- the bytes of a process's program: the part of the disc that its record names
--- Document 01: "An instruction reads its argument bytes from the program's own part of the disc."; "PC and loop are offsets from the code start."
+-- Document 01: "An instruction reads its argument bytes from the program's own part of the disc."; "PC and loop are
+-- offsets from the code start."
 abbrev pub programOf : List ℕ → Process → List ℕ
 programOf disc p = contents disc (p .code)
 
 -- what the instruction of the process in that slot does
 abbrev pub effectAt : Kernel → ℕ → ℕ → List ℕ → Effect
-effectAt k slot clock disc = exec (programOf disc (processAt k slot)) clock (localOf (processAt k slot)) (owned (k .variables) (processAt k slot .id))
+effectAt k slot clock disc =
+    exec (programOf disc (processAt k slot)) clock (localOf (processAt k slot))
+    (owned (k .variables) (processAt k slot .id))
 
 -- Document 01: "Turn, one instruction of one slot"
 unfoldable pub turned : Kernel → ℕ → ℕ → List ℕ → Turned

@@ -1,8 +1,11 @@
-// What the kernel is: definitions in specs/, their consequences in proofs/. The code of the work area and of the turn comes in crates that use this one.
+// What the kernel is: definitions in specs/, their consequences in proofs/. The code of the work area and of the turn
+// comes in crates that use this one.
 use place::Run;
 use variable::Variables;
 ghost use Rattle.machine.specs.Cases.{Bench, Misreadings};
-ghost use Rattle.machine.specs.Demands.{EventsAreCalls, FaultTouchesOwn, GoodKept, LengthsKept, PlacesRefusedOnly, RefusedUnchanged, RoundIsTurns, RoundNeverRefused, TurnOutputBound};
+ghost use Rattle.machine.specs.Demands.{EventsAreCalls, FaultTouchesOwn, GoodKept, LengthsKept};
+ghost use Rattle.machine.specs.Demands.{PlacesRefusedOnly, RefusedUnchanged, RoundIsTurns, RoundNeverRefused};
+ghost use Rattle.machine.specs.Demands.{TurnOutputBound};
 ghost use Rattle.machine.specs.Due.{DoneWhenDue};
 ghost use Rattle.machine.specs.Isolation.{Isolation};
 
@@ -46,7 +49,8 @@ pub fn misreadings()
     ensures { λ _. ⌜ Misreadings ⌝ }
 {}
 
-// Demand 3 in one piece: nothing but its own turns and commands shifts a process's stack, variables, place, output or end.
+// Demand 3 in one piece: nothing but its own turns and commands shifts a process's stack, variables, place, output or
+// end.
 pub fn isolation()
     ensures { λ _. ⌜ Isolation ⌝ }
 {}
@@ -61,7 +65,8 @@ pub fn fault_touches_own()
     ensures { λ _. ⌜ FaultTouchesOwn ⌝ }
 {}
 
-// A place is refused only when its table is full or no run of free bytes is long enough; to OPEN's new file also by name or size.
+// A place is refused only when its table is full or no run of free bytes is long enough; to OPEN's new file also by
+// name or size.
 pub fn places_refused_only()
     ensures { λ _. ⌜ PlacesRefusedOnly ⌝ }
 {}

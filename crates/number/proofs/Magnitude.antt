@@ -59,7 +59,8 @@ zero-magnitude (inf s) f h = true-not-false h refl
 zero-magnitude (fin s zero (pos zero)) f h = refl
 zero-magnitude (fin s zero (pos (suc k))) f h = not-one k (2 ^ suc k * 1) (omega arith) f
 zero-magnitude (fin s zero (negsuc k)) f h = not-one k (1 * 2 ^ suc k) (omega arith) f
-zero-magnitude (fin s (suc m) e) f h = not-level (suc m * up e * 1) (0 * 1 * down e) s (mul-pos (mul-pos (omega arith) (up-pos e)) (omega arith)) (omega arith) h
+zero-magnitude (fin s (suc m) e) f h =
+    not-level (suc m * up e * 1) (0 * 1 * down e) s (mul-pos (mul-pos (omega arith) (up-pos e)) (omega arith)) (omega arith) h
 
 pub positive-magnitude : (x : Float) → lt x (ofBits binary32 0) ≡ false → eq x (ofBits binary32 0) ≡ false → x ≡ magnitude x
 unfolding ofBits ofFields odd lt eq magnitude

@@ -80,7 +80,8 @@ combined w k x y fx fy g r fr e = ap (λ (z : ℤ). Value (k z)) (toZ-ofZ fr ∙
 
 -- the answers of CHAR's and INT's arithmetic, k the type: what each call ensures, of the operands themselves
 module _ {w : Width} (k : ℤ → Number) {x y : ℤ} (fx : SFits w x) (fy : SFits w y) where
-  pub calculated : (f : ℤ → ℤ → ℤ) {r : ℤ} → r ≡ wrapped w (f (toZ w (ofZ w x)) (toZ w (ofZ w y))) → Value (k (toZ w (ofZ w r))) ≡ Value (k (wrapped w (f x y)))
+  pub calculated : (f : ℤ → ℤ → ℤ) {r : ℤ} → r ≡ wrapped w (f (toZ w (ofZ w x)) (toZ w (ofZ w y)))
+      → Value (k (toZ w (ofZ w r))) ≡ Value (k (wrapped w (f x y)))
   calculated f e = ap (λ (z : ℤ). Value (k z)) (reads-wrapped w (f x y) (e ∙ on-operands w x y fx fy (λ (a b : ℤ). wrapped w (f a b))))
 
   pub not-zero : (ofZ w y ≡ 0 → ⊥) → toZ w (ofZ w y) ≡ pos 0 → ⊥

@@ -21,4 +21,5 @@ unfolding lookup
 absent n [] other U u = refl
 absent n (entry ∷ table) other U u =
     let W = U × (n ≡ entry .0 → ⊥) in
-    absent n table other W u ∙ ap (λ (t : Bool). cond t (entry .1) (lookup n table other)) (sym (ne-eqb n (entry .0) (first n table W u .1)))
+    absent n table other W u
+    ∙ ap (λ (t : Bool). cond t (entry .1) (lookup n table other)) (sym (ne-eqb n (entry .0) (first n table W u .1)))

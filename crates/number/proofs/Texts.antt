@@ -32,9 +32,11 @@ laid-next : (p s : List ℕ) → overwrite (padded p) (length p) s ≡ padded (p
 unfolding padded
 laid-next p s =
     ap₂ (λ (u v : List ℕ). (u ++ s) ++ v) (take-append-seam p (drop (length p) zeros))
-    (drop-append-add p (drop (length p) zeros) (length s) ∙ drop-drop (length s) (length p) zeros ∙ ap (λ (n : ℕ). drop n zeros) (sym (length-append p s)))
+    (drop-append-add p (drop (length p) zeros) (length s) ∙ drop-drop (length s) (length p) zeros
+    ∙ ap (λ (n : ℕ). drop n zeros) (sym (length-append p s)))
 
-module _ (h b t : List ℕ) {x y z : List ℕ} (ex : x ≡ overwrite zeros 0 h) (ey : y ≡ overwrite x (length h) b) (ez : z ≡ overwrite y (length h + length b) t) where
+module _ (h b t : List ℕ) {x y z : List ℕ} (ex : x ≡ overwrite zeros 0 h) (ey : y ≡ overwrite x (length h) b)
+    (ez : z ≡ overwrite y (length h + length b) t) where
   one : x ≡ padded h
   unfolding padded
   one = ex ∙ laid-next [] h
@@ -44,10 +46,12 @@ module _ (h b t : List ℕ) {x y z : List ℕ} (ex : x ≡ overwrite zeros 0 h) 
 
   three : z ≡ padded (h ++ (b ++ t))
   three =
-      ez ∙ ap₂ (λ (l : List ℕ) (n : ℕ). overwrite l n t) two (sym (length-append h b)) ∙ laid-next (h ++ b) t ∙ ap padded (append-assoc h b t)
+      ez ∙ ap₂ (λ (l : List ℕ) (n : ℕ). overwrite l n t) two (sym (length-append h b)) ∙ laid-next (h ++ b) t
+      ∙ ap padded (append-assoc h b t)
 
   total : length h + length b + length t ≡ length (h ++ (b ++ t))
-  total = add-assoc (length h) (length b) (length t) ∙ ap (λ (n : ℕ). length h + n) (sym (length-append b t)) ∙ sym (length-append h (b ++ t))
+  total = add-assoc (length h) (length b) (length t) ∙ ap (λ (n : ℕ). length h + n) (sym (length-append b t))
+      ∙ sym (length-append h (b ++ t))
 
   pub laid-out : _≡_ {A = Text} (record { bytes = z; len = length h + length b + length t }) (laid (h ++ (b ++ t)))
   unfolding padded
@@ -67,7 +71,8 @@ pub decimal-short : (n : ℕ) → length (decimal n) ≤ 10
 decimal-short n = last-digits-length 10 n
 
 -- the digits in ten bytes from start on, lent as a part
-pub digits-lent : (bytes : List ℕ) (start n : ℕ) → length bytes ≡ 10 → drop start bytes ≡ decimal n → take (10 - start) (drop start bytes) ≡ decimal n
+pub digits-lent : (bytes : List ℕ) (start n : ℕ) → length bytes ≡ 10 → drop start bytes ≡ decimal n
+    → take (10 - start) (drop start bytes) ≡ decimal n
 digits-lent bytes start n l e = take-all (10 - start) (drop start bytes) (simp length-drop (omega arith)) ∙ e
 
 -- the text of a whole number from its sign and its size

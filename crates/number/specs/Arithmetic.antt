@@ -20,8 +20,8 @@ divisible (pos zero) o = DivisionByZero
 divisible (pos (suc n)) o = o
 divisible (negsuc n) o = o
 
--- Document 01: "otherwise the exact whole result is kept modulo 65,536, or 256 for CHAR. DIVIDEDBY on whole numbers cuts toward zero; MODULUS has the
--- dividend's sign." Two whole numbers of the width w; k is the type of the result.
+-- Document 01: "otherwise the exact whole result is kept modulo 65,536, or 256 for CHAR. DIVIDEDBY on whole numbers
+-- cuts toward zero; MODULUS has the dividend's sign." Two whole numbers of the width w; k is the type of the result.
 unfoldable pub whole : Width → (ℤ → Number) → Arithmetic → ℤ → ℤ → Outcome
 whole w k Plus x y = Value (k (wrapped w (x +ℤ y)))
 whole w k Minus x y = Value (k (wrapped w (x -ℤ y)))
@@ -29,7 +29,8 @@ whole w k Times x y = Value (k (wrapped w (x *ℤ y)))
 whole w k DividedBy x y = divisible y (Value (k (wrapped w (quotZ x y))))
 whole w k Modulus x y = divisible y (Value (k (wrapped w (remZ x y))))
 
--- Two FLOATs. Document 01: "Bitwise and MODULUS refuse FLOAT": the pop refuses it first, so MODULUS is never asked here.
+-- Two FLOATs. Document 01: "Bitwise and MODULUS refuse FLOAT": the pop refuses it first, so MODULUS is never asked
+-- here.
 unfoldable pub real : Arithmetic → Binary32 → Binary32 → Outcome
 real Plus x y = Value (Float (add binary32 x y))
 real Minus x y = Value (Float (sub binary32 x y))

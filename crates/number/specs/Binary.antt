@@ -16,9 +16,11 @@ use Rattle.number.specs.declared.Number.the-variants.{Char, Int}
 use Rattle.number.specs.declared.Outcome.{Outcome}
 use Rattle.number.specs.declared.Outcome.the-variants.{Value, OutOfRange}
 use Rattle.number.specs.declared.operators.Binary.{Binary}
-use Rattle.number.specs.declared.operators.Binary.the-variants.{Arithmetic, Comparison as Comparing, Logical, Bitwise, Extremum as Choosing}
+use Rattle.number.specs.declared.operators.Binary.the-variants.{Arithmetic, Comparison as Comparing, Logical}
+use Rattle.number.specs.declared.operators.Binary.the-variants.{Bitwise, Extremum as Choosing}
 use Rattle.number.specs.declared.operators.Comparison.{Comparison}
-use Rattle.number.specs.declared.operators.Comparison.the-variants.{Equals, NotEquals, LessThan, LessOrEqual, GreaterThan, GreaterOrEqual}
+use Rattle.number.specs.declared.operators.Comparison.the-variants.{Equals, NotEquals, LessThan, LessOrEqual}
+use Rattle.number.specs.declared.operators.Comparison.the-variants.{GreaterThan, GreaterOrEqual}
 use Rattle.number.specs.declared.operators.Connective.{Connective}
 use Rattle.number.specs.declared.operators.Connective.the-variants.{And, Or, Xor}
 use Rattle.number.specs.declared.operators.Extremum.{Extremum}

@@ -15,7 +15,8 @@ use Rattle.number.specs.declared.Outcome.the-variants.{Value, OutOfRange
 use Rattle.number.specs.declared.operators.Conversion.{Conversion}
 use Rattle.number.specs.declared.operators.Conversion.the-variants.{ToChar, ToInt, ToFloat, Round, Floor, Ceil}
 
--- Document 01: "TOCHAR of an INT keeps the low byte." The guide, table 2: ROUND, FLOOR and CEIL push an INT; of a whole number it is that number.
+-- Document 01: "TOCHAR of an INT keeps the low byte." The guide, table 2: ROUND, FLOOR and CEIL push an INT; of a whole
+-- number it is that number.
 unfoldable pub convertedWhole : Conversion → ℤ → Outcome
 convertedWhole ToChar x = Value (Char (toZ w8 (ofZ w16 x % 256)))
 convertedWhole ToInt x = Value (Int x)
@@ -29,7 +30,8 @@ abbrev pub valueOr : (ℤ → Number) → Whole → Outcome
 valueOr k (Is z) = Value (k z)
 valueOr k Beyond = OutOfRange
 
--- Document 01: "TOINT and TOCHAR of a FLOAT cut toward zero; ROUND goes half away from zero." TOFLOAT of a FLOAT is never asked: the pop refuses it.
+-- Document 01: "TOINT and TOCHAR of a FLOAT cut toward zero; ROUND goes half away from zero." TOFLOAT of a FLOAT is
+-- never asked: the pop refuses it.
 unfoldable pub convertedFloat : Conversion → Binary32 → Outcome
 convertedFloat ToChar x = valueOr Char (wholeOf TowardZero 127 x)
 convertedFloat ToInt x = valueOr Int (wholeOf TowardZero 32767 x)

@@ -4,12 +4,15 @@ use mathlib.Core.Bool.{Bool, false, cond, _||_}
 use mathlib.Core.List.{List, [], _∷_}
 use lib.Dec.{eqb}
 use Rattle.number.specs.declared.instruction.Types.{Types}
-use Rattle.number.specs.declared.instruction.Types.the-variants.{AnyNumber, CharOrInt, IntOrFloat, CharOrFloat, Nothing}
+use Rattle.number.specs.declared.instruction.Types.the-variants.{AnyNumber, CharOrInt, IntOrFloat, CharOrFloat}
+use Rattle.number.specs.declared.instruction.Types.the-variants.{Nothing}
 use Rattle.number.specs.declared.operators.Arithmetic.{Arithmetic}
 use Rattle.number.specs.declared.operators.Arithmetic.the-variants.{Plus, Minus, Times, DividedBy, Modulus}
 use Rattle.number.specs.declared.operators.Binary.{Binary}
-use Rattle.number.specs.declared.operators.Binary.the-variants.{Arithmetic as Calculates, Comparison as Compares, Logical, Bitwise, Extremum as Chooses}
-use Rattle.number.specs.declared.operators.Comparison.the-variants.{Equals, NotEquals, LessThan, LessOrEqual, GreaterThan, GreaterOrEqual}
+use Rattle.number.specs.declared.operators.Binary.the-variants.{Arithmetic as Calculates, Comparison as Compares}
+use Rattle.number.specs.declared.operators.Binary.the-variants.{Logical, Bitwise, Extremum as Chooses}
+use Rattle.number.specs.declared.operators.Comparison.the-variants.{Equals, NotEquals, LessThan, LessOrEqual}
+use Rattle.number.specs.declared.operators.Comparison.the-variants.{GreaterThan, GreaterOrEqual}
 use Rattle.number.specs.declared.operators.Connective.the-variants.{And, Or, Xor}
 use Rattle.number.specs.declared.operators.Conversion.{Conversion}
 use Rattle.number.specs.declared.operators.Conversion.the-variants.{ToChar, ToInt, ToFloat, Round, Floor, Ceil}
@@ -17,21 +20,27 @@ use Rattle.number.specs.declared.operators.Extremum.the-variants.{Min, M
 use Rattle.number.specs.declared.operators.Operator.{Operator}
 use Rattle.number.specs.declared.operators.Operator.the-variants.{OfOne, OfTwo, NotAnOperator}
 use Rattle.number.specs.declared.operators.Unary.{Unary}
-use Rattle.number.specs.declared.operators.Unary.the-variants.{Increment, Decrement, UnaryMinus, LogicalNot, BitwiseNot, Convert, Abs, Sq, Sqrt}
+use Rattle.number.specs.declared.operators.Unary.the-variants.{Increment, Decrement, UnaryMinus, LogicalNot}
+use Rattle.number.specs.declared.operators.Unary.the-variants.{BitwiseNot, Convert, Abs, Sq, Sqrt}
 
 -- Document 01: "Numbered 1 to 69 by place in appendix C".
 abbrev pub binaryTable : List (ℕ × Operator)
 binaryTable =
-    (9, OfTwo (Calculates Plus)) ∷ (10, OfTwo (Calculates Minus)) ∷ (11, OfTwo (Calculates Times)) ∷ (12, OfTwo (Calculates DividedBy)) ∷
-    (13, OfTwo (Calculates Modulus)) ∷ (15, OfTwo (Compares Equals)) ∷ (16, OfTwo (Compares NotEquals)) ∷ (17, OfTwo (Compares LessThan)) ∷
+    (9, OfTwo (Calculates Plus)) ∷ (10, OfTwo (Calculates Minus)) ∷ (11, OfTwo (Calculates Times)) ∷
+    (12, OfTwo (Calculates DividedBy)) ∷
+    (13, OfTwo (Calculates Modulus)) ∷ (15, OfTwo (Compares Equals)) ∷ (16, OfTwo (Compares NotEquals)) ∷
+    (17, OfTwo (Compares LessThan)) ∷
     (18, OfTwo (Compares LessOrEqual)) ∷ (19, OfTwo (Compares GreaterThan)) ∷ (20, OfTwo (Compares GreaterOrEqual)) ∷
-    (21, OfTwo (Logical And)) ∷ (22, OfTwo (Logical Or)) ∷ (23, OfTwo (Logical Xor)) ∷ (25, OfTwo (Bitwise And)) ∷ (26, OfTwo (Bitwise Or)) ∷
+    (21, OfTwo (Logical And)) ∷ (22, OfTwo (Logical Or)) ∷ (23, OfTwo (Logical Xor)) ∷ (25, OfTwo (Bitwise And)) ∷
+    (26, OfTwo (Bitwise Or)) ∷
     (27, OfTwo (Bitwise Xor)) ∷ (35, OfTwo (Chooses Min)) ∷ (36, OfTwo (Chooses Max)) ∷ []
 
 abbrev pub unaryTable : List (ℕ × Operator)
 unaryTable =
-    (7, OfOne Increment) ∷ (8, OfOne Decrement) ∷ (14, OfOne UnaryMinus) ∷ (24, OfOne LogicalNot) ∷ (28, OfOne BitwiseNot) ∷
-    (29, OfOne (Convert ToChar)) ∷ (30, OfOne (Convert ToInt)) ∷ (31, OfOne (Convert ToFloat)) ∷ (32, OfOne (Convert Round)) ∷
+    (7, OfOne Increment) ∷ (8, OfOne Decrement) ∷ (14, OfOne UnaryMinus) ∷ (24, OfOne LogicalNot) ∷
+    (28, OfOne BitwiseNot) ∷
+    (29, OfOne (Convert ToChar)) ∷ (30, OfOne (Convert ToInt)) ∷ (31, OfOne (Convert ToFloat)) ∷
+    (32, OfOne (Convert Round)) ∷
     (33, OfOne (Convert Floor)) ∷ (34, OfOne (Convert Ceil)) ∷ (37, OfOne Abs) ∷ (41, OfOne Sq) ∷ (42, OfOne Sqrt) ∷ []
 
 unfoldable pub lookup : ℕ → List (ℕ × Operator) → Operator → Operator

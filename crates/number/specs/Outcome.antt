@@ -6,7 +6,8 @@ use Rattle.number.specs.declared.Number.the-variants.{Char}
 use Rattle.number.specs.declared.Outcome.{Outcome}
 use Rattle.number.specs.declared.Outcome.the-variants.{Value, DivisionByZero, OutOfRange}
 
--- Document 01: "7 whole divisor zero; 8 conversion of NaN or to a whole outside the type's range, negative whole root". 0: no fault.
+-- Document 01: "7 whole divisor zero; 8 conversion of NaN or to a whole outside the type's range, negative whole root".
+-- 0: no fault.
 abbrev pub faultOf : Outcome → ℕ
 faultOf (Value a) = 0
 faultOf DivisionByZero = 7

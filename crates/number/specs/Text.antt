@@ -27,8 +27,8 @@ wholeText (negsuc n) = 45 ∷ decimal (suc n)
 abbrev pub decimals : ℕ → List ℕ
 decimals h = 46 ∷ (48 + h / 10 % 10) ∷ (48 + h % 10) ∷ []
 
--- Document 01: "FLOAT to the nearest hundredth, half away from zero, two decimals, '-' if below zero; "nan", "inf", "-inf"; "ovf" above 4294967040
--- and "-ovf" below its negative."
+-- Document 01: "FLOAT to the nearest hundredth, half away from zero, two decimals, '-' if below zero; "nan", "inf",
+-- "-inf"; "ovf" above 4294967040 and "-ovf" below its negative."
 abbrev pub printedText : Printed → List ℕ
 printedText NotANumber = 110 ∷ 97 ∷ 110 ∷ []
 printedText (Infinite s) = sign s ++ (105 ∷ 110 ∷ 102 ∷ [])

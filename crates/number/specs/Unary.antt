@@ -18,7 +18,8 @@ use Rattle.number.specs.declared.operators.Arithmetic.the-variants.{Plus
 use Rattle.number.specs.declared.operators.Binary.the-variants.{Arithmetic, Bitwise}
 use Rattle.number.specs.declared.operators.Connective.the-variants.{Xor}
 use Rattle.number.specs.declared.operators.Unary.{Unary}
-use Rattle.number.specs.declared.operators.Unary.the-variants.{Increment, Decrement, UnaryMinus, LogicalNot, BitwiseNot, Convert, Abs, Sq, Sqrt}
+use Rattle.number.specs.declared.operators.Unary.the-variants.{Increment, Decrement, UnaryMinus, LogicalNot}
+use Rattle.number.specs.declared.operators.Unary.the-variants.{BitwiseNot, Convert, Abs, Sq, Sqrt}
 
 -- of a FLOAT 0 it is −0, as IEEE 754 negates
 abbrev pub negated : Number → Number
@@ -47,7 +48,8 @@ squareRoot (Char x) = wholeSquareRoot Char x
 squareRoot (Int x) = wholeSquareRoot Int x
 squareRoot (Float x) = Value (Float (sqrtOf x))
 
--- Document 01: "INCREMENT adds 1." A CHAR operand leaves the other's type as it is, and CHAR −1 has every bit set at either width.
+-- Document 01: "INCREMENT adds 1." A CHAR operand leaves the other's type as it is, and CHAR −1 has every bit set at
+-- either width.
 unfoldable pub unary : Unary → Number → Outcome
 unary Increment a = binary (Arithmetic Plus) a (Char (pos 1))
 unary Decrement a = binary (Arithmetic Minus) a (Char (pos 1))

@@ -2,7 +2,8 @@
 ghost use mathlib.Core.Path.{_≡_};
 ghost use mir.Syntax.{w8, w16};
 ghost use Rattle.number.specs.Arithmetic.{whole, real, arithmetic};
-ghost use Rattle.number.specs.Binary.{ordered, orderedFloats, compared, connected, wholeBits, bitwise, replaces, extremum, binary};
+ghost use Rattle.number.specs.Binary.{ordered, orderedFloats, compared, connected, wholeBits, bitwise, replaces};
+ghost use Rattle.number.specs.Binary.{extremum, binary};
 ghost use Rattle.number.specs.Outcome.{flag};
 use crate::Number;
 use crate::Outcome;

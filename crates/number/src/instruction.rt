@@ -1,6 +1,7 @@
 // Which instruction is which operator, and which types an operator takes.
 ghost use mathlib.Core.Path.{_≡_};
-ghost use Rattle.number.specs.Instruction.{lookup, unaryTable, operatorOf, conversionTypes, unaryTypes, arithmeticTypes, binaryTypes, typesOf, takenBy};
+ghost use Rattle.number.specs.Instruction.{lookup, unaryTable, operatorOf, conversionTypes, unaryTypes};
+ghost use Rattle.number.specs.Instruction.{arithmeticTypes, binaryTypes, typesOf, takenBy};
 use crate::operators::Arithmetic;
 use crate::operators::Binary;
 use crate::operators::Comparison;

@@ -1,5 +1,5 @@
-// Numbers of the stack machine and their operators. Document 01: "A number taken off the stack is a CHAR, an INT or a FLOAT,
-// signed 8, signed 16, binary32."
+// Numbers of the stack machine and their operators. Document 01: "A number taken off the stack is a CHAR, an INT or a
+// FLOAT, signed 8, signed 16, binary32."
 pub mod binary;
 pub mod compare;
 pub mod instruction;

@@ -1,4 +1,5 @@
-// Two operands at one type. Document 01: "With a FLOAT operand both become FLOAT"; the guide, 8.7: the more precise of the two types.
+// Two operands at one type. Document 01: "With a FLOAT operand both become FLOAT"; the guide, 8.7: the more precise of
+// the two types.
 ghost use mathlib.Core.Path.{_≡_};
 ghost use Rattle.number.specs.Promotion.{promoted, first, second};
 use crate::Number;

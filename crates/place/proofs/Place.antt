@@ -74,7 +74,12 @@ module _ (runs : List Run) (lo hi n : ℕ) where
   unfolding fits
   fits-is s e =
       let r = and-right (leb lo s) (leb (s + n) hi && all (apart (runFrom s n)) runs) e in
-      record { low = leb-true _ _ (and-left (leb lo s) _ e); high = leb-true _ _ (and-left (leb (s + n) hi) _ r); free = and-right (leb (s + n) hi) _ r }
+      record {
+        low = leb-true _ _ (and-left (leb lo s) _ e);
+        high = leb-true _ _ (and-left (leb (s + n) hi) _ r);
+        free =
+            and-right (leb (s + n) hi) _ r;
+      }
 
   pub is-fits : (s : ℕ) → Fits runs lo hi n s → fits runs lo hi n s ≡ true
   unfolding fits
@@ -89,15 +94,19 @@ module _ (runs : List Run) (lo hi n : ℕ) where
   fits-above s h = rw (lt-leb _ _ h) (and-false (leb lo s))
 
   -- no start from s up to the end of a run that s meets is free
-  pub fits-not-before-end : (s i j : ℕ) (d : Run) → i < length runs → apart (runFrom s n) (getD runs i d) ≡ false → s ≤ j → j < getD runs i d .start + getD runs i d .len → fits runs lo hi n j ≡ false
+  pub fits-not-before-end : (s i j : ℕ) (d : Run) → i < length runs → apart (runFrom s n) (getD runs i d) ≡ false → s ≤ j
+      → j < getD runs i d .start + getD runs i d .len → fits runs lo hi n j ≡ false
   unfolding fits
   fits-not-before-end s i j d h e a b =
       let m = meet-is (runFrom s n) (getD runs i d) e in
-      let k : apart (runFrom j n) (getD runs i d) ≡ false = is-meet (runFrom j n) (getD runs i d) (record { left = omega (arith, m .left); right = b }) in
+      let k : apart (runFrom j n) (getD runs i d) ≡ false =
+      is-meet (runFrom j n) (getD runs i d) (record { left = omega (arith, m .left); right = b }) in
       rw (all-stop (apart (runFrom j n)) runs i d h k, and-false (leb (j + n) hi)) (and-false (leb lo j))
 
   -- so none before that end is free, where none before s is
-  pub fits-none-before-end : (s i : ℕ) (d : Run) → i < length runs → apart (runFrom s n) (getD runs i d) ≡ false → ((j : ℕ) → j < s → fits runs lo hi n j ≡ false) → (j : ℕ) → j < getD runs i d .start + getD runs i d .len → fits runs lo hi n j ≡ false
+  pub fits-none-before-end : (s i : ℕ) (d : Run) → i < length runs → apart (runFrom s n) (getD runs i d) ≡ false
+      → ((j : ℕ) → j < s → fits runs lo hi n j ≡ false) → (j : ℕ) → j < getD runs i d .start + getD runs i d .len
+      → fits runs lo hi n j ≡ false
   fits-none-before-end s i d h e f j b = go (leb s j) refl
     where
       go : (t : Bool) → leb s j ≡ t → fits runs lo hi n j ≡ false
@@ -117,7 +126,9 @@ module _ (p : ℕ → Bool) where
   lowest-is : (k m s : ℕ) → k ≤ s → s < k + m → p s ≡ true → ((j : ℕ) → j < s → p j ≡ false) → lowest p k m ≡ At s
   unfolding lowest
   lowest-is k zero s a b e f = absurd (omega arith)
-  lowest-is k (suc m) s a b e f = ⊎-elim (λ (w : k ≡ s). rw (subst (λ (j : ℕ). p j ≡ true) (sym w) e) (ap At w)) (λ (w : k < s). rw (f k w) (lowest-is (suc k) m s w (omega arith) e f)) (eq-or-lt-of-le a)
+  lowest-is k (suc m) s a b e f =
+      ⊎-elim (λ (w : k ≡ s). rw (subst (λ (j : ℕ). p j ≡ true) (sym w) e) (ap At w))
+      (λ (w : k < s). rw (f k w) (lowest-is (suc k) m s w (omega arith) e f)) (eq-or-lt-of-le a)
 
   lowest-nowhere : (k m : ℕ) → ((j : ℕ) → p j ≡ false) → lowest p k m ≡ Nowhere
   unfolding lowest
@@ -135,14 +146,19 @@ module _ (p : ℕ → Bool) where
     where
       go : (b : Bool) → p k ≡ b → atOr b k (lowest p (suc k) m) ≡ At s → (lowest p (suc k) m ≡ At s → Lowest (suc k) s) → Lowest k s
       go true q h r = let w : k ≡ s = cc in record { holds = subst (λ (j : ℕ). p j ≡ true) w q; first = λ j x y. absurd (omega arith) }
-      go false q h r = record { holds = r h .holds; first = λ j x y. ⊎-elim (λ w. subst (λ (i : ℕ). p i ≡ false) w q) (λ w. r h .first j w y) (eq-or-lt-of-le x) }
+      go false q h r = record {
+        holds = r h .holds;
+        first = λ j x y.
+            ⊎-elim (λ w. subst (λ (i : ℕ). p i ≡ false) w q) (λ w. r h .first j w y) (eq-or-lt-of-le x);
+      }
 
   lowest-none : (k m : ℕ) → lowest p k m ≡ Nowhere → (j : ℕ) → k ≤ j → j < k + m → p j ≡ false
   unfolding lowest
   lowest-none k zero e j x y = absurd (omega arith)
   lowest-none k (suc m) e j x y = go (p k) refl e (lowest-none (suc k) m)
     where
-      go : (b : Bool) → p k ≡ b → atOr b k (lowest p (suc k) m) ≡ Nowhere → (lowest p (suc k) m ≡ Nowhere → (i : ℕ) → suc k ≤ i → i < suc k + m → p i ≡ false) → p j ≡ false
+      go : (b : Bool) → p k ≡ b → atOr b k (lowest p (suc k) m) ≡ Nowhere
+          → (lowest p (suc k) m ≡ Nowhere → (i : ℕ) → suc k ≤ i → i < suc k + m → p i ≡ false) → p j ≡ false
       go true q h r = absurd (let z : _≡_ {A = ℕ} 0 1 = cc in omega arith)
       go false q h r = ⊎-elim (λ w. subst (λ (i : ℕ). p i ≡ false) w q) (λ w. r h j w (omega arith)) (eq-or-lt-of-le x)
 
@@ -170,7 +186,8 @@ module _ (runs : List Run) (lo hi n : ℕ) where
       go : (b : Bool) → leb lo j ≡ b → (c : Bool) → leb (j + n) hi ≡ c → fits runs lo hi n j ≡ false
       go false k c l = fits-below runs lo hi n j (leb-false _ _ k)
       go true k false l = fits-above runs lo hi n j (leb-false _ _ l)
-      go true k true l = lowest-none (fits runs lo hi n) lo (suc hi - lo) e j (leb-true _ _ k) (let x : lo ≤ j = leb-true _ _ k in let y : j + n ≤ hi = leb-true _ _ l in omega arith)
+      go true k true l = lowest-none (fits runs lo hi n) lo (suc hi - lo) e j (leb-true _ _ k) (let x : lo ≤ j = leb-true _ _ k in
+          let y : j + n ≤ hi = leb-true _ _ l in omega arith)
 
   -- the other way round: where a place is, there it is found
   pub place-is : (s : ℕ) → fits runs lo hi n s ≡ true → ((j : ℕ) → j < s → fits runs lo hi n j ≡ false) → place runs lo hi n ≡ At s
@@ -200,7 +217,13 @@ place-shorter runs lo hi m n h e = go (place runs lo hi n) refl e
         let x = place-fits runs lo hi n s k in
         place-some runs lo hi m s
         (is-fits runs lo hi m s
-        (record { low = x .low; high = omega (arith, x .high); free = all-weaker (apart (runFrom s n)) (apart (runFrom s m)) runs (λ v a. is-apart (runFrom s m) v (shorter v (apart-is (runFrom s n) v a))) (x .free) }))
+        (record {
+          low = x .low;
+          high = omega (arith, x .high);
+          free =
+              all-weaker (apart (runFrom s n)) (apart (runFrom s m)) runs
+              (λ v a. is-apart (runFrom s m) v (shorter v (apart-is (runFrom s n) v a))) (x .free);
+        }))
       where
         shorter : (v : Run) → Apart (runFrom s n) v → Apart (runFrom s m) v
         shorter v a = record { sides = ⊎-elim (λ (w : s + n ≤ v .start). inl (omega arith)) (λ w. inr w) (a .sides) }
@@ -214,14 +237,17 @@ module _ (p : ℕ → Bool) where
   greatest-is : (n g : ℕ) → g ≤ n → ((0 < g) → p g ≡ true) → ((j : ℕ) → g < j → j ≤ n → p j ≡ false) → greatest p n ≡ g
   unfolding greatest
   greatest-is zero g a e f = omega arith
-  greatest-is (suc n) g a e f = ⊎-elim (λ (w : g ≡ suc n). rw (subst (λ (k : ℕ). p k ≡ true) w (e (omega arith))) (sym w)) (λ w. rw (f (suc n) w (omega arith)) (greatest-is n g (le-of-suc-le-suc w) e (λ j x y. f j x (omega arith)))) (eq-or-lt-of-le a)
+  greatest-is (suc n) g a e f =
+      ⊎-elim (λ (w : g ≡ suc n). rw (subst (λ (k : ℕ). p k ≡ true) w (e (omega arith))) (sym w))
+      (λ w. rw (f (suc n) w (omega arith)) (greatest-is n g (le-of-suc-le-suc w) e (λ j x y. f j x (omega arith)))) (eq-or-lt-of-le a)
 
   greatest-holds : (n : ℕ) → 0 < greatest p n → p (greatest p n) ≡ true
   unfolding greatest
   greatest-holds zero h = absurd (not-suc-le-zero h)
   greatest-holds (suc n) h = go (p (suc n)) refl h (greatest-holds n)
     where
-      go : (b : Bool) → p (suc n) ≡ b → 0 < greaterOf b (suc n) (greatest p n) → (0 < greatest p n → p (greatest p n) ≡ true) → p (greaterOf b (suc n) (greatest p n)) ≡ true
+      go : (b : Bool) → p (suc n) ≡ b → 0 < greaterOf b (suc n) (greatest p n) → (0 < greatest p n → p (greatest p n) ≡ true)
+          → p (greaterOf b (suc n) (greatest p n)) ≡ true
       go true q x r = q
       go false q x r = r x
 
@@ -244,7 +270,8 @@ module _ (p : ℕ → Bool) where
       go false q x r = ⊎-elim (λ w. subst (λ (i : ℕ). p i ≡ false) (sym w) q) (λ w. r x (le-of-suc-le-suc w)) (eq-or-lt-of-le k)
 
 module _ (runs : List Run) (lo hi : ℕ) where
-  pub longest-is : (g : ℕ) → g ≤ hi - lo → (0 < g → isAt (place runs lo hi g) ≡ true) → ((j : ℕ) → g < j → j ≤ hi - lo → isAt (place runs lo hi j) ≡ false) → longest runs lo hi ≡ g
+  pub longest-is : (g : ℕ) → g ≤ hi - lo → (0 < g → isAt (place runs lo hi g) ≡ true)
+      → ((j : ℕ) → g < j → j ≤ hi - lo → isAt (place runs lo hi j) ≡ false) → longest runs lo hi ≡ g
   unfolding longest
   longest-is g a e f = greatest-is (λ n. isAt (place runs lo hi n)) (hi - lo) g a e f
 
@@ -266,4 +293,5 @@ module _ (runs : List Run) (lo hi : ℕ) where
       go Nowhere e = refl
       go (At s) e =
           let x = place-fits runs lo hi n s e in
-          absurd (true-not-false (ap isAt e) (greatest-most (λ k. isAt (place runs lo hi k)) (hi - lo) n h (omega (arith, x .low, x .high))))
+          absurd (true-not-false (ap isAt e)
+          (greatest-most (λ k. isAt (place runs lo hi k)) (hi - lo) n h (omega (arith, x .low, x .high))))

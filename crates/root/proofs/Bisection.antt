@@ -31,4 +31,5 @@ module _ (n low width : ℕ) (i : Between n low width) (more : 1 < width) {next 
       (record { from = i .from; to = lt-of-lt-of-le h (square-mono (omega arith)); reach = omega (arith, i .reach); some = omega arith })
 
 pub single : (n low width : ℕ) → Between n low width → width ≤ 1 → low ≡ wholeRoot n
-single n low width i h = root-met (record { low = i .from; high = subst (λ (w : ℕ). n < (low + w) * (low + w)) (omega (arith, i .some)) (i .to) })
+single n low width i h =
+    root-met (record { low = i .from; high = subst (λ (w : ℕ). n < (low + w) * (low + w)) (omega (arith, i .some)) (i .to) })

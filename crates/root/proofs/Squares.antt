@@ -39,7 +39,8 @@ next-digit n p i = by (leb ((2 * p + 1) * (2 * p + 1)) n) (leb→le ((2 * p + 1)
     over : n < (2 * p + 1 + 1) * (2 * p + 1 + 1)
     over = subst (λ (a : ℕ). n < a * a) next (omega (arith, twice-square (p + 1), i .high))
 
-    by : (b : Bool) → (T b → (2 * p + 1) * (2 * p + 1) ≤ n) → (T (not b) → n < (2 * p + 1) * (2 * p + 1)) → IsRoot n (cond b (2 * p + 1) (2 * p))
+    by : (b : Bool) → (T b → (2 * p + 1) * (2 * p + 1) ≤ n) → (T (not b) → n < (2 * p + 1) * (2 * p + 1))
+        → IsRoot n (cond b (2 * p + 1) (2 * p))
     by true y k = record { low = y tt; high = over }
     by false y k = record { low = omega (arith, twice-square p, i .low); high = k tt }
 
@@ -47,7 +48,8 @@ digits-root : (d n : ℕ) → n < 4 ^ d → IsRoot n (rootDigits d n)
 unfolding rootDigits
 digits-root zero n h = record { low = omega arith; high = omega arith }
 digits-root (suc d) n h =
-    next-digit n (rootDigits d (n / 4)) (digits-root d (n / 4) (div-lt-iff-lt-mul {k = 4} {x = n} {y = 4 ^ d} (omega arith) .1 (subst (λ (a : ℕ). n < a) (pow-suc 4 d) h)))
+    next-digit n (rootDigits d (n / 4))
+    (digits-root d (n / 4) (div-lt-iff-lt-mul {k = 4} {x = n} {y = 4 ^ d} (omega arith) .1 (subst (λ (a : ℕ). n < a) (pow-suc 4 d) h)))
 
 pub root-is : (n : ℕ) → IsRoot n (wholeRoot n)
 unfolding wholeRoot

@@ -4,7 +4,8 @@ use mathlib.Core.Bool.{cond}
 use lib.Dec.{leb}
 use lib.Ieee.{size}
 
--- r is the whole root of n: r * r ≤ n < (r + 1) * (r + 1). Every n has one such r, and it is `wholeRoot n` (proofs/Squares.antt).
+-- r is the whole root of n: r * r ≤ n < (r + 1) * (r + 1). Every n has one such r, and it is `wholeRoot n`
+-- (proofs/Squares.antt).
 pub record IsRoot (n r : ℕ) : Type 0 where
   pub low : r * r ≤ n
   pub high : n < (r + 1) * (r + 1)

@@ -18,7 +18,8 @@ use Rattle.store.specs.Name.{goodName}
 use Rattle.store.specs.declared.Admission.{Admission}
 use Rattle.store.specs.declared.Admission.the-variants.{Start, Denied}
 use Rattle.store.specs.declared.Refusal.{Refusal}
-use Rattle.store.specs.declared.Refusal.the-variants.{WrongLength, BadDisc, ShortOutput, BadName, BadSize, NameExists, DirectoryFull, NoRun, NoSuchFile}
+use Rattle.store.specs.declared.Refusal.the-variants.{WrongLength, BadDisc, ShortOutput, BadName, BadSize, NameExists, DirectoryFull}
+use Rattle.store.specs.declared.Refusal.the-variants.{NoRun, NoSuchFile}
 use Rattle.store.proofs.Goodness.{good-disc-is}
 
 -- admitted at start s
@@ -51,15 +52,23 @@ module _ (disc name : List ℕ) (n : ℕ) where
   unfolding admission placeOf
   verdict = go (goodName name) refl (goodSize disc n) refl (ltb (fileCount disc) 10) refl (lookup disc name) refl (placeOf disc n) refl
     where
-      go : (a : Bool) → goodName name ≡ a → (b : Bool) → goodSize disc n ≡ b → (c : Bool) → ltb (fileCount disc) 10 ≡ c → (f : Found) → lookup disc name ≡ f → (g : Found) → placeOf disc n ≡ g
-          → Verdict disc name n (unless a (Denied BadName) (unless b (Denied BadSize) (unless c (Denied DirectoryFull) (denyIfFound f (startOr g)))))
+      go : (a : Bool) → goodName name ≡ a → (b : Bool) → goodSize disc n ≡ b → (c : Bool) → ltb (fileCount disc) 10 ≡ c → (f : Found)
+          → lookup disc name ≡ f → (g : Found) → placeOf disc n ≡ g
+          → Verdict disc name n
+          (unless a (Denied BadName) (unless b (Denied BadSize) (unless c (Denied DirectoryFull) (denyIfFound f (startOr g)))))
       go false p b q c r f t g u = p
       go true p false q c r f t g u = q
       go true p true q false r f t g u = ltb-false (fileCount disc) 10 r
       go true p true q true r (At i) t g u = (i, t)
       go true p true q true r Nowhere t Nowhere u = no-place-none-fits (taken disc) 161 (length disc) n u
       go true p true q true r Nowhere t (At s) u =
-          record { good = p; some = leb-true 1 n (and-left (leb 1 n) (leb n (length disc - 161)) q); few = ltb-true (fileCount disc) 10 r; new = t; placed = place-fits (taken disc) 161 (length disc) n s u }
+          record {
+            good = p;
+            some = leb-true 1 n (and-left (leb 1 n) (leb n (length disc - 161)) q);
+            few = ltb-true (fileCount disc) 10 r;
+            new = t;
+            placed = place-fits (taken disc) 161 (length disc) n s u;
+          }
 
   pub admitted : (s : ℕ) → admission disc name n ≡ Start s → Admitted disc name n s
   admitted s e = subst (λ (a : Admission). Verdict disc name n a) e verdict
@@ -72,7 +81,8 @@ module _ (disc name : List ℕ) (n : ℕ) where
   denied-full g e = let full : 10 ≤ fileCount disc = denied DirectoryFull e in omega (arith, good-disc-is disc g .few)
 
   -- what nothing speaks against is admitted
-  pub admits : (s : ℕ) → goodName name ≡ true → goodSize disc n ≡ true → fileCount disc < 10 → lookup disc name ≡ Nowhere → fits (taken disc) 161 (length disc) n s ≡ true
+  pub admits : (s : ℕ) → goodName name ≡ true → goodSize disc n ≡ true → fileCount disc < 10 → lookup disc name ≡ Nowhere
+      → fits (taken disc) 161 (length disc) n s ≡ true
       → (k : ℕ) × (admission disc name n ≡ Start k)
   unfolding admission placeOf
   admits s g z f l h = go (placeOf disc n) refl

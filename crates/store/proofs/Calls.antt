@@ -16,14 +16,16 @@ use Rattle.buffer.specs.declared.Found.the-variants.{At, Nowhere}
 use Rattle.buffer.proofs.Bools.{true-not-false}
 use Rattle.place.specs.Place.{fits, isAt, longest, runFrom}
 use Rattle.place.proofs.Place.{longest-fits, longest-most}
-use Rattle.store.specs.Answer.{Reported, Updated, answerNumber, eraseAnswer, eraseAt, fileLine, filesAnswer, freeSpaceAnswer, refusalNumber, reported, retrieveAnswer, retrieveAt, storeAnswer, storeAt, updated}
+use Rattle.store.specs.Answer.{Reported, Updated, answerNumber, eraseAnswer, eraseAt, fileLine, filesAnswer, freeSpaceAnswer}
+use Rattle.store.specs.Answer.{refusalNumber, reported, retrieveAnswer, retrieveAt, storeAnswer, storeAt, updated}
 use Rattle.store.specs.Directory.{contents, entryAt, fileCount, files, goodDisc, isDiscLength, lookup, runOf, taken}
 use Rattle.store.specs.File.{admission, entered, erased, placeOf, unless, writtenAt}
 use Rattle.store.specs.declared.Admission.{Admission}
 use Rattle.store.specs.declared.Admission.the-variants.{Start, Denied}
 use Rattle.store.specs.declared.Answer.the-variants.{Done, Refused}
 use Rattle.store.specs.declared.Refusal.{Refusal}
-use Rattle.store.specs.declared.Refusal.the-variants.{WrongLength, BadDisc, ShortOutput, BadName, BadSize, NameExists, DirectoryFull, NoRun, NoSuchFile}
+use Rattle.store.specs.declared.Refusal.the-variants.{WrongLength, BadDisc, ShortOutput, BadName, BadSize, NameExists, DirectoryFull}
+use Rattle.store.specs.declared.Refusal.the-variants.{NoRun, NoSuchFile}
 use Rattle.store.proofs.Checks.{by-checks, is-usable}
 use Rattle.store.proofs.Admissions.{Admitted, Denial, admitted, denied}
 use Rattle.store.proofs.Goodness.{good-disc-is}
@@ -31,7 +33,8 @@ use Rattle.store.proofs.Goodness.{good-disc-is}
 -- ---- numbers
 -- the refusals by their numbers
 refusals : List Refusal
-refusals = NoSuchFile ∷ WrongLength ∷ BadDisc ∷ NoSuchFile ∷ ShortOutput ∷ BadName ∷ BadSize ∷ NameExists ∷ DirectoryFull ∷ NoRun ∷ NoSuchFile ∷ []
+refusals = NoSuchFile ∷ WrongLength ∷ BadDisc ∷ NoSuchFile ∷ ShortOutput ∷ BadName ∷ BadSize ∷ NameExists ∷ DirectoryFull ∷ NoRun ∷
+    NoSuchFile ∷ []
 
 refusal-at : (r : Refusal) → getD refusals (refusalNumber r) NoSuchFile ≡ r
 unfolding refusals
@@ -48,7 +51,8 @@ refusal-at NoSuchFile = refl
 -- a number stands for one refusal
 pub number-refusal : (r q : Refusal) → answerNumber (Refused r) ≡ answerNumber (Refused q) → r ≡ q
 number-refusal r q e =
-    let p : pos (refusalNumber r) ≡ pos (refusalNumber q) = sym (negℤ-negℤ (pos (refusalNumber r))) ∙ ap negℤ e ∙ negℤ-negℤ (pos (refusalNumber q)) in
+    let p : pos (refusalNumber r) ≡ pos (refusalNumber q) = sym (negℤ-negℤ (pos (refusalNumber r))) ∙ ap negℤ e
+    ∙ negℤ-negℤ (pos (refusalNumber q)) in
     let n : refusalNumber r ≡ refusalNumber q = cc in
     sym (refusal-at r) ∙ ap (λ (k : ℕ). getD refusals k NoSuchFile) n ∙ refusal-at q
 
@@ -76,12 +80,15 @@ stored disc name bytes s = writtenAt (entered disc name (length bytes) s) (runFr
 
 pub store-cases : (disc name bytes : List ℕ) (P : Updated → Type 0)
     → ((r : Refusal) → Denial disc name (length bytes) r → P (updated (Refused r) disc))
-    → ((s : ℕ) → isDiscLength (length disc) ≡ true → goodDisc disc ≡ true → Admitted disc name (length bytes) s → P (updated (Done 0) (stored disc name bytes s)))
+    → ((s : ℕ) → isDiscLength (length disc) ≡ true → goodDisc disc ≡ true → Admitted disc name (length bytes) s
+    → P (updated (Done 0) (stored disc name bytes s)))
     → P (storeAnswer disc name bytes)
 unfolding storeAnswer
-store-cases disc name bytes P refused done = by-checks disc P _ _ (refused WrongLength) (refused BadDisc) (go (admission disc name (length bytes)) refl)
+store-cases disc name bytes P refused done =
+    by-checks disc P _ _ (refused WrongLength) (refused BadDisc) (go (admission disc name (length bytes)) refl)
   where
-    go : (a : Admission) → admission disc name (length bytes) ≡ a → isDiscLength (length disc) ≡ true → goodDisc disc ≡ true → P (storeAt a disc name bytes)
+    go : (a : Admission) → admission disc name (length bytes) ≡ a → isDiscLength (length disc) ≡ true → goodDisc disc ≡ true
+        → P (storeAt a disc name bytes)
     go (Denied r) e l g = refused r (denied disc name (length bytes) r e)
     go (Start s) e l g = done s l g (admitted disc name (length bytes) s e)
 
@@ -90,7 +97,8 @@ pub erase-cases : (disc name : List ℕ) (P : Updated → Type 0)
     → ((i : ℕ) → goodDisc disc ≡ true → lookup disc name ≡ At i → P (updated (Done 0) (erased disc i)))
     → P (eraseAnswer disc name)
 unfolding eraseAnswer
-erase-cases disc name P refused done = by-checks disc P _ _ (λ e. refused WrongLength) (λ e. refused BadDisc) (λ l g. go (lookup disc name) refl g)
+erase-cases disc name P refused done =
+    by-checks disc P _ _ (λ e. refused WrongLength) (λ e. refused BadDisc) (λ l g. go (lookup disc name) refl g)
   where
     go : (f : Found) → lookup disc name ≡ f → goodDisc disc ≡ true → P (eraseAt f disc)
     go Nowhere e g = refused NoSuchFile
@@ -98,15 +106,18 @@ erase-cases disc name P refused done = by-checks disc P _ _ (λ e. refused Wrong
 
 -- ---- Document 01: "−n is refusal n with both buffers and the output unchanged"
 pub store-refused : (disc name bytes : List ℕ) → storeAnswer disc name bytes .number <ℤ pos 0 → storeAnswer disc name bytes .disc ≡ disc
-store-refused disc name bytes = store-cases disc name bytes (λ u. u .number <ℤ pos 0 → u .disc ≡ disc) (λ r d h. refl) (λ s l g a h. absurd (done-not-below 0 h))
+store-refused disc name bytes =
+    store-cases disc name bytes (λ u. u .number <ℤ pos 0 → u .disc ≡ disc) (λ r d h. refl) (λ s l g a h. absurd (done-not-below 0 h))
 
 pub erase-refused : (disc name : List ℕ) → eraseAnswer disc name .number <ℤ pos 0 → eraseAnswer disc name .disc ≡ disc
-erase-refused disc name = erase-cases disc name (λ u. u .number <ℤ pos 0 → u .disc ≡ disc) (λ r h. refl) (λ i g e h. absurd (done-not-below 0 h))
+erase-refused disc name =
+    erase-cases disc name (λ u. u .number <ℤ pos 0 → u .disc ≡ disc) (λ r h. refl) (λ i g e h. absurd (done-not-below 0 h))
 
 abbrev Unwritten : List ℕ → Reported → Type 0
 Unwritten out u = u .number <ℤ pos 0 → u .out ≡ out
 
-unwritten : (fit : Bool) (n : ℕ) (out after : List ℕ) → Unwritten out (unless fit (reported (Refused ShortOutput) out) (reported (Done n) after))
+unwritten : (fit : Bool) (n : ℕ) (out after : List ℕ)
+    → Unwritten out (unless fit (reported (Refused ShortOutput) out) (reported (Done n) after))
 unwritten true n out after h = absurd (done-not-below n h)
 unwritten false n out after h = refl
 
@@ -116,40 +127,48 @@ retrieve-refused disc name out = by-checks disc (Unwritten out) _ _ (λ e h. ref
   where
     go : (f : Found) → Unwritten out (retrieveAt f disc out)
     go Nowhere h = refl
-    go (At i) h = unwritten (leb (entryAt disc i .len) (length out)) (entryAt disc i .len) out (overwrite out 0 (contents disc (runOf (entryAt disc i)))) h
+    go (At i) h = unwritten (leb (entryAt disc i .len) (length out)) (entryAt disc i .len) out
+        (overwrite out 0 (contents disc (runOf (entryAt disc i)))) h
 
 pub files-refused : (disc out : List ℕ) → filesAnswer disc out .number <ℤ pos 0 → filesAnswer disc out .out ≡ out
 unfolding filesAnswer
 files-refused disc out =
     let text : List ℕ = flat fileLine (files disc) in
-    by-checks disc (Unwritten out) _ _ (λ e h. refl) (λ e h. refl) (λ e f. unwritten (leb (length text) (length out)) (length text) out (overwrite out 0 text))
+    by-checks disc (Unwritten out) _ _ (λ e h. refl) (λ e h. refl)
+    (λ e f. unwritten (leb (length text) (length out)) (length text) out (overwrite out 0 text))
 
 -- ---- each refusal of store only where it says so
-pub store-refused-for : (disc name bytes : List ℕ) (r : Refusal) → storeAnswer disc name bytes .number ≡ answerNumber (Refused r) → Denial disc name (length bytes) r
+pub store-refused-for : (disc name bytes : List ℕ) (r : Refusal) → storeAnswer disc name bytes .number ≡ answerNumber (Refused r)
+    → Denial disc name (length bytes) r
 store-refused-for disc name bytes r =
     store-cases disc name bytes (λ u. u .number ≡ answerNumber (Refused r) → Denial disc name (length bytes) r)
     (λ q d h. subst (λ (x : Refusal). Denial disc name (length bytes) x) (number-refusal q r h) d)
     (λ s l g a h. absurd (refused-not-done r 0 (sym h)))
 
 -- a number below 0 is one of these refusals
-pub store-refused-by : (disc name bytes : List ℕ) → storeAnswer disc name bytes .number <ℤ pos 0 → (r : Refusal) × (storeAnswer disc name bytes .number ≡ answerNumber (Refused r)) × Denial disc name (length bytes) r
+pub store-refused-by : (disc name bytes : List ℕ) → storeAnswer disc name bytes .number <ℤ pos 0 → (r : Refusal)
+    × (storeAnswer disc name bytes .number ≡ answerNumber (Refused r)) × Denial disc name (length bytes) r
 store-refused-by disc name bytes =
-    store-cases disc name bytes (λ u. u .number <ℤ pos 0 → (r : Refusal) × (u .number ≡ answerNumber (Refused r)) × Denial disc name (length bytes) r)
+    store-cases disc name bytes (λ u. u .number <ℤ pos 0 → (r : Refusal) × (u .number ≡ answerNumber (Refused r))
+    × Denial disc name (length bytes) r)
     (λ r d h. (r, refl, d))
     (λ s l g a h. absurd (done-not-below 0 h))
 
 -- on a good disc of the right length nothing but the admission is asked
-pub store-admission : (disc name bytes : List ℕ) → isDiscLength (length disc) ≡ true → goodDisc disc ≡ true → storeAnswer disc name bytes ≡ storeAt (admission disc name (length bytes)) disc name bytes
+pub store-admission : (disc name bytes : List ℕ) → isDiscLength (length disc) ≡ true → goodDisc disc ≡ true
+    → storeAnswer disc name bytes ≡ storeAt (admission disc name (length bytes)) disc name bytes
 unfolding storeAnswer
 store-admission disc name bytes l g = rw (is-usable disc l g)
 
 -- refusal 8 only with ten files, refusal 9 only where no start fits
-pub store-refused-full : (disc name bytes : List ℕ) → goodDisc disc ≡ true → storeAnswer disc name bytes .number ≡ negℤ (pos 8) → fileCount disc ≡ 10
+pub store-refused-full : (disc name bytes : List ℕ) → goodDisc disc ≡ true → storeAnswer disc name bytes .number ≡ negℤ (pos 8)
+    → fileCount disc ≡ 10
 store-refused-full disc name bytes good e =
     let full : 10 ≤ fileCount disc = store-refused-for disc name bytes DirectoryFull e in
     omega (arith, good-disc-is disc good .few)
 
-pub store-refused-no-run : (disc name bytes : List ℕ) → storeAnswer disc name bytes .number ≡ negℤ (pos 9) → (s : ℕ) → fits (taken disc) 161 (length disc) (length bytes) s ≡ false
+pub store-refused-no-run : (disc name bytes : List ℕ) → storeAnswer disc name bytes .number ≡ negℤ (pos 9) → (s : ℕ)
+    → fits (taken disc) 161 (length disc) (length bytes) s ≡ false
 store-refused-no-run disc name bytes e = store-refused-for disc name bytes NoRun e
 
 -- ---- free space

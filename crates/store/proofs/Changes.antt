@@ -12,7 +12,8 @@ use Rattle.buffer.specs.Buffer.{overwrite, part}
 use Rattle.buffer.specs.Lists.{tab, without}
 use Rattle.buffer.proofs.Buffer.{overwrite-drop, overwrite-length, overwrite-take}
 use Rattle.buffer.proofs.Lists.{tab-more, tab-same}
-use Rattle.buffer.proofs.Parts.{byte-before, byte-behind, byte-inside, part-before, part-inside, part-length, part-of-append-left, part-of-append-right, part-of-part, same-part}
+use Rattle.buffer.proofs.Parts.{byte-before, byte-behind, byte-inside, part-before, part-inside, part-length, part-of-append-left}
+use Rattle.buffer.proofs.Parts.{part-of-append-right, part-of-part, same-part}
 use Rattle.buffer.proofs.Tables.{tab-without}
 use Rattle.place.specs.declared.Run.{Run}
 use Rattle.store.specs.Directory.{entryAt, entryBytes, fileCount, files}
@@ -28,7 +29,8 @@ record DirectoryChange (disc : List ℕ) (at : ℕ) (s : List ℕ) (count : ℕ)
   parts : (i n : ℕ) → i + n ≤ 160 → part after i n ≡ part (overwrite disc at s) i n
   same-bytes : (i : ℕ) → (i < at) ⊎ (at + length s ≤ i) → (i ≡ 160 → ⊥) → getD after i 0 ≡ getD disc i 0
 
-directory-change : (disc s : List ℕ) (at count : ℕ) → at + length s ≤ 160 → 161 ≤ length disc → DirectoryChange disc at s count (overwrite (overwrite disc at s) 160 (count ∷ []))
+directory-change : (disc s : List ℕ) (at count : ℕ) → at + length s ≤ 160 → 161 ≤ length disc
+    → DirectoryChange disc at s count (overwrite (overwrite disc at s) 160 (count ∷ []))
 directory-change disc s at count h l =
     let inside : at + length s ≤ length disc = omega arith in
     let same : length (overwrite disc at s) ≡ length disc = overwrite-length disc s at inside in
@@ -36,9 +38,11 @@ directory-change disc s at count h l =
     record {
       same-length = overwrite-length (overwrite disc at s) (count ∷ []) 160 room ∙ same;
       new-count = byte-inside (overwrite disc at s) (count ∷ []) 160 room 0 (omega arith);
-      same-data = overwrite-drop (overwrite disc at s) (count ∷ []) 160 room 161 (omega arith) ∙ overwrite-drop disc s at inside 161 (omega arith);
+      same-data = overwrite-drop (overwrite disc at s) (count ∷ []) 160 room 161 (omega arith)
+          ∙ overwrite-drop disc s at inside 161 (omega arith);
       parts = λ i n k. part-before (overwrite disc at s) (count ∷ []) 160 room i n k;
-      same-bytes = λ i o k. byte-but (overwrite disc at s) count i room k ∙ ⊎-elim (byte-before disc s at inside i) (byte-behind disc s at inside i) o;
+      same-bytes = λ i o k. byte-but (overwrite disc at s) count i room k
+          ∙ ⊎-elim (byte-before disc s at inside i) (byte-behind disc s at inside i) o;
     }
   where
     byte-but : (d : List ℕ) (b i : ℕ) → 160 + 1 ≤ length d → (i ≡ 160 → ⊥) → getD (overwrite d 160 (b ∷ [])) i 0 ≡ getD d i 0
@@ -59,9 +63,11 @@ module _ {disc name : List ℕ} (n start : ℕ) (room : Room disc name) where
   entry-length : length (entryBytes (newEntry name n start)) ≡ 16
   entry-length = entry-bytes-length (newEntry name n start) (padded-length name (room .short))
 
-  entering : DirectoryChange disc (fileCount disc * 16) (entryBytes (newEntry name n start)) (fileCount disc + 1) (entered disc name n start)
+  entering : DirectoryChange disc (fileCount disc * 16) (entryBytes (newEntry name n start)) (fileCount disc + 1)
+      (entered disc name n start)
   unfolding entered
-  entering = directory-change disc (entryBytes (newEntry name n start)) (fileCount disc * 16) (fileCount disc + 1) (omega (arith, entry-length)) (room .low)
+  entering = directory-change disc (entryBytes (newEntry name n start)) (fileCount disc * 16) (fileCount disc + 1)
+      (omega (arith, entry-length)) (room .low)
 
   pub entered-length : length (entered disc name n start) ≡ length disc
   entered-length = entering .same-length
@@ -73,12 +79,14 @@ module _ {disc name : List ℕ} (n start : ℕ) (room : Room disc name) where
   entered-data = entering .same-data
 
   -- every byte but the new entry's sixteen and the count is as it was
-  pub entered-byte : (i : ℕ) → (i < fileCount disc * 16) ⊎ (fileCount disc * 16 + 16 ≤ i) → (i ≡ 160 → ⊥) → getD (entered disc name n start) i 0 ≡ getD disc i 0
+  pub entered-byte : (i : ℕ) → (i < fileCount disc * 16) ⊎ (fileCount disc * 16 + 16 ≤ i) → (i ≡ 160 → ⊥)
+      → getD (entered disc name n start) i 0 ≡ getD disc i 0
   entered-byte i o k = entering .same-bytes i (rw entry-length o) k
 
   pub entered-new : entryAt (entered disc name n start) (fileCount disc) ≡ newEntry name n start
   entered-new =
-      same-entry (entered disc name n start) (overwrite disc (fileCount disc * 16) (entryBytes (newEntry name n start))) (fileCount disc) (fileCount disc) (entering .parts (fileCount disc * 16) 16 (omega arith))
+      same-entry (entered disc name n start) (overwrite disc (fileCount disc * 16) (entryBytes (newEntry name n start))) (fileCount disc)
+      (fileCount disc) (entering .parts (fileCount disc * 16) 16 (omega arith))
       ∙ entry-laid disc (fileCount disc) (newEntry name n start) (padded-length name (room .short)) (omega arith)
 
   pub entered-old : (i : ℕ) → i < fileCount disc → entryAt (entered disc name n start) i ≡ entryAt disc i
@@ -160,14 +168,16 @@ module _ {disc : List ℕ} {i : ℕ} (file : Present disc i) where
       ∙ ap (λ (x : ℕ). part disc x 16) q)
 
   -- what stands in the directory then stood there before, at another place than i; and what stood there still stands there
-  pub erased-from : (k : ℕ) → k < fileCount disc - 1 → (j : ℕ) × (j < fileCount disc) × (j ≡ i → ⊥) × (entryAt (erased disc i) k ≡ entryAt disc j)
+  pub erased-from : (k : ℕ) → k < fileCount disc - 1 → (j : ℕ) × (j < fileCount disc) × (j ≡ i → ⊥)
+      × (entryAt (erased disc i) k ≡ entryAt disc j)
   erased-from k b = go (ltb k i) refl
     where
       go : (t : Bool) → ltb k i ≡ t → (j : ℕ) × (j < fileCount disc) × (j ≡ i → ⊥) × (entryAt (erased disc i) k ≡ entryAt disc j)
       go true e = let l : k < i = ltb-true k i e in (k, omega arith, (λ w. omega arith), erased-earlier k l)
       go false e = let l : i ≤ k = ltb-false k i e in (suc k, omega arith, (λ w. omega arith), erased-later k l b)
 
-  pub erased-to : (j : ℕ) → j < fileCount disc → (j ≡ i → ⊥) → (k : ℕ) × (k < fileCount (erased disc i)) × (entryAt (erased disc i) k ≡ entryAt disc j)
+  pub erased-to : (j : ℕ) → j < fileCount disc → (j ≡ i → ⊥) → (k : ℕ) × (k < fileCount (erased disc i))
+      × (entryAt (erased disc i) k ≡ entryAt disc j)
   erased-to j b n = go (ltb j i) refl
     where
       go : (t : Bool) → ltb j i ≡ t → (k : ℕ) × (k < fileCount (erased disc i)) × (entryAt (erased disc i) k ≡ entryAt disc j)
@@ -208,4 +218,5 @@ module _ {disc : List ℕ} {run : Run} {offset : ℕ} (bytes : List ℕ) (inside
   written-files few = same-files (writtenAt disc run offset bytes) disc written-directory few
 
   pub written-entry : (i : ℕ) → i < 10 → entryAt (writtenAt disc run offset bytes) i ≡ entryAt disc i
-  written-entry i h = same-entry (writtenAt disc run offset bytes) disc i i (same-part (writtenAt disc run offset bytes) disc 161 (i * 16) 16 written-directory (omega arith))
+  written-entry i h = same-entry (writtenAt disc run offset bytes) disc i i
+      (same-part (writtenAt disc run offset bytes) disc 161 (i * 16) 16 written-directory (omega arith))

@@ -21,7 +21,8 @@ pub by-checks : {A : Type 0} (disc : List ℕ) (P : A → Type 0) (refuse : Refu
 unfolding checked
 by-checks disc P refuse rest p q r = go (isDiscLength (length disc)) refl (goodDisc disc) refl
   where
-    go : (a : Bool) → isDiscLength (length disc) ≡ a → (b : Bool) → goodDisc disc ≡ b → P (ifUsable (unless a (Unusable WrongLength) (unless b (Unusable BadDisc) Usable)) refuse rest)
+    go : (a : Bool) → isDiscLength (length disc) ≡ a → (b : Bool) → goodDisc disc ≡ b
+        → P (ifUsable (unless a (Unusable WrongLength) (unless b (Unusable BadDisc) Usable)) refuse rest)
     go false e b f = p e
     go true e false f = q f
     go true e true f = r e f
@@ -40,7 +41,8 @@ pub usable : (disc : List ℕ) → checked disc ≡ Usable → Fit disc
 unfolding checked
 usable disc e = go (isDiscLength (length disc)) refl (goodDisc disc) refl e
   where
-    go : (a : Bool) → isDiscLength (length disc) ≡ a → (b : Bool) → goodDisc disc ≡ b → unless a (Unusable WrongLength) (unless b (Unusable BadDisc) Usable) ≡ Usable → Fit disc
+    go : (a : Bool) → isDiscLength (length disc) ≡ a → (b : Bool) → goodDisc disc ≡ b
+        → unless a (Unusable WrongLength) (unless b (Unusable BadDisc) Usable) ≡ Usable → Fit disc
     go false l b g h = absurd (let z : _≡_ {A = ℕ} 0 1 = cc in omega arith)
     go true l false g h = absurd (let z : _≡_ {A = ℕ} 0 1 = cc in omega arith)
     go true l true g h = record { right = l; sound = g; ready = readable disc l g }

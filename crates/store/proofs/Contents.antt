@@ -23,7 +23,8 @@ use Rattle.store.proofs.Invariant.{file-inside}
 pub contents-length : (disc : List ℕ) (run : Run) → run .start + run .len ≤ length disc → length (contents disc run) ≡ run .len
 contents-length disc run h = part-length disc (run .start) (run .len) h
 
-pub file-length : (disc : List ℕ) → goodDisc disc ≡ true → (i : ℕ) → i < fileCount disc → length (contents disc (runOf (entryAt disc i))) ≡ entryAt disc i .len
+pub file-length : (disc : List ℕ) → goodDisc disc ≡ true → (i : ℕ) → i < fileCount disc
+    → length (contents disc (runOf (entryAt disc i))) ≡ entryAt disc i .len
 file-length disc good i h = contents-length disc (runOf (entryAt disc i)) (good-entry-at disc good i h .high)
 
 -- ---- what leaves the data bytes as they are keeps what a run of them holds
@@ -35,10 +36,12 @@ same-contents d e run q h = sym (from d) ∙ ap (λ (l : List ℕ). part l (run 
         let m : 161 + (run .start - 161) ≡ run .start = omega arith in
         ap (λ (r : List ℕ). take (run .len) r) (drop-drop (run .start - 161) 161 l) ∙ ap (λ (k : ℕ). part l k (run .len)) m
 
-pub entered-contents : {disc name : List ℕ} (n s : ℕ) → Room disc name → (run : Run) → 161 ≤ run .start → contents (entered disc name n s) run ≡ contents disc run
+pub entered-contents : {disc name : List ℕ} (n s : ℕ) → Room disc name → (run : Run) → 161 ≤ run .start
+    → contents (entered disc name n s) run ≡ contents disc run
 entered-contents {disc} {name} n s room run h = same-contents (entered disc name n s) disc run (entered-data n s room) h
 
-pub erased-contents : {disc : List ℕ} {i : ℕ} → Present disc i → (run : Run) → 161 ≤ run .start → contents (erased disc i) run ≡ contents disc run
+pub erased-contents : {disc : List ℕ} {i : ℕ} → Present disc i → (run : Run) → 161 ≤ run .start
+    → contents (erased disc i) run ≡ contents disc run
 erased-contents {disc} {i} file run h = same-contents (erased disc i) disc run (erased-data file) h
 
 -- ---- a write, and a read, inside a run
@@ -52,7 +55,8 @@ module _ {disc : List ℕ} {run : Run} {offset : ℕ} (bytes : List ℕ) (inside
   unfolding writtenAt
   written-elsewhere other a =
       part-outside disc bytes (run .start + offset) (omega arith) (other .start) (other .len)
-      (⊎-elim (λ (w : run .start + run .len ≤ other .start). inr (omega arith)) (λ (w : other .start + other .len ≤ run .start). inl (omega arith)) (apart-is run other a .sides))
+      (⊎-elim (λ (w : run .start + run .len ≤ other .start). inr (omega arith))
+      (λ (w : other .start + other .len ≤ run .start). inl (omega arith)) (apart-is run other a .sides))
 
   -- what was written is read
   pub written-read : readAt (writtenAt disc run offset bytes) run offset (length bytes) ≡ bytes
@@ -63,10 +67,13 @@ module _ {disc : List ℕ} {run : Run} {offset : ℕ} (bytes : List ℕ) (inside
 
 pub read-length : {disc : List ℕ} {run : Run} {offset n : ℕ} → Inside disc run offset n → length (readAt disc run offset n) ≡ n
 unfolding readAt
-read-length {disc} {run} {offset} {n} inside = part-length (contents disc run) offset n (omega (arith, contents-length disc run (inside .high)))
+read-length {disc} {run} {offset} {n} inside =
+    part-length (contents disc run) offset n (omega (arith, contents-length disc run (inside .high)))
 
 -- a write in one file of a good disc leaves what every other file holds
-pub written-other-file : (disc : List ℕ) (i j offset : ℕ) (bytes : List ℕ) → goodDisc disc ≡ true → i < fileCount disc → j < fileCount disc → (i ≡ j → ⊥) → offset + length bytes ≤ entryAt disc i .len
+pub written-other-file : (disc : List ℕ) (i j offset : ℕ) (bytes : List ℕ) → goodDisc disc ≡ true → i < fileCount disc → j < fileCount disc
+    → (i ≡ j → ⊥) → offset + length bytes ≤ entryAt disc i .len
     → contents (writtenAt disc (runOf (entryAt disc i)) offset bytes) (runOf (entryAt disc j)) ≡ contents disc (runOf (entryAt disc j))
 written-other-file disc i j offset bytes good h k d fits =
-    written-elsewhere bytes (file-inside disc good i h offset (length bytes) fits) (runOf (entryAt disc j)) (beside-at disc good i j h k d .clear)
+    written-elsewhere bytes (file-inside disc good i h offset (length bytes) fits) (runOf (entryAt disc j))
+    (beside-at disc good i j h k d .clear)

@@ -31,7 +31,12 @@ use Rattle.store.proofs.Lookups.{lookup-at}
 -- ---- the disc of a store that is done
 module _ {disc name : List ℕ} {s : ℕ} (bytes : List ℕ) (good : goodDisc disc ≡ true) (a : Admitted disc name (length bytes) s) where
   inside : Inside (entered disc name (length bytes) s) (runFrom s (length bytes)) 0 (length bytes)
-  inside = record { low = a .placed .low; high = omega (arith, entered-length (length bytes) s (room a), a .placed .high); fits = omega arith }
+  inside = record {
+    low = a .placed .low;
+    high = omega (arith, entered-length (length bytes) s (room a), a .placed .high);
+    fits =
+        omega arith;
+  }
 
   well : goodDisc (entered disc name (length bytes) s) ≡ true
   well = entered-good a good
@@ -62,9 +67,11 @@ module _ {disc name : List ℕ} {s : ℕ} (bytes : List ℕ) (good : goodDisc di
   pub stored-old : (i : ℕ) → i < fileCount disc → entryAt (stored disc name bytes s) i ≡ entryAt disc i
   stored-old i h = written-entry bytes inside i (omega (arith, a .few)) ∙ entered-old (length bytes) s (room a) i h
 
-  pub stored-contents : (i : ℕ) → i < fileCount disc → contents (stored disc name bytes s) (runOf (entryAt disc i)) ≡ contents disc (runOf (entryAt disc i))
+  pub stored-contents : (i : ℕ) → i < fileCount disc
+      → contents (stored disc name bytes s) (runOf (entryAt disc i)) ≡ contents disc (runOf (entryAt disc i))
   stored-contents i h =
-      written-elsewhere bytes inside (runOf (entryAt disc i)) (apart-sym (runOf (entryAt disc i)) (runFrom s (length bytes)) (new-entry-beside a i h .clear))
+      written-elsewhere bytes inside (runOf (entryAt disc i))
+      (apart-sym (runOf (entryAt disc i)) (runFrom s (length bytes)) (new-entry-beside a i h .clear))
       ∙ entered-contents (length bytes) s (room a) (runOf (entryAt disc i)) (good-entry-at disc good i h .low)
 
 -- ---- store
@@ -77,46 +84,69 @@ module _ (disc name bytes : List ℕ) (good : goodDisc disc ≡ true) where
 
   -- every file that was there has its entry, is found under its name, and holds what it held
   pub store-old : (i : ℕ) → i < fileCount disc → entryAt (storeAnswer disc name bytes .disc) i ≡ entryAt disc i
-  store-old i h = store-cases disc name bytes (λ u. entryAt (u .disc) i ≡ entryAt disc i) (λ r d. refl) (λ s l g a. stored-old bytes good a i h)
+  store-old i h = store-cases disc name bytes (λ u. entryAt (u .disc) i ≡ entryAt disc i) (λ r d. refl)
+      (λ s l g a. stored-old bytes good a i h)
 
   pub store-still-found : (other : List ℕ) (i : ℕ) → lookup disc other ≡ At i → lookup (storeAnswer disc name bytes .disc) other ≡ At i
-  store-still-found other i e = store-cases disc name bytes (λ u. lookup (u .disc) other ≡ At i) (λ r d. e) (λ s l g a. stored-still-found bytes good a other i e)
+  store-still-found other i e =
+      store-cases disc name bytes (λ u. lookup (u .disc) other ≡ At i) (λ r d. e) (λ s l g a. stored-still-found bytes good a other i e)
 
-  pub store-contents : (i : ℕ) → i < fileCount disc → contents (storeAnswer disc name bytes .disc) (runOf (entryAt disc i)) ≡ contents disc (runOf (entryAt disc i))
-  store-contents i h = store-cases disc name bytes (λ u. contents (u .disc) (runOf (entryAt disc i)) ≡ contents disc (runOf (entryAt disc i))) (λ r d. refl) (λ s l g a. stored-contents bytes good a i h)
+  pub store-contents : (i : ℕ) → i < fileCount disc
+      → contents (storeAnswer disc name bytes .disc) (runOf (entryAt disc i)) ≡ contents disc (runOf (entryAt disc i))
+  store-contents i h =
+      store-cases disc name bytes (λ u. contents (u .disc) (runOf (entryAt disc i)) ≡ contents disc (runOf (entryAt disc i))) (λ r d. refl)
+      (λ s l g a. stored-contents bytes good a i h)
 
 -- done: the file is found last, under its name, and holds the data
 pub record NewFile (disc name bytes after : List ℕ) : Type 0 where
   pub found : lookup after name ≡ At (fileCount disc)
   pub holds : contents after (runOf (entryAt after (fileCount disc))) ≡ bytes
 
-pub store-done : (disc name bytes : List ℕ) (k : ℕ) → storeAnswer disc name bytes .number ≡ pos k → NewFile disc name bytes (storeAnswer disc name bytes .disc)
+pub store-done : (disc name bytes : List ℕ) (k : ℕ) → storeAnswer disc name bytes .number ≡ pos k
+    → NewFile disc name bytes (storeAnswer disc name bytes .disc)
 store-done disc name bytes k =
     store-cases disc name bytes (λ u. u .number ≡ pos k → NewFile disc name bytes (u .disc)) (λ r d h. absurd (refused-not-done r k h))
-    (λ s l g a h. record { found = stored-found bytes g a; holds = ap (λ (e : Entry). contents (stored disc name bytes s) (runOf e)) (stored-new bytes g a) ∙ stored-data bytes g a })
+    (λ s l g a h. record {
+      found = stored-found bytes g a;
+      holds =
+          ap (λ (e : Entry). contents (stored disc name bytes s) (runOf e)) (stored-new bytes g a) ∙ stored-data bytes g a;
+    })
 
 -- what was stored is retrieved
 pub store-retrieve : (disc name bytes out : List ℕ) (k : ℕ) → length bytes ≤ length out → storeAnswer disc name bytes .number ≡ pos k
     → retrieveAnswer (storeAnswer disc name bytes .disc) name out ≡ reported (Done (length bytes)) (overwrite out 0 bytes)
 unfolding retrieveAnswer
 store-retrieve disc name bytes out k fit =
-    store-cases disc name bytes (λ u. u .number ≡ pos k → retrieveAnswer (u .disc) name out ≡ reported (Done (length bytes)) (overwrite out 0 bytes)) (λ r d h. absurd (refused-not-done r k h))
-    (λ s l g a h. rw (is-usable (stored disc name bytes s) (rw (stored-length bytes g a) l) (stored-good bytes g a), stored-found bytes g a, stored-new bytes g a, le-leb (length bytes) (length out) fit, stored-data bytes g a))
+    store-cases disc name bytes (λ u. u .number ≡ pos k
+    → retrieveAnswer (u .disc) name out ≡ reported (Done (length bytes)) (overwrite out 0 bytes))
+    (λ r d h. absurd (refused-not-done r k h))
+    (λ s l g a h. rw (
+      is-usable (stored disc name bytes s) (rw (stored-length bytes g a) l) (stored-good bytes g a),
+      stored-found bytes g a,
+      stored-new bytes g a,
+      le-leb (length bytes) (length out) fit,
+      stored-data bytes g a,
+    ))
 
 -- ---- erase
 module _ (disc name : List ℕ) (good : goodDisc disc ≡ true) where
   pub erase-good : goodDisc (eraseAnswer disc name .disc) ≡ true
-  erase-good = erase-cases disc name (λ u. goodDisc (u .disc) ≡ true) (λ r. good) (λ i g e. erased-good disc good i (lookup-at disc name i e .inside))
+  erase-good = erase-cases disc name (λ u. goodDisc (u .disc) ≡ true) (λ r. good)
+      (λ i g e. erased-good disc good i (lookup-at disc name i e .inside))
 
   pub erase-length : length (eraseAnswer disc name .disc) ≡ length disc
-  erase-length = erase-cases disc name (λ u. length (u .disc) ≡ length disc) (λ r. refl) (λ i g e. erased-length (present disc good i (lookup-at disc name i e .inside)))
+  erase-length = erase-cases disc name (λ u. length (u .disc) ≡ length disc) (λ r. refl)
+      (λ i g e. erased-length (present disc good i (lookup-at disc name i e .inside)))
 
   -- data bytes remain
-  pub erase-contents : (i : ℕ) → i < fileCount disc → contents (eraseAnswer disc name .disc) (runOf (entryAt disc i)) ≡ contents disc (runOf (entryAt disc i))
+  pub erase-contents : (i : ℕ) → i < fileCount disc
+      → contents (eraseAnswer disc name .disc) (runOf (entryAt disc i)) ≡ contents disc (runOf (entryAt disc i))
   erase-contents i h =
       erase-cases disc name (λ u. contents (u .disc) (runOf (entryAt disc i)) ≡ contents disc (runOf (entryAt disc i))) (λ r. refl)
-      (λ j g e. erased-contents (present disc good j (lookup-at disc name j e .inside)) (runOf (entryAt disc i)) (good-entry-at disc good i h .low))
+      (λ j g e. erased-contents (present disc good j (lookup-at disc name j e .inside)) (runOf (entryAt disc i))
+      (good-entry-at disc good i h .low))
 
   -- done: the name is found no more
   pub erase-done : (k : ℕ) → eraseAnswer disc name .number ≡ pos k → lookup (eraseAnswer disc name .disc) name ≡ Nowhere
-  erase-done k = erase-cases disc name (λ u. u .number ≡ pos k → lookup (u .disc) name ≡ Nowhere) (λ r h. absurd (refused-not-done r k h)) (λ i g e h. erased-missing disc good i (lookup-at disc name i e .inside) name e)
+  erase-done k = erase-cases disc name (λ u. u .number ≡ pos k → lookup (u .disc) name ≡ Nowhere) (λ r h. absurd (refused-not-done r k h))
+      (λ i g e h. erased-missing disc good i (lookup-at disc name i e .inside) name e)

@@ -40,15 +40,19 @@ unfolding entryAt
 same-entry d e i j h = ap entryOf h
 
 -- an entry that was laid is there
-pub entry-laid : (d : List ℕ) (i : ℕ) (e : Entry) → length (e .name) ≡ 12 → i * 16 + 16 ≤ length d → entryAt (overwrite d (i * 16) (entryBytes e)) i ≡ e
+pub entry-laid : (d : List ℕ) (i : ℕ) (e : Entry) → length (e .name) ≡ 12 → i * 16 + 16 ≤ length d
+    → entryAt (overwrite d (i * 16) (entryBytes e)) i ≡ e
 unfolding entryAt
 entry-laid d i e h k =
     let n : length (entryBytes e) ≡ 16 = entry-bytes-length e h in
-    ap entryOf (subst (λ (m : ℕ). part (overwrite d (i * 16) (entryBytes e)) (i * 16) m ≡ entryBytes e) n (overwrite-part d (entryBytes e) (i * 16) (omega arith)))
+    ap entryOf (subst (λ (m : ℕ). part (overwrite d (i * 16) (entryBytes e)) (i * 16) m ≡ entryBytes e) n
+    (overwrite-part d (entryBytes e) (i * 16) (omega arith)))
     ∙ entry-back e h
 
 pub same-count : (d e : List ℕ) → take 161 d ≡ take 161 e → fileCount d ≡ fileCount e
 same-count d e h = same-byte d e 161 160 h (omega arith)
 
 pub same-files : (d e : List ℕ) → take 161 d ≡ take 161 e → fileCount e ≤ 10 → files d ≡ files e
-same-files d e h k = rw (same-count d e h) (tab-same (entryAt d) (entryAt e) (fileCount e) (λ i n. same-entry d e i i (same-part d e 161 (i * 16) 16 h (omega arith))))
+same-files d e h k =
+    rw (same-count d e h)
+    (tab-same (entryAt d) (entryAt e) (fileCount e) (λ i n. same-entry d e i i (same-part d e 161 (i * 16) 16 h (omega arith))))

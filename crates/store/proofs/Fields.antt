@@ -19,7 +19,9 @@ pub trimmed-at : (l : List ℕ) (n : ℕ) → n < length l → getD l n 0 ≡ 0 
 unfolding trimmed
 trimmed-at [] n h e f = absurd (not-suc-le-zero h)
 trimmed-at (b ∷ l) zero h e f = rw (eq-eqb b 0 e)
-trimmed-at (b ∷ l) (suc n) h e f = rw (ne-eqb b 0 (f 0 (omega arith))) (ap (λ (m : List ℕ). b ∷ m) (trimmed-at l n (le-of-suc-le-suc h) e (λ k g. f (suc k) (omega arith))))
+trimmed-at (b ∷ l) (suc n) h e f =
+    rw (ne-eqb b 0 (f 0 (omega arith)))
+    (ap (λ (m : List ℕ). b ∷ m) (trimmed-at l n (le-of-suc-le-suc h) e (λ k g. f (suc k) (omega arith))))
 
 -- no zero: the name is all of it
 pub trimmed-whole : (l : List ℕ) (n : ℕ) → length l ≤ n → ((k : ℕ) → k < length l → getD l k 0 ≡ 0 → ⊥) → trimmed l ≡ take n l
@@ -27,7 +29,9 @@ unfolding trimmed
 trimmed-whole [] zero h f = refl
 trimmed-whole [] (suc n) h f = refl
 trimmed-whole (b ∷ l) zero h f = absurd (not-suc-le-zero h)
-trimmed-whole (b ∷ l) (suc n) h f = rw (ne-eqb b 0 (f 0 (omega arith))) (ap (λ (m : List ℕ). b ∷ m) (trimmed-whole l n (le-of-suc-le-suc h) (λ k g. f (suc k) (omega arith))))
+trimmed-whole (b ∷ l) (suc n) h f =
+    rw (ne-eqb b 0 (f 0 (omega arith)))
+    (ap (λ (m : List ℕ). b ∷ m) (trimmed-whole l n (le-of-suc-le-suc h) (λ k g. f (suc k) (omega arith))))
 
 pub good-name-length : (name : List ℕ) → goodName name ≡ true → length name ≤ 11
 unfolding goodName
@@ -38,7 +42,9 @@ byte-of : (disc : List ℕ) (at k : ℕ) → k < 16 → getD (part disc at 16) k
 byte-of disc at k h = getD-take 16 (drop at disc) k 0 h ∙ getD-drop at disc k 0
 
 -- the entry of 16 bytes, from the parts that code reads
-pub entry-fields : (disc : List ℕ) (at : ℕ) (name : List ℕ) (start len : ℕ) → at + 16 ≤ length disc → name ≡ part disc at 12 → start ≡ wordAt disc (at + 12) → len ≡ wordAt disc (at + 14) → record { name = name; start = start; len = len } ≡ entryOf (part disc at 16)
+pub entry-fields : (disc : List ℕ) (at : ℕ) (name : List ℕ) (start len : ℕ) → at + 16 ≤ length disc → name ≡ part disc at 12
+    → start ≡ wordAt disc (at + 12) → len ≡ wordAt disc (at + 14)
+    → record { name = name; start = start; len = len } ≡ entryOf (part disc at 16)
 entry-fields disc at name start len h n s l = λ t. record { name = named t; start = started t; len = counted t }
   where
     named : name ≡ take 12 (part disc at 16)

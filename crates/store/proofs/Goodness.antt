@@ -31,7 +31,13 @@ unfolding goodEntry
 good-entry-is end e t =
     let r = and-right (goodField (e .name)) (leb 1 (e .len) && (leb 161 (e .start) && leb (e .start + e .len) end)) t in
     let s = and-right (leb 1 (e .len)) (leb 161 (e .start) && leb (e .start + e .len) end) r in
-    record { field = and-left (goodField (e .name)) _ t; some = leb-true _ _ (and-left (leb 1 (e .len)) _ r); low = leb-true _ _ (and-left (leb 161 (e .start)) _ s); high = leb-true _ _ (and-right (leb 161 (e .start)) _ s) }
+    record {
+      field = and-left (goodField (e .name)) _ t;
+      some = leb-true _ _ (and-left (leb 1 (e .len)) _ r);
+      low =
+          leb-true _ _ (and-left (leb 161 (e .start)) _ s);
+      high = leb-true _ _ (and-right (leb 161 (e .start)) _ s);
+    }
 
 pub is-good-entry : (end : ℕ) (e : Entry) → GoodEntry end e → goodEntry end e ≡ true
 unfolding goodEntry
@@ -65,14 +71,20 @@ pub record GoodFiles (end : ℕ) (es : List Entry) : Type 0 where
 
 pub good-files-is : (end : ℕ) (es : List Entry) → goodFiles end es ≡ true → GoodFiles end es
 unfolding goodFiles
-good-files-is end es t = record { each = and-left (all (goodEntry end) es) (pairs beside es) t; between = and-right (all (goodEntry end) es) (pairs beside es) t }
+good-files-is end es t =
+    record {
+      each = and-left (all (goodEntry end) es) (pairs beside es) t;
+      between =
+          and-right (all (goodEntry end) es) (pairs beside es) t;
+    }
 
 pub is-good-files : (end : ℕ) (es : List Entry) → GoodFiles end es → goodFiles end es ≡ true
 unfolding goodFiles
 is-good-files end es g = and-both (g .each) (g .between)
 
 -- one more file, and one less
-pub good-files-more : (end : ℕ) (es : List Entry) (e : Entry) → goodFiles end es ≡ true → goodEntry end e ≡ true → all (λ d. beside d e) es ≡ true → goodFiles end (es ++ (e ∷ [])) ≡ true
+pub good-files-more : (end : ℕ) (es : List Entry) (e : Entry) → goodFiles end es ≡ true → goodEntry end e ≡ true
+    → all (λ d. beside d e) es ≡ true → goodFiles end (es ++ (e ∷ [])) ≡ true
 good-files-more end es e t g b =
     let f = good-files-is end es t in
     is-good-files end (es ++ (e ∷ []))
@@ -81,7 +93,8 @@ good-files-more end es e t g b =
 pub good-files-less : (end : ℕ) (es : List Entry) (i : ℕ) → goodFiles end es ≡ true → goodFiles end (without i es) ≡ true
 good-files-less end es i t =
     let f = good-files-is end es t in
-    is-good-files end (without i es) (record { each = all-without (goodEntry end) es i (f .each); between = pairs-without beside es i (f .between) })
+    is-good-files end (without i es)
+    (record { each = all-without (goodEntry end) es i (f .each); between = pairs-without beside es i (f .between) })
 
 -- ---- the disc
 pub record GoodDisc (disc : List ℕ) : Type 0 where
@@ -90,7 +103,12 @@ pub record GoodDisc (disc : List ℕ) : Type 0 where
 
 pub good-disc-is : (disc : List ℕ) → goodDisc disc ≡ true → GoodDisc disc
 unfolding goodDisc
-good-disc-is disc t = record { few = leb-true _ _ (and-left (leb (fileCount disc) 10) (goodFiles (length disc) (files disc)) t); entries = and-right (leb (fileCount disc) 10) (goodFiles (length disc) (files disc)) t }
+good-disc-is disc t =
+    record {
+      few = leb-true _ _ (and-left (leb (fileCount disc) 10) (goodFiles (length disc) (files disc)) t);
+      entries =
+          and-right (leb (fileCount disc) 10) (goodFiles (length disc) (files disc)) t;
+    }
 
 pub is-good-disc : (disc : List ℕ) → GoodDisc disc → goodDisc disc ≡ true
 unfolding goodDisc
@@ -101,18 +119,21 @@ module _ (disc : List ℕ) (good : goodDisc disc ≡ true) where
   facts = good-files-is (length disc) (files disc) (good-disc-is disc good .entries)
 
   pub good-entry-at : (i : ℕ) → i < fileCount disc → GoodEntry (length disc) (entryAt disc i)
-  good-entry-at i h = good-entry-is (length disc) (entryAt disc i) (all-tab-at (entryAt disc) (fileCount disc) (goodEntry (length disc)) i h (facts .each))
+  good-entry-at i h = good-entry-is (length disc) (entryAt disc i)
+      (all-tab-at (entryAt disc) (fileCount disc) (goodEntry (length disc)) i h (facts .each))
 
   -- two files differ in name and share no byte
   pub beside-at : (i j : ℕ) → i < fileCount disc → j < fileCount disc → (i ≡ j → ⊥) → Beside (entryAt disc i) (entryAt disc j)
   beside-at i j h k n = go (ltb i j) refl
     where
       later : (a b : ℕ) → a < b → b < fileCount disc → Beside (entryAt disc a) (entryAt disc b)
-      later a b l m = beside-is (entryAt disc a) (entryAt disc b) (pairs-tab-at (entryAt disc) (fileCount disc) beside a b l m (facts .between))
+      later a b l m = beside-is (entryAt disc a) (entryAt disc b)
+          (pairs-tab-at (entryAt disc) (fileCount disc) beside a b l m (facts .between))
 
       go : (t : Bool) → ltb i j ≡ t → Beside (entryAt disc i) (entryAt disc j)
       go true e = later i j (ltb-true i j e) k
-      go false e = let l : j ≤ i = ltb-false i j e in beside-sym (entryAt disc j) (entryAt disc i) (⊎-elim (λ w. absurd (n (sym w))) (λ w. later j i w h) (eq-or-lt-of-le l))
+      go false e = let l : j ≤ i = ltb-false i j e in
+          beside-sym (entryAt disc j) (entryAt disc i) (⊎-elim (λ w. absurd (n (sym w))) (λ w. later j i w h) (eq-or-lt-of-le l))
 
   -- a name is that of one file
   pub one-of-name : (i j : ℕ) → i < fileCount disc → j < fileCount disc → entryAt disc i .name ≡ entryAt disc j .name → i ≡ j

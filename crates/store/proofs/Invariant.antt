@@ -12,15 +12,22 @@ use Rattle.place.proofs.Place.{apart-sym}
 use Rattle.store.specs.Directory.{beside, entryAt, fileCount, files, goodDisc, runOf}
 use Rattle.store.specs.File.{entered, erased, newEntry, writtenAt}
 use Rattle.store.proofs.Admissions.{Admitted}
-use Rattle.store.proofs.Changes.{Inside, Present, Room, entered-count, entered-files, entered-length, erased-count, erased-files, erased-length, written-count, written-files, written-length}
-use Rattle.store.proofs.Goodness.{Beside, GoodEntry, good-disc-is, good-entry-at, good-files-less, good-files-more, is-beside, is-good-disc, is-good-entry}
+use Rattle.store.proofs.Changes.{Inside, Present, Room, entered-count, entered-files, entered-length, erased-count, erased-files}
+use Rattle.store.proofs.Changes.{erased-length, written-count, written-files, written-length}
+use Rattle.store.proofs.Goodness.{Beside, GoodEntry, good-disc-is, good-entry-at, good-files-less, good-files-more, is-beside}
+use Rattle.store.proofs.Goodness.{is-good-disc, is-good-entry}
 use Rattle.store.proofs.Lookups.{lookup-none}
 use Rattle.store.proofs.Names.{good-name-is, padded-good}
 
 -- ---- what enters
 module _ {disc name : List ℕ} {n s : ℕ} (a : Admitted disc name n s) where
   pub room : Room disc name
-  room = record { low = omega (arith, a .placed .low, a .placed .high); few = a .few; short = omega (arith, good-name-is name (a .good) .short) }
+  room = record {
+    low = omega (arith, a .placed .low, a .placed .high);
+    few = a .few;
+    short =
+        omega (arith, good-name-is name (a .good) .short);
+  }
 
   pub new-entry-good : GoodEntry (length disc) (newEntry name n s)
   new-entry-good = record { field = padded-good name (a .good); some = a .some; low = a .placed .low; high = a .placed .high }
@@ -29,7 +36,9 @@ module _ {disc name : List ℕ} {n s : ℕ} (a : Admitted disc name n s) where
   new-entry-beside i h =
       record {
         differ = λ q. lookup-none (a .new) (record { good = a .good; inside = h; held = q });
-        clear = apart-sym (runFrom s n) (runOf (entryAt disc i)) (all-tab-at (entryAt disc) (fileCount disc) (λ e. apart (runFrom s n) (runOf e)) i h (sym (all-map (apart (runFrom s n)) runOf (files disc)) ∙ a .placed .free));
+        clear = apart-sym (runFrom s n) (runOf (entryAt disc i))
+            (all-tab-at (entryAt disc) (fileCount disc) (λ e. apart (runFrom s n) (runOf e)) i h
+            (sym (all-map (apart (runFrom s n)) runOf (files disc)) ∙ a .placed .free));
       }
 
   pub entered-good : goodDisc disc ≡ true → goodDisc (entered disc name n s) ≡ true
@@ -39,8 +48,10 @@ module _ {disc name : List ℕ} {n s : ℕ} (a : Admitted disc name n s) where
         few = omega (arith, entered-count n s room, a .few);
         entries =
             rw (entered-length n s room, entered-files n s room)
-            (good-files-more (length disc) (files disc) (newEntry name n s) (good-disc-is disc good .entries) (is-good-entry (length disc) (newEntry name n s) new-entry-good)
-            (all-tab-each (entryAt disc) (fileCount disc) (λ e. beside e (newEntry name n s)) (λ i h. is-beside (entryAt disc i) (newEntry name n s) (new-entry-beside i h))));
+            (good-files-more (length disc) (files disc) (newEntry name n s) (good-disc-is disc good .entries)
+            (is-good-entry (length disc) (newEntry name n s) new-entry-good)
+            (all-tab-each (entryAt disc) (fileCount disc) (λ e. beside e (newEntry name n s))
+            (λ i h. is-beside (entryAt disc i) (newEntry name n s) (new-entry-beside i h))));
       })
 
 -- ---- what goes
@@ -55,7 +66,8 @@ module _ (disc : List ℕ) (good : goodDisc disc ≡ true) (i : ℕ) (h : i < fi
       is-good-disc (erased disc i)
       (record {
         few = omega (arith, erased-count present, present .few);
-        entries = rw (erased-length present, erased-files present) (good-files-less (length disc) (files disc) i (good-disc-is disc good .entries));
+        entries = rw (erased-length present, erased-files present)
+            (good-files-less (length disc) (files disc) i (good-disc-is disc good .entries));
       })
 
   -- ---- what is written, and read, in a file
@@ -64,7 +76,8 @@ module _ (disc : List ℕ) (good : goodDisc disc ≡ true) (i : ℕ) (h : i < fi
       let e = good-entry-at disc good i h in
       record { low = e .low; high = e .high; fits = k }
 
-pub written-good : {disc : List ℕ} {run : Run} {offset : ℕ} (bytes : List ℕ) → Inside disc run offset (length bytes) → goodDisc disc ≡ true → goodDisc (writtenAt disc run offset bytes) ≡ true
+pub written-good : {disc : List ℕ} {run : Run} {offset : ℕ} (bytes : List ℕ) → Inside disc run offset (length bytes) → goodDisc disc ≡ true
+    → goodDisc (writtenAt disc run offset bytes) ≡ true
 written-good {disc} {run} {offset} bytes inside good =
     let g = good-disc-is disc good in
     is-good-disc (writtenAt disc run offset bytes)

@@ -15,7 +15,8 @@ use Rattle.store.specs.File.{entered, erased, writtenAt}
 use Rattle.store.specs.Name.{goodName}
 use Rattle.store.specs.declared.Entry.{Entry}
 use Rattle.store.proofs.Admissions.{Admitted}
-use Rattle.store.proofs.Changes.{Inside, entered-count, entered-new, entered-old, erased-count, erased-from, erased-to, written-files}
+use Rattle.store.proofs.Changes.{Inside, entered-count, entered-new, entered-old, erased-count, erased-from, erased-to}
+use Rattle.store.proofs.Changes.{written-files}
 use Rattle.store.proofs.Goodness.{good-disc-is, one-of-name}
 use Rattle.store.proofs.Invariant.{entered-good, erased-good, present, room}
 use Rattle.store.proofs.Lookups.{Located, lookup-at, lookup-is, lookup-none, lookup-nowhere}
@@ -43,7 +44,8 @@ module _ {disc name : List ℕ} {n s : ℕ} (good : goodDisc disc ≡ true) (a :
       (moved (entered disc name n s) i l (omega (arith, count, l .inside)) (entered-old n s (room a) i (l .inside)))
 
   -- and no other name appears
-  pub entered-still-missing : (other : List ℕ) → (other ≡ name → ⊥) → lookup disc other ≡ Nowhere → lookup (entered disc name n s) other ≡ Nowhere
+  pub entered-still-missing : (other : List ℕ) → (other ≡ name → ⊥) → lookup disc other ≡ Nowhere
+      → lookup (entered disc name n s) other ≡ Nowhere
   entered-still-missing other d e = lookup-nowhere (entered disc name n s) other none
     where
       none : (i : ℕ) → Located (entered disc name n s) other i → ⊥
@@ -53,7 +55,8 @@ module _ {disc name : List ℕ} {n s : ℕ} (good : goodDisc disc ≡ true) (a :
           below = omega (arith, count, l .inside)
 
           last : i ≡ fileCount disc → ⊥
-          last w = d (padded-injective other name (l .good) (a .good) (sym (l .held) ∙ ap (λ (k : ℕ). entryAt (entered disc name n s) k .name) w ∙ ap (λ (x : Entry). x .name) (entered-new n s (room a))))
+          last w = d (padded-injective other name (l .good) (a .good) (sym (l .held)
+              ∙ ap (λ (k : ℕ). entryAt (entered disc name n s) k .name) w ∙ ap (λ (x : Entry). x .name) (entered-new n s (room a))))
 
           old : i < fileCount disc → ⊥
           old w = lookup-none e (moved disc i l w (sym (entered-old n s (room a) i w)))
@@ -69,20 +72,25 @@ module _ (disc : List ℕ) (good : goodDisc disc ≡ true) (i : ℕ) (h : i < fi
   pub erased-missing : (name : List ℕ) → lookup disc name ≡ At i → lookup (erased disc i) name ≡ Nowhere
   erased-missing name e =
       let l = lookup-at disc name i e in
-      lookup-nowhere (erased disc i) name (λ k m. let b = before name k m in b .1 (one-of-name disc good (b .0) i (b .2 .inside) h (b .2 .held ∙ sym (l .held))))
+      lookup-nowhere (erased disc i) name (λ k m. let b = before name k m in
+      b .1 (one-of-name disc good (b .0) i (b .2 .inside) h (b .2 .held ∙ sym (l .held))))
 
   pub erased-still-missing : (other : List ℕ) → lookup disc other ≡ Nowhere → lookup (erased disc i) other ≡ Nowhere
   erased-still-missing other e = lookup-nowhere (erased disc i) other (λ k m. let b = before other k m in lookup-none e (b .2))
 
   -- every other file is found, with the entry that it had
-  pub erased-still-found : (other : List ℕ) (j : ℕ) → lookup disc other ≡ At j → (j ≡ i → ⊥) → (k : ℕ) × (lookup (erased disc i) other ≡ At k) × (entryAt (erased disc i) k ≡ entryAt disc j)
+  pub erased-still-found : (other : List ℕ) (j : ℕ) → lookup disc other ≡ At j → (j ≡ i → ⊥) → (k : ℕ)
+      × (lookup (erased disc i) other ≡ At k) × (entryAt (erased disc i) k ≡ entryAt disc j)
   erased-still-found other j e d =
       let l = lookup-at disc other j e in
       let t = erased-to (present disc good i h) j (l .inside) d in
       (t .0, lookup-is (erased-good disc good i h) (moved (erased disc i) (t .0) l (t .1) (t .2)), t .2)
 
 -- ---- what is written
-pub written-lookup : {disc : List ℕ} {run : Run} {offset : ℕ} (bytes : List ℕ) → Inside disc run offset (length bytes) → goodDisc disc ≡ true
+pub written-lookup : {disc : List ℕ} {run : Run} {offset : ℕ} (bytes : List ℕ) → Inside disc run offset (length bytes)
+    → goodDisc disc ≡ true
     → (name : List ℕ) → lookup (writtenAt disc run offset bytes) name ≡ lookup disc name
 unfolding lookup
-written-lookup {disc} bytes inside good name = ap (λ (es : List Entry). nowhereUnless (goodName name) (index (named name) es)) (written-files bytes inside (good-disc-is disc good .few))
+written-lookup {disc} bytes inside good name =
+    ap (λ (es : List Entry). nowhereUnless (goodName name) (index (named name) es))
+    (written-files bytes inside (good-disc-is disc good .few))

@@ -47,13 +47,15 @@ unfolding lookup
 lookup-nowhere disc name h = go (goodName name) refl
   where
     go : (b : Bool) → goodName name ≡ b → nowhereUnless b (index (named name) (files disc)) ≡ Nowhere
-    go true g = index-tab-miss (entryAt disc) (fileCount disc) (named name) (λ i k. same-differ (entryAt disc i .name) (padded name) (λ q. h i (record { good = g; inside = k; held = q })))
+    go true g = index-tab-miss (entryAt disc) (fileCount disc) (named name)
+        (λ i k. same-differ (entryAt disc i .name) (padded name) (λ q. h i (record { good = g; inside = k; held = q })))
     go false g = refl
 
 -- where no name stands twice
 pub lookup-is : {disc name : List ℕ} {i : ℕ} → goodDisc disc ≡ true → Located disc name i → lookup disc name ≡ At i
 unfolding lookup
-lookup-is {disc} {name} {i} g l = rw (l .good) (index-tab-is (entryAt disc) (fileCount disc) (named name) i (l .inside) (rw (l .held) (same-refl (padded name))) before)
+lookup-is {disc} {name} {i} g l =
+    rw (l .good) (index-tab-is (entryAt disc) (fileCount disc) (named name) i (l .inside) (rw (l .held) (same-refl (padded name))) before)
   where
     before : (k : ℕ) → k < i → named name (entryAt disc k) ≡ false
     before k h =

@@ -21,7 +21,12 @@ pub good-name-is : (name : List ℕ) → goodName name ≡ true → GoodName nam
 unfolding goodName
 good-name-is name e =
     let r = and-right (leb 1 (length name)) (leb (length name) 11 && all isNameByte name) e in
-    record { some = leb-true _ _ (and-left (leb 1 (length name)) _ e); short = leb-true _ _ (and-left (leb (length name) 11) _ r); bytes = and-right (leb (length name) 11) _ r }
+    record {
+      some = leb-true _ _ (and-left (leb 1 (length name)) _ e);
+      short = leb-true _ _ (and-left (leb (length name) 11) _ r);
+      bytes =
+          and-right (leb (length name) 11) _ r;
+    }
 
 pub is-good-name : (name : List ℕ) → GoodName name → goodName name ≡ true
 unfolding goodName
@@ -29,7 +34,8 @@ is-good-name name g = and-both (le-leb _ _ (g .some)) (and-both (le-leb _ _ (g .
 
 -- ---- padded
 pub padded-length : (name : List ℕ) → length name ≤ 12 → length (padded name) ≡ 12
-padded-length name h = length-append name (replicate (12 - length name) 0) ∙ ap (λ (k : ℕ). length name + k) (length-replicate (12 - length name) 0) ∙ omega arith
+padded-length name h = length-append name (replicate (12 - length name) 0)
+    ∙ ap (λ (k : ℕ). length name + k) (length-replicate (12 - length name) 0) ∙ omega arith
 
 -- ---- trimmed
 trimmed-zeros : (n : ℕ) → trimmed (replicate n 0) ≡ []
@@ -66,4 +72,5 @@ unfolding goodField
 field-padded field e = same-eq field (padded (trimmed field)) (and-right (goodName (trimmed field)) (same field (padded (trimmed field))) e)
 
 pub field-length : (field : List ℕ) → goodField field ≡ true → length field ≡ 12
-field-length field e = ap length (field-padded field e) ∙ padded-length (trimmed field) (omega (arith, good-name-is (trimmed field) (field-name-good field e) .short))
+field-length field e = ap length (field-padded field e)
+    ∙ padded-length (trimmed field) (omega (arith, good-name-is (trimmed field) (field-name-good field e) .short))

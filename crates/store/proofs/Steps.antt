@@ -16,29 +16,42 @@ use Rattle.store.specs.declared.Entry.{Entry}
 use Rattle.store.specs.declared.Refusal.the-variants.{ShortOutput}
 
 module _ (d : List ℕ) (h : 161 ≤ length d) where
-  pub entered-steps : (p name : List ℕ) (n s count : ℕ) → count ≡ fileCount d → length p ≡ length d → p ≡ overwrite d (count * 16) (entryBytes (newEntry name n s)) → set p 160 (count + 1) ≡ entered d name n s
+  pub entered-steps : (p name : List ℕ) (n s count : ℕ) → count ≡ fileCount d → length p ≡ length d
+      → p ≡ overwrite d (count * 16) (entryBytes (newEntry name n s)) → set p 160 (count + 1) ≡ entered d name n s
   unfolding entered
   entered-steps p name n s count q l e = overwrite-set p 160 (count + 1) (omega arith) ∙ rw (e, q)
 
-  pub erased-steps : (m z : List ℕ) (i last : ℕ) → last ≡ fileCount d - 1 → i ≤ last → last < 10 → length z ≡ length d → m ≡ overwrite d (i * 16) (part d (i * 16 + 16) ((last - i) * 16)) → z ≡ overwrite m (last * 16) (replicate 16 0) → set z 160 last ≡ erased d i
+  pub erased-steps : (m z : List ℕ) (i last : ℕ) → last ≡ fileCount d - 1 → i ≤ last → last < 10 → length z ≡ length d
+      → m ≡ overwrite d (i * 16) (part d (i * 16 + 16) ((last - i) * 16)) → z ≡ overwrite m (last * 16) (replicate 16 0)
+      → set z 160 last ≡ erased d i
   unfolding erased
   erased-steps m z i last q a b l e f =
-      let n : length (part d (i * 16 + 16) ((last - i) * 16)) ≡ (last - i) * 16 = part-length d (i * 16 + 16) ((last - i) * 16) (omega arith) in
+      let n : length (part d (i * 16 + 16) ((last - i) * 16)) ≡ (last - i) * 16 =
+      part-length d (i * 16 + 16) ((last - i) * 16) (omega arith) in
       overwrite-set z 160 last (omega arith)
-      ∙ rw (f, e, overwrite-joined d (part d (i * 16 + 16) ((last - i) * 16)) (replicate 16 0) (i * 16) (last * 16) (omega arith) (omega arith), q)
+      ∙ rw (
+        f,
+        e,
+        overwrite-joined d (part d (i * 16 + 16) ((last - i) * 16)) (replicate 16 0) (i * 16) (last * 16) (omega arith)
+            (omega arith),
+        q,
+      )
 
 pub line-joined : (t a b c d : List ℕ) → (((t ++ a) ++ b) ++ c) ++ d ≡ t ++ (((a ++ b) ++ c) ++ d)
 line-joined t a b c d = simp append-assoc
 
 -- a text that the output has room for, and one that it has not
-pub text-done : (text out after : List ℕ) (n : ℕ) → length text ≡ n → n ≤ length out → after ≡ overwrite out 0 text → reported (Done n) after ≡ textAnswer text out
-text-done text out after n e h q = rw (le-leb (length text) (length out) (omega arith)) (ap₂ (λ (m : ℕ) (l : List ℕ). reported (Done m) l) (sym e) q)
+pub text-done : (text out after : List ℕ) (n : ℕ) → length text ≡ n → n ≤ length out → after ≡ overwrite out 0 text
+    → reported (Done n) after ≡ textAnswer text out
+text-done text out after n e h q =
+    rw (le-leb (length text) (length out) (omega arith)) (ap₂ (λ (m : ℕ) (l : List ℕ). reported (Done m) l) (sym e) q)
 
 pub text-short : (text out : List ℕ) (n : ℕ) → length text ≡ n → length out < n → reported (Refused ShortOutput) out ≡ textAnswer text out
 text-short text out n e h = rw (lt-leb (length text) (length out) (omega arith))
 
 -- a file that the output has room for, and one that it has not
-pub file-done : (e : Entry) (disc out after : List ℕ) → e .len ≤ length out → after ≡ overwrite out 0 (contents disc (runOf e)) → reported (Done (e .len)) after ≡ retrieveFile e disc out
+pub file-done : (e : Entry) (disc out after : List ℕ) → e .len ≤ length out → after ≡ overwrite out 0 (contents disc (runOf e))
+    → reported (Done (e .len)) after ≡ retrieveFile e disc out
 file-done e disc out after h q = rw (le-leb _ _ h) (ap (λ (l : List ℕ). reported (Done (e .len)) l) q)
 
 pub file-short : (e : Entry) (disc out : List ℕ) → length out < e .len → reported (Refused ShortOutput) out ≡ retrieveFile e disc out

@@ -22,7 +22,8 @@ use Rattle.store.specs.declared.Checked.{Checked}
 use Rattle.store.specs.declared.Checked.the-variants.{Usable, Unusable}
 use Rattle.store.specs.declared.Entry.{Entry}
 use Rattle.store.specs.declared.Refusal.{Refusal}
-use Rattle.store.specs.declared.Refusal.the-variants.{WrongLength, BadDisc, ShortOutput, BadName, BadSize, NameExists, DirectoryFull, NoRun, NoSuchFile}
+use Rattle.store.specs.declared.Refusal.the-variants.{WrongLength, BadDisc, ShortOutput, BadName, BadSize}
+use Rattle.store.specs.declared.Refusal.the-variants.{NameExists, DirectoryFull, NoRun, NoSuchFile}
 
 -- ---- document 01's numbers
 abbrev pub refusalNumber : Refusal → ℕ
@@ -71,7 +72,8 @@ ifUsable Usable refuse rest = rest
 -- ---- store
 abbrev pub storeAt : Admission → List ℕ → List ℕ → List ℕ → Updated
 storeAt (Denied r) disc name bytes = updated (Refused r) disc
-storeAt (Start s) disc name bytes = updated (Done 0) (writtenAt (entered disc name (length bytes) s) (runFrom s (length bytes)) 0 bytes)
+storeAt (Start s) disc name bytes =
+    updated (Done 0) (writtenAt (entered disc name (length bytes) s) (runFrom s (length bytes)) 0 bytes)
 
 unfoldable pub storeAnswer : List ℕ → List ℕ → List ℕ → Updated
 storeAnswer disc name bytes =
@@ -80,7 +82,9 @@ storeAnswer disc name bytes =
 
 -- ---- retrieve: "10 no such file, tried before 4. Returns the length, its bytes written."
 abbrev pub retrieveFile : Entry → List ℕ → List ℕ → Reported
-retrieveFile e disc out = unless (leb (e .len) (length out)) (reported (Refused ShortOutput) out) (reported (Done (e .len)) (overwrite out 0 (contents disc (runOf e))))
+retrieveFile e disc out =
+    unless (leb (e .len) (length out)) (reported (Refused ShortOutput) out)
+    (reported (Done (e .len)) (overwrite out 0 (contents disc (runOf e))))
 
 abbrev pub retrieveAt : Found → List ℕ → List ℕ → Reported
 retrieveAt Nowhere disc out = reported (Refused NoSuchFile) out
@@ -96,7 +100,9 @@ unfoldable pub fileLine : Entry → List ℕ
 fileLine e = trimmed (e .name) ++ (32 ∷ []) ++ decimal (e .len) ++ (10 ∷ [])
 
 abbrev pub textAnswer : List ℕ → List ℕ → Reported
-textAnswer text out = unless (leb (length text) (length out)) (reported (Refused ShortOutput) out) (reported (Done (length text)) (overwrite out 0 text))
+textAnswer text out =
+    unless (leb (length text) (length out)) (reported (Refused ShortOutput) out)
+    (reported (Done (length text)) (overwrite out 0 text))
 
 unfoldable pub filesAnswer : List ℕ → List ℕ → Reported
 filesAnswer disc out =

@@ -71,7 +71,8 @@ beside d e = not (same (d .name) (e .name)) && apart (runOf d) (runOf e)
 unfoldable pub goodFiles : ℕ → List Entry → Bool
 goodFiles end es = all (goodEntry end) es && pairs beside es
 
--- Document 01: "Byte 160 is the file count, at most 10." "A good disc has distinct names, lengths from 1, and disjoint files inside the data bytes."
+-- Document 01: "Byte 160 is the file count, at most 10." "A good disc has distinct names, lengths from 1, and disjoint
+-- files inside the data bytes."
 unfoldable pub goodDisc : List ℕ → Bool
 goodDisc disc = leb (fileCount disc) maxFiles && goodFiles (length disc) (files disc)
 

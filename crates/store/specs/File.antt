@@ -38,7 +38,8 @@ abbrev pub denyIfFound : Found → Admission → Admission
 denyIfFound (At i) rest = Denied NameExists
 denyIfFound Nowhere rest = rest
 
--- Document 01: "5 bad name, 6 data length 0 or above 863, 8 ten files already, 7 name exists, 9 no free run long enough"
+-- Document 01: "5 bad name, 6 data length 0 or above 863, 8 ten files already, 7 name exists, 9 no free run long
+-- enough"
 unfoldable pub admission : List ℕ → List ℕ → ℕ → Admission
 admission disc name n =
     unless (goodName name) (Denied BadName)
@@ -53,7 +54,8 @@ newEntry name n start = record { name = padded name; start = start; len = n }
 -- a file of n bytes enters the directory last; its data bytes stay as they are
 unfoldable pub entered : List ℕ → List ℕ → ℕ → ℕ → List ℕ
 entered disc name n start =
-    overwrite (overwrite disc (fileCount disc * entrySize) (entryBytes (newEntry name n start))) countAt ((fileCount disc + 1) ∷ [])
+    overwrite (overwrite disc (fileCount disc * entrySize) (entryBytes (newEntry name n start))) countAt
+    ((fileCount disc + 1) ∷ [])
 
 -- Document 01: "Later entries move up, the vacated entry becomes zero, data bytes remain."
 unfoldable pub erased : List ℕ → ℕ → List ℕ

@@ -64,7 +64,8 @@ pub fn enter(disc: &mut [u8], name: &[u8], n: usize, start: usize)
 // Moves the n bytes behind the entry at `at` up by one entry.
 fn move_up(disc: &mut [u8], at: usize, n: usize)
     requires { ⌜ at + entrySize + n ≤ length (now disc) ⌝ }
-    ensures { λ _. ⌜ now (disc .exit) ≡ overwrite (now (disc .entry)) at (part (now (disc .entry)) (at + entrySize) n) ⌝ }
+    ensures { λ _. ⌜ now (disc .exit) ≡ overwrite (now (disc .entry)) at
+        (part (now (disc .entry)) (at + entrySize) n) ⌝ }
 {
     let mut i: usize = 0;
     while i < n {

@@ -12,12 +12,14 @@ ghost use mathlib.Core.Path.{_≡_};
 ghost use Prim.Native.Nat.{_+_, _*_, _≤_};
 ghost use Rattle.buffer.specs.Lists.{flat};
 ghost use Rattle.buffer.specs.Text.{appended, emptyText, textSize};
-ghost use Rattle.store.specs.Answer.{answerNumber, fileLine, filesAnswer, freeSpaceAnswer, reported, retrieveAnswer, storeAnswer, updated};
+ghost use Rattle.store.specs.Answer.{answerNumber, fileLine, filesAnswer, freeSpaceAnswer, reported};
+ghost use Rattle.store.specs.Answer.{retrieveAnswer, storeAnswer, updated};
 ghost use Rattle.store.specs.Directory.{Readable, files};
 ghost use Rattle.store.specs.Layout.{lineSize, maxFiles};
 
 pub fn store(disc: &mut [u8], name: &[u8], data: &[u8]) -> Answer
-    ensures { λ r. ⌜ updated r (now (disc .exit)) ≡ storeAnswer (now (disc .entry)) (now (name .entry)) (now («data» .entry)) ⌝ }
+    ensures { λ r. ⌜ updated r (now (disc .exit)) ≡ storeAnswer (now (disc .entry)) (now (name .entry))
+        (now («data» .entry)) ⌝ }
 {
     if let Checked::Unusable(refusal) = crate::good::check(disc) {
         return Answer::Refused(refusal);
@@ -37,7 +39,8 @@ pub fn store(disc: &mut [u8], name: &[u8], data: &[u8]) -> Answer
 }
 
 pub fn retrieve(disc: &[u8], name: &[u8], out: &mut [u8]) -> Answer
-    ensures { λ r. ⌜ reported r (now (out .exit)) ≡ retrieveAnswer (now (disc .entry)) (now (name .entry)) (now (out .entry)) ⌝ }
+    ensures { λ r. ⌜ reported r (now (out .exit)) ≡ retrieveAnswer (now (disc .entry)) (now (name .entry))
+        (now (out .entry)) ⌝ }
 {
     if let Checked::Unusable(refusal) = crate::good::check(disc) {
         return Answer::Refused(refusal);
@@ -72,7 +75,8 @@ fn with_line(text: Text, entry: Entry) -> Text
 
 fn files_text(disc: &[u8]) -> Text
     requires { ⌜ Readable (now disc) ⌝ }
-    ensures { λ r. ⌜ (r ≡ appended emptyText (flat fileLine (files (now (disc .entry))))) × (r .len ≤ maxFiles * lineSize) ⌝ }
+    ensures { λ r. ⌜ (r ≡ appended emptyText (flat fileLine (files (now (disc .entry)))))
+        × (r .len ≤ maxFiles * lineSize) ⌝ }
 {
     let count = crate::directory::file_count(disc);
     let mut text = buffer::text::empty_text();

@@ -119,7 +119,8 @@ pub fn damaged_disc() {
     print::line(b"free space on a damaged disc", discs::free_space(&disc));
 }
 
-// Document 01: "a line per file, name, space, length, newline; returns the bytes written". The rest of the output stays.
+// Document 01: "a line per file, name, space, length, newline; returns the bytes written". The rest of the output
+// stays.
 pub fn files_text() {
     let disc = discs::with(discs::with_gap(), b"eleven.byte", b"11");
     let mut out = [b'.'; 34];
@@ -180,7 +181,8 @@ pub fn free_space() {
     );
 }
 
-// Document 01: "Entries beyond a count [..] are not read." A new file takes the first of them whole; the others keep their bytes.
+// Document 01: "Entries beyond a count [..] are not read." A new file takes the first of them whole; the others keep
+// their bytes.
 pub fn uncounted_entries() {
     let before = discs::with_garbage();
     let after = discs::with(before, b"c", b"1");

@@ -1,4 +1,5 @@
-// Runs document 01's cases of the disc, and then the outside vectors, and prints what comes out. The gate compares that with the file stdout.
+// Runs document 01's cases of the disc, and then the outside vectors, and prints what comes out. The gate compares that
+// with the file stdout.
 mod cases;
 mod discs;
 mod print;

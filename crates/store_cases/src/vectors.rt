@@ -1,9 +1,11 @@
-// The outside vectors: calls and answers of another implementation, from data/vectors, which tools/disc_vectors.py writes.
+// The outside vectors: calls and answers of another implementation, from data/vectors, which tools/disc_vectors.py
+// writes.
 use crate::discs;
 use crate::print;
 ghost use Rattle.io.specs.Counts.{Counts};
 
-// Reads the next buffer of a vector, its length in two bytes and then its bytes, and answers the length. One that has no room counts as empty.
+// Reads the next buffer of a vector, its length in two bytes and then its bytes, and answers the length. One that has
+// no room counts as empty.
 fn read_part(fd: i32, buf: &mut [u8]) -> usize
     ensures { λ r. ⌜ Counts r (now (buf .exit)) ⌝ }
 {

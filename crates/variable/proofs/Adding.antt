@@ -25,7 +25,8 @@ use Rattle.variable.specs.Table.{Cell, Shaped, cellOf, counted, find, is
 use Rattle.variable.specs.declared.Variable.{Variable}
 use Rattle.variable.specs.declared.Variables.{Variables}
 
-module _ (v : Variables) (e : Variable) (bytes : List ℕ) (shaped : Shaped v) (room : v .count < 25) (run : Fits (takenRuns v) lowEnd highEnd (e .size) (e .address)) (sized : length bytes ≡ e .size) where
+module _ (v : Variables) (e : Variable) (bytes : List ℕ) (shaped : Shaped v) (room : v .count < 25)
+    (run : Fits (takenRuns v) lowEnd highEnd (e .size) (e .address)) (sized : length bytes ≡ e .size) where
   inside : e .address + length bytes ≤ length (v .memory)
   inside =
       let n = shaped .memory in
@@ -34,7 +35,11 @@ module _ (v : Variables) (e : Variable) (bytes : List ℕ) (shaped : Shaped v) (
 
   pub added-shaped : Shaped (added v e bytes)
   unfolding added
-  added-shaped = record { memory = overwrite-length (v .memory) bytes (e .address) inside ∙ shaped .memory; entries = length-set (v .entries) (v .count) e ∙ shaped .entries }
+  added-shaped = record {
+    memory = overwrite-length (v .memory) bytes (e .address) inside
+        ∙ shaped .memory;
+    entries = length-set (v .entries) (v .count) e ∙ shaped .entries;
+  }
 
   pub added-count : added v e bytes .count ≡ v .count + 1
   unfolding added
@@ -53,16 +58,22 @@ module _ (v : Variables) (e : Variable) (bytes : List ℕ) (shaped : Shaped v) (
   added-bytes = rw (← sized) (overwrite-part (v .memory) bytes (e .address) inside)
 
   -- only the new run changes
-  pub added-outside : (i n : ℕ) → (i + n ≤ e .address) ⊎ (e .address + e .size ≤ i) → part (added v e bytes .memory) i n ≡ part (v .memory) i n
+  pub added-outside : (i n : ℕ) → (i + n ≤ e .address) ⊎ (e .address + e .size ≤ i)
+      → part (added v e bytes .memory) i n ≡ part (v .memory) i n
   unfolding added
-  added-outside i n h = part-outside (v .memory) bytes (e .address) inside i n (⊎-elim (λ w. inl w) (λ (w : e .address + e .size ≤ i). inr (omega arith)) h)
+  added-outside i n h =
+      part-outside (v .memory) bytes (e .address) inside i n (⊎-elim (λ w. inl w) (λ (w : e .address + e .size ≤ i). inr (omega arith)) h)
 
   -- ---- the variables of each process
   -- a variable apart from the new run holds what it held
-  cell-kept : (d : Variable) → apart (runFrom (e .address) (e .size)) (runOf d) ≡ true → cellOf (added v e bytes .memory) d ≡ cellOf (v .memory) d
-  cell-kept d h = ap (λ (b : List ℕ). record { name = d .name; kind = d .kind; bytes = b }) (added-outside (d .address) (d .size) (⊎-elim (λ w. inr w) (λ w. inl w) (apart-is (runFrom (e .address) (e .size)) (runOf d) h .sides)))
+  cell-kept : (d : Variable) → apart (runFrom (e .address) (e .size)) (runOf d) ≡ true
+      → cellOf (added v e bytes .memory) d ≡ cellOf (v .memory) d
+  cell-kept d h = ap (λ (b : List ℕ). record { name = d .name; kind = d .kind; bytes = b })
+      (added-outside (d .address) (d .size)
+      (⊎-elim (λ w. inr w) (λ w. inl w) (apart-is (runFrom (e .address) (e .size)) (runOf d) h .sides)))
 
-  cells-kept : (l : List Variable) → all (λ d. apart (runFrom (e .address) (e .size)) (runOf d)) l ≡ true → map (cellOf (added v e bytes .memory)) l ≡ map (cellOf (v .memory)) l
+  cells-kept : (l : List Variable) → all (λ d. apart (runFrom (e .address) (e .size)) (runOf d)) l ≡ true
+      → map (cellOf (added v e bytes .memory)) l ≡ map (cellOf (v .memory)) l
   unfolding all
   cells-kept [] h = refl
   cells-kept (d ∷ l) h =
@@ -82,12 +93,15 @@ module _ (v : Variables) (e : Variable) (bytes : List ℕ) (shaped : Shaped v) (
       ap (λ (l : List Variable). map cell (keep (ownedBy id) l)) added-counted
       ∙ ap (λ (l : List Variable). map cell l) (keep-append (ownedBy id) (counted v) (e ∷ []))
       ∙ map-append cell mine new
-      ∙ ap (λ (l : List Cell). l ++ map cell new) (cells-kept mine (all-keep (ownedBy id) (λ d. apart (runFrom (e .address) (e .size)) (runOf d)) (counted v) others-apart))
+      ∙ ap (λ (l : List Cell). l
+      ++ map cell new) (cells-kept mine
+      (all-keep (ownedBy id) (λ d. apart (runFrom (e .address) (e .size)) (runOf d)) (counted v) others-apart))
 
   pub owned-added-other : (id : ℕ) → (id ≡ e .owner → ⊥) → owned (added v e bytes) id ≡ owned v id
   owned-added-other id h = owned-added id ∙ rw (ne-eqb (e .owner) id (λ q. h (sym q))) (append-nil (owned v id))
 
-  pub owned-added-own : owned (added v e bytes) (e .owner) ≡ owned v (e .owner) ++ (record { name = e .name; kind = e .kind; bytes = bytes } ∷ [])
+  pub owned-added-own : owned (added v e bytes) (e .owner) ≡ owned v (e .owner)
+      ++ (record { name = e .name; kind = e .kind; bytes = bytes } ∷ [])
   owned-added-own = owned-added (e .owner) ∙ rw (eq-eqb (e .owner) (e .owner) refl, added-bytes)
 
   -- ---- lookup
@@ -97,7 +111,8 @@ module _ (v : Variables) (e : Variable) (bytes : List ℕ) (shaped : Shaped v) (
       let n = shaped .entries in
       getD-set-same (v .entries) (v .count) e noVariable (omega arith)
 
-  pub find-added : all (λ d. not (isOf (e .name) (e .owner) d)) (counted v) ≡ true → find (added v e bytes) (e .name) (e .owner) ≡ At (v .count)
+  pub find-added : all (λ d. not (isOf (e .name) (e .owner) d)) (counted v) ≡ true
+      → find (added v e bytes) (e .name) (e .owner) ≡ At (v .count)
   unfolding find
   find-added h =
       let s = shaped .entries in
@@ -105,5 +120,7 @@ module _ (v : Variables) (e : Variable) (bytes : List ℕ) (shaped : Shaped v) (
       let p : Variable → Bool = isOf (e .name) (e .owner) in
       ap (index p) added-counted
       ∙ index-is p (counted v ++ (e ∷ [])) (v .count) noVariable (simp length-append (omega arith))
-      (rw (getD-at (counted v) e [] noVariable (v .count) n) (and-both (eq-eqb (e .name) (e .name) refl) (eq-eqb (e .owner) (e .owner) refl)))
-      (λ k b. rw (List·getD-append (counted v) (e ∷ []) noVariable k (omega arith)) (not-true (p (getD (counted v) k noVariable)) (all-at (λ d. not (p d)) (counted v) k noVariable (omega arith) h)))
+      (rw (getD-at (counted v) e [] noVariable (v .count) n)
+      (and-both (eq-eqb (e .name) (e .name) refl) (eq-eqb (e .owner) (e .owner) refl)))
+      (λ k b. rw (List·getD-append (counted v) (e ∷ []) noVariable k (omega arith))
+      (not-true (p (getD (counted v) k noVariable)) (all-at (λ d. not (p d)) (counted v) k noVariable (omega arith) h)))

@@ -15,10 +15,12 @@ use Rattle.buffer.proofs.Kept.{keep-take-next}
 -- the elements of k stay, d takes the places behind
 module _ {A : Type 0} (d : A) where
   front-length : (k : List A) (n : ℕ) → length k ≤ n → length (k ++ replicate (n - length k) d) ≡ n
-  front-length k n h = length-append k (replicate (n - length k) d) ∙ ap (λ (m : ℕ). length k + m) (length-replicate (n - length k) d) ∙ omega arith
+  front-length k n h = length-append k (replicate (n - length k) d) ∙ ap (λ (m : ℕ). length k + m) (length-replicate (n - length k) d)
+      ∙ omega arith
 
   -- the place behind becomes d
-  blanked : (k l : List A) (n : ℕ) → length k ≤ n → n < length l → set (k ++ replicate (n - length k) d ++ drop n l) n d ≡ k ++ replicate (n + 1 - length k) d ++ drop (n + 1) l
+  blanked : (k l : List A) (n : ℕ) → length k ≤ n → n < length l → set (k ++ replicate (n - length k) d ++ drop n l) n d ≡ k
+      ++ replicate (n + 1 - length k) d ++ drop (n + 1) l
   blanked k l n h b =
       let m : n + 1 - length k ≡ n - length k + 1 = omega arith in
       let zeros : List A = replicate (n - length k) d in
@@ -27,7 +29,8 @@ module _ {A : Type 0} (d : A) where
       ∙ sym (ap (λ (r : List A). r ++ drop (suc n) l) (sym (append-assoc k zeros (d ∷ []))) ∙ append-snoc (k ++ zeros) d (drop (suc n) l)))
 
   -- one more stays
-  extended : (k r : List A) (n : ℕ) (x : A) → length k ≤ n → set (k ++ replicate (n + 1 - length k) d ++ r) (length k) x ≡ (k ++ (x ∷ [])) ++ replicate (n + 1 - length (k ++ (x ∷ []))) d ++ r
+  extended : (k r : List A) (n : ℕ) (x : A) → length k ≤ n → set (k ++ replicate (n + 1 - length k) d ++ r) (length k) x ≡ (k ++ (x ∷ []))
+      ++ replicate (n + 1 - length (k ++ (x ∷ []))) d ++ r
   extended k r n x h =
       let m : n + 1 - length k ≡ suc (n - length k) = omega arith in
       let q : n + 1 - length (k ++ (x ∷ [])) ≡ n - length k = simp length-append (omega arith) in
@@ -60,7 +63,12 @@ module _ {A : Type 0} (p : A → Bool) (d : A) (l : List A) where
     pub closed-gone : p (getD l n d) ≡ false → Closed p d (n + 1) l (set m n z) k
     closed-gone e =
         let q : keep p (take (n + 1) l) ≡ keep p (take n l) = keep-take-next p l n d b ∙ rw e (append-nil (keep p (take n l))) in
-        record { bound = omega (arith, f .bound); count = rw q (f .count); list = rw (q, f .list, w) (blanked d (keep p (take n l)) l n bounded b) }
+        record {
+          bound = omega (arith, f .bound);
+          count = rw q (f .count);
+          list =
+              rw (q, f .list, w) (blanked d (keep p (take n l)) l n bounded b);
+        }
 
     -- it stays
     pub closed-more : p (getD l n d) ≡ true → Closed p d (n + 1) l (set (set m n z) k (getD l n d)) (k + 1)
@@ -69,5 +77,6 @@ module _ {A : Type 0} (p : A → Bool) (d : A) (l : List A) where
         record {
           bound = omega (arith, f .bound);
           count = rw q (ap (λ (j : ℕ). j + 1) (f .count) ∙ sym (length-append (keep p (take n l)) (getD l n d ∷ [])));
-          list = rw (q, f .list, w, f .count, blanked d (keep p (take n l)) l n bounded b) (extended d (keep p (take n l)) (drop (n + 1) l) n (getD l n d) bounded);
+          list = rw (q, f .list, w, f .count, blanked d (keep p (take n l)) l n bounded b)
+              (extended d (keep p (take n l)) (drop (n + 1) l) n (getD l n d) bounded);
         }

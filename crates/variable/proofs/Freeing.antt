@@ -45,7 +45,8 @@ module _ (v : Variables) (gone : Variable → Bool) where
   unfolding owned
   owned-freed id h =
       ap₂ (λ (m : List ℕ) (l : List Variable). map (cellOf m) (keep (ownedBy id) l)) freed-memory freed-counted
-      ∙ ap (λ (l : List Variable). map (cellOf (v .memory)) l) (keep-keep (ownedBy id) (λ e. not (gone e)) (counted v) (λ e k. ap not (h e k)))
+      ∙ ap (λ (l : List Variable). map (cellOf (v .memory)) l)
+      (keep-keep (ownedBy id) (λ e. not (gone e)) (counted v) (λ e k. ap not (h e k)))
 
 -- ---- by whom
 not-owned : (id other : ℕ) → (other ≡ id → ⊥) → (e : Variable) → ownedBy other e ≡ true → ownedBy id e ≡ false
@@ -57,19 +58,24 @@ module _ (v : Variables) (id : ℕ) where
   owned-freed-all-other other h = owned-freed v (ownedBy id) other (not-owned id other h)
 
   pub owned-freed-other : (name other : ℕ) → (other ≡ id → ⊥) → owned (freed v (isOf name id)) other ≡ owned v other
-  owned-freed-other name other h = owned-freed v (isOf name id) other (λ e k. rw (not-owned id other h e k) (and-false (eqb (e .name) name)))
+  owned-freed-other name other h =
+      owned-freed v (isOf name id) other (λ e k. rw (not-owned id other h e k) (and-false (eqb (e .name) name)))
 
   -- Document 01: "Ending (STOP, kill, fault) frees the process's variables."
   pub owned-freed-all : owned (freedAll v id) id ≡ []
   unfolding owned
   owned-freed-all =
       ap (λ (l : List Variable). map (cellOf (freedAll v id .memory)) (keep (ownedBy id) l)) (freed-counted v (ownedBy id))
-      ∙ ap (λ (l : List Variable). map (cellOf (freedAll v id .memory)) l) (keep-none (ownedBy id) (keep (λ e. not (ownedBy id e)) (counted v)) (keep-all (λ e. not (ownedBy id e)) (counted v)))
+      ∙ ap (λ (l : List Variable). map (cellOf (freedAll v id .memory)) l)
+      (keep-none (ownedBy id) (keep (λ e. not (ownedBy id e)) (counted v)) (keep-all (λ e. not (ownedBy id e)) (counted v)))
 
   -- one name goes from the list
   pub owned-freed-name : (name : ℕ) → owned (freed v (isOf name id)) id ≡ keep (λ c. not (eqb (c .name) name)) (owned v id)
   unfolding owned
   owned-freed-name name =
-      ap₂ (λ (m : List ℕ) (l : List Variable). map (cellOf m) (keep (ownedBy id) l)) (freed-memory v (isOf name id)) (freed-counted v (isOf name id))
-      ∙ ap (λ (l : List Variable). map (cellOf (v .memory)) l) (keep-swap (ownedBy id) (λ e. not (isOf name id e)) (λ e. not (eqb (e .name) name)) (counted v) (λ e k. ap (λ (b : Bool). not (eqb (e .name) name && b)) k ∙ ap not (and-true (eqb (e .name) name))))
+      ap₂ (λ (m : List ℕ) (l : List Variable). map (cellOf m) (keep (ownedBy id) l)) (freed-memory v (isOf name id))
+      (freed-counted v (isOf name id))
+      ∙ ap (λ (l : List Variable). map (cellOf (v .memory)) l)
+      (keep-swap (ownedBy id) (λ e. not (isOf name id e)) (λ e. not (eqb (e .name) name)) (counted v)
+      (λ e k. ap (λ (b : Bool). not (eqb (e .name) name && b)) k ∙ ap not (and-true (eqb (e .name) name))))
       ∙ sym (keep-map (λ c. not (eqb (c .name) name)) (cellOf (v .memory)) (keep (ownedBy id) (counted v)))

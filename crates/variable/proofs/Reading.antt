@@ -31,14 +31,16 @@ module _ {A B : Type 0} (p : A → Bool) (f : A → B) (r : B → Bool) (d : A) 
   unfolding among index keep
   agree [] = refl
   agree (x ∷ l) =
-      subst (Agree (map f (consIf (p x) x (keep p l))) (x ∷ l) (hereOr (r (f x) && p x) (index (λ y. r (f y) && p y) l))) (sym (first (p x)))
+      subst (Agree (map f (consIf (p x) x (keep p l))) (x ∷ l) (hereOr (r (f x) && p x) (index (λ y. r (f y) && p y) l)))
+      (sym (first (p x)))
       (go (p x) (r (f x)) (index (λ y. r (f y) && p y) l) (index r (map f (keep p l))) (agree l))
     where
       first : (a : Bool) → index r (map f (consIf a x (keep p l))) ≡ among a (r (f x)) (index r (map f (keep p l)))
       first true = refl
       first false = refl
 
-      go : (a b : Bool) (g h : Found) → Agree (map f (keep p l)) l g h → Agree (map f (consIf a x (keep p l))) (x ∷ l) (hereOr (b && a) g) (among a b h)
+      go : (a b : Bool) (g h : Found) → Agree (map f (keep p l)) l g h
+          → Agree (map f (consIf a x (keep p l))) (x ∷ l) (hereOr (b && a) g) (among a b h)
       go true true g h e = refl
       go true false (At i) (At k) e = e
       go true false (At i) Nowhere e = e
@@ -68,14 +70,25 @@ module _ (v : Variables) (name id : ℕ) where
   agreed = agree (ownedBy id) (cellOf (v .memory)) named noVariable (counted v)
 
   pub find-own : (i : ℕ) → find v name id ≡ At i → Own (getD (v .entries) i noVariable)
-  find-own i e = go (index named (owned v id)) refl (subst (λ (g : Found). Agree (ownedBy id) (cellOf (v .memory)) named noVariable (owned v id) (counted v) g (index named (owned v id))) e agreed)
+  find-own i e = go (index named (owned v id)) refl
+      (subst (λ (g : Found). Agree (ownedBy id) (cellOf (v .memory)) named noVariable (owned v id) (counted v) g (index named (owned v id)))
+      e agreed)
     where
-      go : (h : Found) → index named (owned v id) ≡ h → Agree (ownedBy id) (cellOf (v .memory)) named noVariable (owned v id) (counted v) (At i) h → Own (getD (v .entries) i noVariable)
-      go (At k) q a = record { place = k; found = q; cell = a ∙ ap (cellOf (v .memory)) (getD-take (v .count) (v .entries) i noVariable (find-found v name id i e .0)) }
+      go : (h : Found) → index named (owned v id) ≡ h
+          → Agree (ownedBy id) (cellOf (v .memory)) named noVariable (owned v id) (counted v) (At i) h
+          → Own (getD (v .entries) i noVariable)
+      go (At k) q a = record {
+        place = k;
+        found = q;
+        cell = a
+            ∙ ap (cellOf (v .memory)) (getD-take (v .count) (v .entries) i noVariable (find-found v name id i e .0));
+      }
       go Nowhere q a = absurd a
 
   pub find-own-none : find v name id ≡ Nowhere → index named (owned v id) ≡ Nowhere
-  find-own-none e = go (index named (owned v id)) (subst (λ (g : Found). Agree (ownedBy id) (cellOf (v .memory)) named noVariable (owned v id) (counted v) g (index named (owned v id))) e agreed)
+  find-own-none e = go (index named (owned v id))
+      (subst (λ (g : Found). Agree (ownedBy id) (cellOf (v .memory)) named noVariable (owned v id) (counted v) g (index named (owned v id)))
+      e agreed)
     where
       go : (h : Found) → Agree (ownedBy id) (cellOf (v .memory)) named noVariable (owned v id) (counted v) Nowhere h → h ≡ Nowhere
       go (At k) a = absurd a

@@ -15,14 +15,16 @@ use Rattle.buffer.proofs.Kept.{keep-all}
 use Rattle.place.specs.Place.{fits, place}
 use Rattle.place.specs.declared.Run.{Run}
 use Rattle.place.proofs.Place.{Fits, no-place-none-fits, place-fits}
-use Rattle.variable.specs.Assign.{added, addressOr, assignAt, assigned, entryLimit, highEnd, ifEntry, lowEnd, newCell, newVariable, placeFor, placing, placingFault, takenRuns, valueBytes, withCell}
+use Rattle.variable.specs.Assign.{added, addressOr, assignAt, assigned, entryLimit, highEnd, ifEntry, lowEnd, newCell, newVariable}
+use Rattle.variable.specs.Assign.{placeFor, placing, placingFault, takenRuns, valueBytes, withCell}
 use Rattle.variable.specs.Table.{Cell, Shaped, counted, find, freed, isOf, noVariable, owned}
 use Rattle.variable.specs.declared.Placing.{Placing}
 use Rattle.variable.specs.declared.Placing.the-variants.{Address, NoEntry, NoRun}
 use Rattle.variable.specs.declared.Value.{Value}
 use Rattle.variable.specs.declared.Variable.{Variable}
 use Rattle.variable.specs.declared.Variables.{Variables}
-use Rattle.variable.proofs.Adding.{added-bytes, added-outside, added-shaped, entry-added, find-added, owned-added-other, owned-added-own}
+use Rattle.variable.proofs.Adding.{added-bytes, added-outside, added-shaped, entry-added, find-added, owned-added-other}
+use Rattle.variable.proofs.Adding.{owned-added-own}
 use Rattle.variable.proofs.Freeing.{freed-counted, freed-memory, freed-shaped, owned-freed-name, owned-freed-other}
 
 -- ---- placing
@@ -83,7 +85,9 @@ module _ (v : Variables) (name id : ℕ) (x : Value) where
       go NoRun = refl
 
   -- what holds of the table as it was, and of the one with the new variable, holds after a SET
-  pub assigned-keeps : (P : Variables → Type 0) → P v → ((a : ℕ) → placeFor rest (x .size) ≡ Address a → P (added rest (newVariable name id x a) (valueBytes x))) → P (assigned v name id x .variables)
+  pub assigned-keeps : (P : Variables → Type 0) → P v
+      → ((a : ℕ) → placeFor rest (x .size) ≡ Address a → P (added rest (newVariable name id x a) (valueBytes x)))
+      → P (assigned v name id x .variables)
   unfolding assigned
   assigned-keeps P old new = go (placeFor rest (x .size)) refl
     where
@@ -116,13 +120,16 @@ module _ (v : Variables) (name id : ℕ) (x : Value) where
     left = freed-shaped v (isOf name id) few shaped
 
     pub assigned-shaped : Shaped (assigned v name id x .variables)
-    assigned-shaped = assigned-keeps Shaped shaped (λ a e. let r = place-address rest (x .size) a e in added-shaped rest (newVariable name id x a) (valueBytes x) left (r .0) (r .1) sized)
+    assigned-shaped = assigned-keeps Shaped shaped (λ a e. let r = place-address rest (x .size) a e in
+        added-shaped rest (newVariable name id x a) (valueBytes x) left (r .0) (r .1) sized)
 
     -- every other process's variables, in table order
     pub assigned-other : (other : ℕ) → (other ≡ id → ⊥) → owned (assigned v name id x .variables) other ≡ owned v other
     assigned-other other h =
         assigned-keeps (λ (w : Variables). owned w other ≡ owned v other) refl
-        (λ a e. let r = place-address rest (x .size) a e in owned-added-other rest (newVariable name id x a) (valueBytes x) left (r .0) (r .1) sized other h ∙ owned-freed-other v id name other h)
+        (λ a e. let r = place-address rest (x .size) a e in
+        owned-added-other rest (newVariable name id x a) (valueBytes x) left (r .0) (r .1) sized other h
+        ∙ owned-freed-other v id name other h)
 
     -- ---- a SET that is done
     module _ (a : ℕ) (done : assigned v name id x .placing ≡ Address a) where
@@ -151,7 +158,8 @@ module _ (v : Variables) (name id : ℕ) (x : Value) where
           ∙ ap (λ (l : List Cell). l ++ (newCell name x ∷ [])) (owned-freed-name v id name)
 
       -- only the new run changes
-      pub assigned-memory : (i n : ℕ) → (i + n ≤ a) ⊎ (a + x .size ≤ i) → part (assigned v name id x .variables .memory) i n ≡ part (v .memory) i n
+      pub assigned-memory : (i n : ℕ) → (i + n ≤ a) ⊎ (a + x .size ≤ i)
+          → part (assigned v name id x .variables .memory) i n ≡ part (v .memory) i n
       assigned-memory i n h =
           ap (λ (w : Variables). part (w .memory) i n) assigned-is
           ∙ added-outside rest new (valueBytes x) left room assigned-run sized i n h
@@ -161,10 +169,13 @@ module _ (v : Variables) (name id : ℕ) (x : Value) where
       pub assigned-find : find (assigned v name id x .variables) name id ≡ At (rest .count)
       assigned-find =
           ap (λ (w : Variables). find w name id) assigned-is
-          ∙ find-added rest new (valueBytes x) left room assigned-run sized (rw (freed-counted v (isOf name id)) (keep-all (λ d. not (isOf name id d)) (counted v)))
+          ∙ find-added rest new (valueBytes x) left room assigned-run sized
+          (rw (freed-counted v (isOf name id)) (keep-all (λ d. not (isOf name id d)) (counted v)))
 
       pub assigned-entry : getD (assigned v name id x .variables .entries) (rest .count) noVariable ≡ new
-      assigned-entry = ap (λ (w : Variables). getD (w .entries) (rest .count) noVariable) assigned-is ∙ entry-added rest new (valueBytes x) left room assigned-run sized
+      assigned-entry = ap (λ (w : Variables). getD (w .entries) (rest .count) noVariable) assigned-is
+          ∙ entry-added rest new (valueBytes x) left room assigned-run sized
 
       pub assigned-bytes : part (assigned v name id x .variables .memory) a (x .size) ≡ valueBytes x
-      assigned-bytes = ap (λ (w : Variables). part (w .memory) a (x .size)) assigned-is ∙ added-bytes rest new (valueBytes x) left room assigned-run sized
+      assigned-bytes = ap (λ (w : Variables). part (w .memory) a (x .size)) assigned-is
+          ∙ added-bytes rest new (valueBytes x) left room assigned-run sized

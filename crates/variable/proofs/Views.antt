@@ -33,7 +33,12 @@ pub record IsOf (n id : ℕ) (e : Variable) : Type 0 where
   pub owner : e .owner ≡ id
 
 pub isOf-is : (name id : ℕ) (e : Variable) → isOf name id e ≡ true → IsOf name id e
-isOf-is name id e h = record { name = eqb-true _ _ (and-left (eqb (e .name) name) (eqb (e .owner) id) h); owner = eqb-true _ _ (and-right (eqb (e .name) name) (eqb (e .owner) id) h) }
+isOf-is name id e h =
+    record {
+      name = eqb-true _ _ (and-left (eqb (e .name) name) (eqb (e .owner) id) h);
+      owner =
+          eqb-true _ _ (and-right (eqb (e .name) name) (eqb (e .owner) id) h);
+    }
 
 module _ (v : Variables) (name id : ℕ) where
   -- what is found is counted and has that name and owner
@@ -42,10 +47,14 @@ module _ (v : Variables) (name id : ℕ) where
   find-found i e =
       let f = index-at (isOf name id) noVariable (counted v) i e in
       let b = take-bound (v .count) (v .entries) in
-      let h : i < v .count = omega (arith, f .inside) in
-      (h, isOf-is name id (getD (v .entries) i noVariable) (subst (λ (d : Variable). isOf name id d ≡ true) (getD-take (v .count) (v .entries) i noVariable h) (f .holds)))
+      let h : i < v .count = omega (arith, f .inside) in (
+        h,
+        isOf-is name id (getD (v .entries) i noVariable)
+            (subst (λ (d : Variable). isOf name id d ≡ true) (getD-take (v .count) (v .entries) i noVariable h) (f .holds)),
+      )
 
   -- none found: none has them
   pub find-none : find v name id ≡ Nowhere → all (λ e. not (isOf name id e)) (counted v) ≡ true
   unfolding find
-  find-none e = all-each (λ d. not (isOf name id d)) (counted v) noVariable (λ i h. not-is-true (index-none (isOf name id) noVariable (counted v) e i h))
+  find-none e = all-each (λ d. not (isOf name id d)) (counted v) noVariable
+      (λ i h. not-is-true (index-none (isOf name id) noVariable (counted v) e i h))

@@ -21,7 +21,12 @@ use Rattle.variable.specs.declared.Variables.{Variables}
 
 -- a value of these bytes, zero-filled
 abbrev pub valueOf : ℕ → List ℕ → Value
-valueOf kind bytes = record { kind = kind; size = length bytes; bytes = bytes ++ replicate (valueSize - length bytes) 0 }
+valueOf kind bytes = record {
+  kind = kind;
+  size = length bytes;
+  bytes = bytes
+      ++ replicate (valueSize - length bytes) 0;
+}
 
 -- the bytes of a value, as they lie on the stack without length and type
 abbrev pub valueBytes : Value → List ℕ
@@ -67,14 +72,20 @@ newVariable name id x a = record { name = name; kind = x .kind; address = a; siz
 
 -- the new entry last, the value's bytes in memory
 unfoldable pub added : Variables → Variable → List ℕ → Variables
-added v e bytes = record { memory = overwrite (v .memory) (e .address) bytes; entries = set (v .entries) (v .count) e; count = v .count + 1 }
+added v e bytes = record {
+  memory = overwrite (v .memory) (e .address) bytes;
+  entries = set (v .entries) (v .count) e;
+  count = v .count + 1;
+}
 
 abbrev pub assignAt : Placing → Variables → Variables → ℕ → ℕ → Value → Assigned
-assignAt (Address a) v w name id x = record { placing = Address a; variables = added w (newVariable name id x a) (valueBytes x) }
+assignAt (Address a) v w name id x =
+    record { placing = Address a; variables = added w (newVariable name id x a) (valueBytes x) }
 assignAt NoEntry v w name id x = record { placing = NoEntry; variables = v }
 assignAt NoRun v w name id x = record { placing = NoRun; variables = v }
 
--- Document 01: "SET first frees the old variable, then takes the lowest fitting address." A SET that finds no place changes nothing.
+-- Document 01: "SET first frees the old variable, then takes the lowest fitting address." A SET that finds no place
+-- changes nothing.
 unfoldable pub assigned : Variables → ℕ → ℕ → Value → Assigned
 assigned v name id x =
     let w = freed v (isOf name id) in

@@ -1,7 +1,8 @@
 -- The variable table and the memory that all processes share.
 --
 --     memory   256 bytes
---     entries  25 of name 1, type 1, address 1, size 1, process ID 2; the first count of them are variables, the others are not read
+-- entries 25 of name 1, type 1, address 1, size 1, process ID 2; the first count of them are variables, the others are
+-- not read
 use Prim.Native.Nat.{ℕ, _-_}
 use mathlib.Core.Bool.{Bool, _&&_, _||_, not}
 use mathlib.Core.List.{List, _++_, map}
@@ -61,7 +62,12 @@ noVariable = record { name = 0; kind = 0; address = 0; size = 0; owner = 0 }
 unfoldable pub freed : Variables → (Variable → Bool) → Variables
 freed v gone =
     let kept = keep (λ e. not (gone e)) (counted v) in
-    record { memory = v .memory; entries = kept ++ replicate (v .count - length kept) noVariable ++ drop (v .count) (v .entries); count = length kept }
+    record {
+      memory = v .memory;
+      entries = kept ++ replicate (v .count - length kept) noVariable
+          ++ drop (v .count) (v .entries);
+      count = length kept;
+    }
 
 -- Document 01: "Ending (STOP, kill, fault) frees the process's variables."
 abbrev pub freedAll : Variables → ℕ → Variables

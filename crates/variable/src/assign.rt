@@ -15,7 +15,8 @@ ghost use Prim.Native.Nat.{_+_, _≤_, _<_};
 ghost use lib.ListN.{set, take};
 ghost use Rattle.place.specs.Place.{filled};
 ghost use Rattle.variable.specs.Limits.{maxVariables, memorySize, valueSize};
-ghost use Rattle.variable.specs.Assign.{added, assigned, entryLimit, highEnd, lowEnd, placing, placingFault, valueBytes};
+ghost use Rattle.variable.specs.Assign.{added, assigned, entryLimit, highEnd, lowEnd, placing, placingFault};
+ghost use Rattle.variable.specs.Assign.{valueBytes};
 ghost use Rattle.variable.specs.Table.{runOf};
 
 // All variables share one memory and one table.

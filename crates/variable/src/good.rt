@@ -80,7 +80,8 @@ fn is_beside_earlier(entries: [Variable; MAX_VARIABLES], i: usize) -> bool
 
 fn is_good_table(live: &[u16], entries: [Variable; MAX_VARIABLES], count: usize) -> bool
     requires { ⌜ count ≤ maxVariables ⌝ }
-    ensures { λ r. ⌜ r ≡ all (goodVariable (now (live .entry))) (take count entries) && pairs beside (take count entries) ⌝ }
+    ensures { λ r. ⌜ r ≡ all (goodVariable (now (live .entry))) (take count entries)
+        && pairs beside (take count entries) ⌝ }
 {
     let mut i: usize = 0;
     while i < count {

@@ -9,7 +9,8 @@ pub fn twenty_six() {
     sets::try_set(b"third again:", full, 2, 1);
 }
 
-// Eight strings of 30 bytes and one of 16 fill the memory, so that only the place of a string that is set again is free.
+// Eight strings of 30 bytes and one of 16 fill the memory, so that only the place of a string that is set again is
+// free.
 pub fn full_memory() {
     let eight = sets::several(8, 30);
     let full = sets::set(eight, 8, 1, 16, 8);

@@ -12,10 +12,15 @@ use Rattle.decimal.proofs.append_decimal.Tie as tie
 sizes : (c : tie.After-digits-of) → length (c .digits-of .result .bytes) ≡ 10
 sizes c = search needs
 
-whole : (c : tie.After-digits-of) → take (10 - c .digits-of .result .start) (drop (c .digits-of .result .start) (c .digits-of .result .bytes)) ≡ drop (c .digits-of .result .start) (c .digits-of .result .bytes)
-whole c = let z = sizes c in take-all (10 - c .digits-of .result .start) (drop (c .digits-of .result .start) (c .digits-of .result .bytes)) (simp length-drop (omega arith))
+whole : (c : tie.After-digits-of)
+    → take (10 - c .digits-of .result .start) (drop (c .digits-of .result .start) (c .digits-of .result .bytes)) ≡ drop
+    (c .digits-of .result .start) (c .digits-of .result .bytes)
+whole c = let z = sizes c in
+    take-all (10 - c .digits-of .result .start) (drop (c .digits-of .result .start) (c .digits-of .result .bytes))
+    (simp length-drop (omega arith))
 
-long : (c : tie.After-digits-of) → length (take (10 - c .digits-of .result .start) (drop (c .digits-of .result .start) (c .digits-of .result .bytes))) ≤ 10
+long : (c : tie.After-digits-of)
+    → length (take (10 - c .digits-of .result .start) (drop (c .digits-of .result .start) (c .digits-of .result .bytes))) ≤ 10
 long c = let z = sizes c in simp (length-take, length-drop) (omega arith)
 
 part-append-start : tie.Need-part-append-start
@@ -34,8 +39,11 @@ append-requires c κs =
 returns : tie.Need-returns
 returns c =
     let d = c .before .before .before .before in
-    let m = long d in
-    (omega (arith, c .append .ensures .0), c .append .ensures .1 ∙ ap (λ (l : List ℕ). written (d .before .args .text) ++ l) (whole d ∙ d .digits-of .ensures .1))
+    let m = long d in (
+      omega (arith, c .append .ensures .0),
+      c .append .ensures .1
+          ∙ ap (λ (l : List ℕ). written (d .before .args .text) ++ l) (whole d ∙ d .digits-of .ensures .1),
+    )
 
 pub append-decimal-spec : {M : Type 1} → statement M
 append-decimal-spec =

@@ -12,7 +12,8 @@ use Rattle.decimal.proofs.digits_of.Statement.{statement}
 use Rattle.decimal.proofs.digits_of.Tie as tie
 
 abbrev Inv-loop : tie.InvT-loop
-Inv-loop n bytes₀ start₀ rest₀ bytes start rest = (start ≤ 9) × (length bytes ≡ 10) × (rest < 10 ^ (start + 1)) × (decimal n ≡ ifMore (leb 10 rest) (lastDigits start (rest / 10)) ++ drop start bytes)
+Inv-loop n bytes₀ start₀ rest₀ bytes start rest = (start ≤ 9) × (length bytes ≡ 10) × (rest < 10 ^ (start + 1))
+    × (decimal n ≡ ifMore (leb 10 rest) (lastDigits start (rest / 10)) ++ drop start bytes)
 
 abbrev μ-loop : tie.MeasureT-loop
 μ-loop n bytes₀ start₀ rest₀ bytes start rest = rest
@@ -38,7 +39,8 @@ loop-again c =
       omega arith,
       simp length-set (l .loop .inv .1),
       shorter (l .loop .start) (l .loop .rest) h (l .loop .inv .2),
-      l .loop .inv .3 ∙ digit-next (l .loop .start) (l .loop .rest) (c .digit2 .result) (l .loop .bytes) (omega arith) h (omega arith) (c .digit2 .ensures),
+      l .loop .inv .3 ∙ digit-next (l .loop .start) (l .loop .rest) (c .digit2 .result) (l .loop .bytes) (omega arith) h (omega arith)
+          (c .digit2 .ensures),
     )
 
 returns : tie.Need-returns Inv-loop μ-loop

@@ -16,4 +16,5 @@ add8-spec =
     (λ c.
     let s = c .before .before .before .before in
     add-wraps w8 (s .args .a) (s .args .b) (s .fits .a) (s .fits .b) (c .before .wrapping-add-u8 .result)
-    (c .before .before .before .bits8 .ensures) (c .before .before .bits82 .ensures) (c .signed8 .ensures) (c .before .wrapping-add-u8 .ensures)))
+    (c .before .before .before .bits8 .ensures) (c .before .before .bits82 .ensures) (c .signed8 .ensures)
+    (c .before .wrapping-add-u8 .ensures)))

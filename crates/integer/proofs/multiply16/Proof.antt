@@ -16,4 +16,5 @@ multiply16-spec =
     (λ c.
     let s = c .before .before .before .before in
     multiply-wraps w16 (s .args .a) (s .args .b) (s .fits .a) (s .fits .b) (c .before .wrapping-mul-u16 .result)
-    (c .before .before .before .bits16 .ensures) (c .before .before .bits162 .ensures) (c .signed16 .ensures) (c .before .wrapping-mul-u16 .ensures)))
+    (c .before .before .before .bits16 .ensures) (c .before .before .bits162 .ensures) (c .signed16 .ensures)
+    (c .before .wrapping-mul-u16 .ensures)))

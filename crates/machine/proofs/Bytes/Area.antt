@@ -1,4 +1,5 @@
--- The work area and the kernel's state say the same: the bytes of what an area says are the area, and what the bytes of a state say is the state.
+-- The work area and the kernel's state say the same: the bytes of what an area says are the area, and what the bytes of a state say is the
+-- state.
 use Prim.Native.Nat.{ℕ, _+_, _*_, _<_}
 use mathlib.Core.Path.{_≡_, refl, sym, ap, _∙_}
 use mathlib.Core.List.{List, [], _∷_, _++_, append-assoc, append-nil}
@@ -15,7 +16,8 @@ use Rattle.machine.specs.State.{noProcess}
 use Rattle.machine.specs.declared.Kernel.{Kernel}
 use Rattle.machine.specs.declared.Process.{Process}
 use Rattle.machine.proofs.Bytes.FixedWidth.{Encoded, flat-length, table-encode-decode, table-decode-encode}
-use Rattle.machine.proofs.Bytes.Records.{part-bytes, process-encode-decode, process-decode-encode, process-bytes-length, spelled, variable-encode-decode, variable-decode-encode, word-encode-decode}
+use Rattle.machine.proofs.Bytes.Records.{part-bytes, process-encode-decode, process-decode-encode, process-bytes-length, spelled}
+use Rattle.machine.proofs.Bytes.Records.{variable-encode-decode, variable-decode-encode, word-encode-decode}
 use Rattle.machine.proofs.Bytes.Sizes.{Sized}
 
 -- ---- an area, read and written again
@@ -24,13 +26,15 @@ module _ (area : List ℕ) (bytes : AreBytes area) (size : length area ≡ 1056)
   unfolding kernelOf
   entries =
       table-encode-decode variableBytes variableOf 6 area 256 25
-      (λ i h. variable-encode-decode (part area (256 + i * 6) 6) (part-bytes area (256 + i * 6) 6 (omega arith) bytes) (part-length area (256 + i * 6) 6 (omega arith)))
+      (λ i h. variable-encode-decode (part area (256 + i * 6) 6) (part-bytes area (256 + i * 6) 6 (omega arith) bytes)
+      (part-length area (256 + i * 6) 6 (omega arith)))
 
   processes : flat processBytes (kernelOf area .processes) ≡ part area 416 640
   unfolding kernelOf
   processes =
       table-encode-decode processBytes processOf 64 area 416 10
-      (λ i h. process-encode-decode (part area (416 + i * 64) 64) (part-bytes area (416 + i * 64) 64 (omega arith) bytes) (part-length area (416 + i * 64) 64 (omega arith)))
+      (λ i h. process-encode-decode (part area (416 + i * 64) 64) (part-bytes area (416 + i * 64) 64 (omega arith) bytes)
+      (part-length area (416 + i * 64) 64 (omega arith)))
 
   count : (getD area 406 0 ∷ []) ≡ part area 406 1
   unfolding tab
@@ -100,15 +104,19 @@ module _ (k : Kernel) (sized : Sized k) where
 
   byte : (i : ℕ) → getD (kernelBytes k) (406 + i) 0 ≡ getD (tail k) i 0
   byte i =
-      let n : length (k .variables .memory ++ flat variableBytes (k .variables .entries)) ≡ 406 = simp length-append (omega (arith, sized .variables .memory, entries-length)) in
-      rw (parted, ← append-assoc (k .variables .memory) (flat variableBytes (k .variables .entries)) (tail k), ← n) (getD-append-add (k .variables .memory ++ flat variableBytes (k .variables .entries)) (tail k) i 0)
+      let n : length (k .variables .memory ++ flat variableBytes (k .variables .entries)) ≡ 406 =
+      simp length-append (omega (arith, sized .variables .memory, entries-length)) in
+      rw (parted, ← append-assoc (k .variables .memory) (flat variableBytes (k .variables .entries)) (tail k), ← n)
+      (getD-append-add (k .variables .memory ++ flat variableBytes (k .variables .entries)) (tail k) i 0)
 
   memory-back : take 256 (kernelBytes k) ≡ k .variables .memory
-  memory-back = rw parted (take-at (k .variables .memory) (flat variableBytes (k .variables .entries) ++ tail k) 256 (sized .variables .memory))
+  memory-back = rw parted
+      (take-at (k .variables .memory) (flat variableBytes (k .variables .entries) ++ tail k) 256 (sized .variables .memory))
 
   entries-back : tab (λ i. variableOf (part (kernelBytes k) (256 + i * 6) 6)) 25 ≡ k .variables .entries
   entries-back =
-      simp parted (table-decode-encode variableBytes variableOf 6 (k .variables .memory) (k .variables .entries) noVariable (tail k) 256 25 (sized .variables .memory) (sized .variables .entries) variable-encoded)
+      simp parted (table-decode-encode variableBytes variableOf 6 (k .variables .memory) (k .variables .entries) noVariable (tail k) 256 25
+      (sized .variables .memory) (sized .variables .entries) variable-encoded)
 
   next-back : wordAt (kernelBytes k) 407 ≡ k .next
   next-back = rw (byte 1, byte 2) (word-split (k .next))
@@ -122,8 +130,10 @@ module _ (k : Kernel) (sized : Sized k) where
   processes-back : tab (λ i. processOf (part (kernelBytes k) (416 + i * 64) 64)) 10 ≡ k .processes
   unfolding kernelBytes
   processes-back =
-      ap (λ (l : List ℕ). tab (λ i. processOf (part (head k ++ l) (416 + i * 64) 64)) 10) (sym (append-nil (flat processBytes (k .processes))))
-      ∙ table-decode-encode processBytes processOf 64 (head k) (k .processes) noProcess [] 416 10 head-length (sized .processes) process-encoded
+      ap (λ (l : List ℕ). tab (λ i. processOf (part (head k ++ l) (416 + i * 64) 64)) 10)
+      (sym (append-nil (flat processBytes (k .processes))))
+      ∙ table-decode-encode processBytes processOf 64 (head k) (k .processes) noProcess [] 416 10 head-length
+      (sized .processes) process-encoded
 
   pub kernel-decode-encode : kernelOf (kernelBytes k) ≡ k
   unfolding kernelOf variablesOf

@@ -16,7 +16,8 @@ pub part-after : (before s : List ℕ) (at i n : ℕ) → length before ≡ at �
 part-after before s at i n h = rw (← h) (part-of-append-right before s i n)
 
 -- a list is the table of its elements
-pub tab-of : {A : Type 0} (l : List A) (d : A) (f : ℕ → A) (n : ℕ) → n ≤ length l → ((i : ℕ) → i < n → f i ≡ getD l i d) → tab f n ≡ take n l
+pub tab-of : {A : Type 0} (l : List A) (d : A) (f : ℕ → A) (n : ℕ) → n ≤ length l → ((i : ℕ) → i < n → f i ≡ getD l i d)
+    → tab f n ≡ take n l
 unfolding tab
 tab-of l d f zero h e = refl
 tab-of l d f (suc n) h e = rw (tab-of l d f n (omega arith) (λ i m. e i (omega arith)), e n (le-refl (suc n)), take-suc l n d h)
@@ -35,17 +36,20 @@ module _ {A : Type 0} (encode : A → List ℕ) (decode : List ℕ → A) (width
       rw (length-append, flat-length l d (λ i h. e (suc i) (omega arith)), q, suc-mul) (add-comm width (length l * width))
 
   -- the bytes of the i-th record
-  pub flat-part : (l : List A) (d : A) (after : List ℕ) (i : ℕ) → i < length l → ((k : ℕ) → k < length l → Encoded (getD l k d)) → part (flat encode l ++ after) (i * width) width ≡ encode (getD l i d)
+  pub flat-part : (l : List A) (d : A) (after : List ℕ) (i : ℕ) → i < length l → ((k : ℕ) → k < length l → Encoded (getD l k d))
+      → part (flat encode l ++ after) (i * width) width ≡ encode (getD l i d)
   unfolding flat
   flat-part [] d after i h e = absurd (not-suc-le-zero h)
-  flat-part (x ∷ l) d after zero h e = rw (zero-mul, append-assoc) (take-at (encode x) (flat encode l ++ after) width (e 0 (omega arith) .size))
+  flat-part (x ∷ l) d after zero h e =
+      rw (zero-mul, append-assoc) (take-at (encode x) (flat encode l ++ after) width (e 0 (omega arith) .size))
   flat-part (x ∷ l) d after (suc i) h e =
       rw (suc-mul, add-comm, append-assoc)
       (part-after (encode x) (flat encode l ++ after) width (i * width) width (e 0 (omega arith) .size)
       ∙ flat-part l d after i (le-of-suc-le-suc h) (λ k m. e (suc k) (omega arith)))
 
   -- what was written is read back
-  pub table-decode-encode : (before : List ℕ) (l : List A) (d : A) (after : List ℕ) (at n : ℕ) → length before ≡ at → length l ≡ n → ((i : ℕ) → i < n → Encoded (getD l i d))
+  pub table-decode-encode : (before : List ℕ) (l : List A) (d : A) (after : List ℕ) (at n : ℕ) → length before ≡ at → length l ≡ n
+      → ((i : ℕ) → i < n → Encoded (getD l i d))
       → tab (λ i. decode (part (before ++ (flat encode l ++ after)) (at + i * width) width)) n ≡ l
   table-decode-encode before l d after at n h q e =
       tab-of l d (λ i. decode (part (before ++ (flat encode l ++ after)) (at + i * width) width)) n (omega arith) same
@@ -59,7 +63,8 @@ module _ {A : Type 0} (encode : A → List ℕ) (decode : List ℕ → A) (width
           ∙ e i m .back
 
   -- what was read is written as it lay
-  pub table-encode-decode : (l : List ℕ) (at n : ℕ) → ((i : ℕ) → i < n → encode (decode (part l (at + i * width) width)) ≡ part l (at + i * width) width)
+  pub table-encode-decode : (l : List ℕ) (at n : ℕ)
+      → ((i : ℕ) → i < n → encode (decode (part l (at + i * width) width)) ≡ part l (at + i * width) width)
       → flat encode (tab (λ i. decode (part l (at + i * width) width)) n) ≡ part l at (n * width)
   unfolding flat tab
   table-encode-decode l at zero e = rw zero-mul

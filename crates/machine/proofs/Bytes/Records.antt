@@ -33,7 +33,8 @@ part-bytes l at n h bytes i = go (ltb i n) refl
 pub spelled : (l : List ℕ) (at n : ℕ) → at + n ≤ length l → tab (λ i. getD l (at + i) 0) n ≡ part l at n
 spelled l at n h =
     let size : length (part l at n) ≡ n = part-length l at n h in
-    tab-of (part l at n) 0 (λ i. getD l (at + i) 0) n (omega arith) (λ i k. sym (part-byte l at n i k)) ∙ take-all n (part l at n) (omega arith)
+    tab-of (part l at n) 0 (λ i. getD l (at + i) 0) n (omega arith) (λ i k. sym (part-byte l at n i k))
+    ∙ take-all n (part l at n) (omega arith)
 
 -- ---- a record's bytes, read and written again
 module _ (l : List ℕ) (bytes : AreBytes l) where
@@ -65,7 +66,8 @@ module _ (l : List ℕ) (bytes : AreBytes l) where
 
 -- ---- a record, written and read back
 pub variable-decode-encode : (e : Variable) → variableOf (variableBytes e) ≡ e
-variable-decode-encode e = λ t. record { name = e .name; kind = e .kind; address = e .address; size = e .size; owner = word-split (e .owner) t }
+variable-decode-encode e = λ t.
+    record { name = e .name; kind = e .kind; address = e .address; size = e .size; owner = word-split (e .owner) t }
 
 -- what lies behind the name
 abbrev behindName : Process → List ℕ
@@ -96,7 +98,12 @@ module _ (p : Process) (sized : SizedProcess p) where
     code = record { start = word 4 (p .code .start) refl refl t; len = word 6 (p .code .len) refl refl t };
     pc = word 8 (p .pc) refl refl t;
     loopstart = word 10 (p .loopstart) refl refl t;
-    file = record { start = word 12 (p .file .start) refl refl t; len = word 14 (p .file .len) refl refl t; offset = word 16 (p .file .offset) refl refl t };
+    file = record {
+      start = word 12 (p .file .start) refl refl t;
+      len = word 14 (p .file .len) refl refl t;
+      offset =
+          word 16 (p .file .offset) refl refl t;
+    };
     sp = byte 18 t;
     spare = byte 19 t;
     stack = stack t;

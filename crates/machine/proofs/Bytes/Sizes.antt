@@ -16,7 +16,8 @@ use Rattle.variable.specs.Table.{Shaped, freedAll}
 use Rattle.variable.specs.declared.Variables.{Variables}
 use Rattle.machine.specs.Area.{kernelOf, processOf, variablesOf}
 use Rattle.machine.specs.Start.{started, startedProcess}
-use Rattle.machine.specs.State.{Local, ended, endedProcess, noProcess, processAt, withFile, withLocal, withProcess, withState, withVariables}
+use Rattle.machine.specs.State.{Local, ended, endedProcess, noProcess, processAt, withFile, withLocal, withProcess, withState}
+use Rattle.machine.specs.State.{withVariables}
 use Rattle.machine.specs.declared.Kernel.{Kernel}
 use Rattle.machine.specs.declared.OpenFile.{OpenFile}
 use Rattle.machine.specs.declared.Process.{Process}
@@ -42,7 +43,8 @@ decoded-sized area h =
       variables = record { memory = length-take-le 256 area (omega arith); entries = simp tab-length };
       zeros = part-length area 409 7 (omega arith);
       processes = simp tab-length;
-      each = λ i m. rw (tab-at recordAt 10 i noProcess m) (decoded-process-sized (part area (416 + i * 64) 64) (part-length area (416 + i * 64) 64 (omega arith)));
+      each = λ i m. rw (tab-at recordAt 10 i noProcess m)
+          (decoded-process-sized (part area (416 + i * 64) 64) (part-length area (416 + i * 64) 64 (omega arith)));
     }
   where
     recordAt : ℕ → Process
@@ -69,7 +71,13 @@ started-process-sized e id h = record { name = h; stack = refl }
 module _ (k : Kernel) (sized : Sized k) where
   -- a slot above 9 changes nothing
   pub with-process-sized : (slot : ℕ) (p : Process) → (slot < 10 → SizedProcess p) → Sized (withProcess k slot p)
-  with-process-sized slot p h = record { variables = sized .variables; zeros = sized .zeros; processes = length-set (k .processes) slot p ∙ sized .processes; each = λ i m. at i m (eqb i slot) refl }
+  with-process-sized slot p h = record {
+    variables = sized .variables;
+    zeros = sized .zeros;
+    processes = length-set (k .processes) slot p
+        ∙ sized .processes;
+    each = λ i m. at i m (eqb i slot) refl;
+  }
     where
       at : (i : ℕ) → i < 10 → (t : Bool) → eqb i slot ≡ t → SizedProcess (getD (set (k .processes) slot p) i noProcess)
       at i m true e =
@@ -86,10 +94,12 @@ module _ (k : Kernel) (sized : Sized k) where
       record { variables = s .variables; zeros = s .zeros; processes = s .processes; each = s .each }
 
 -- ending keeps the lengths where freeing does
-pub ended-sized : (k : Kernel) → Sized k → (slot fault : ℕ) → Shaped (freedAll (k .variables) (processAt k slot .id)) → Sized (ended k slot fault)
+pub ended-sized : (k : Kernel) → Sized k → (slot fault : ℕ) → Shaped (freedAll (k .variables) (processAt k slot .id))
+    → Sized (ended k slot fault)
 unfolding ended
 ended-sized k sized slot fault h =
     with-variables-sized (withProcess k slot (endedProcess (processAt k slot) fault))
-    (with-process-sized k sized slot (endedProcess (processAt k slot) fault) (λ m. ended-process-sized (processAt k slot) (sized .each slot m) fault))
+    (with-process-sized k sized slot (endedProcess (processAt k slot) fault)
+    (λ m. ended-process-sized (processAt k slot) (sized .each slot m) fault))
     (freedAll (k .variables) (processAt k slot .id))
     h

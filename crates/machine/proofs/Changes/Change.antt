@@ -41,7 +41,8 @@ pub data Outside (name : List ℕ) (k : Kernel) (disc : List ℕ) (j : Kernel) (
   nothing : j ≡ k → after ≡ disc → Outside name k disc j after
   -- OPEN's new file
   enters : (title : List ℕ) (n s : ℕ) → Admitted disc title n s → j ≡ k → after ≡ entered disc title n s → Outside name k disc j after
-  stores : (title bytes : List ℕ) (s : ℕ) → Admitted disc title (length bytes) s → j ≡ k → after ≡ stored disc title bytes s → Outside name k disc j after
+  stores : (title bytes : List ℕ) (s : ℕ) → Admitted disc title (length bytes) s → j ≡ k → after ≡ stored disc title bytes s
+      → Outside name k disc j after
   erases : (i : ℕ) → i < fileCount disc → inUse k (entryAt disc i) ≡ false → j ≡ k → after ≡ erased disc i → Outside name k disc j after
   begins : (slot : ℕ) (e : Entry) → starting k disc name ≡ starts slot e → j ≡ started k slot e → after ≡ disc → Outside name k disc j after
 
@@ -60,7 +61,8 @@ pub record GoesOn (disc : List ℕ) (p q : Process) : Type 0 where
 pub data Own (w : ℕ) (k : Kernel) (disc : List ℕ) (j : Kernel) : Type 0 where
   stays : j ≡ k → Own w k disc j
   moves : (q : Process) → GoesOn disc (processAt k w) q → j ≡ withProcess k w q → Own w k disc j
-  sets : (q : Process) (name : ℕ) (x : Value) (a : ℕ) → GoesOn disc (processAt k w) q → goodSize (x .kind) (x .size) ≡ true → length (valueBytes x) ≡ x .size
+  sets : (q : Process) (name : ℕ) (x : Value) (a : ℕ) → GoesOn disc (processAt k w) q → goodSize (x .kind) (x .size) ≡ true
+      → length (valueBytes x) ≡ x .size
       → assigned (k .variables) name (processAt k w .id) x .placing ≡ Address a
       → j ≡ withVariables (withProcess k w q) (assigned (k .variables) name (processAt k w .id) x .variables)
       → Own w k disc j

@@ -30,7 +30,8 @@ unfolding any keep
 any-kept p f q [] = refl
 any-kept p f q (x ∷ l) = go (q x) (any-kept p f q l)
   where
-    go : (b : Bool) → any p (map f (keep q l)) ≡ any (λ y. q y && p (f y)) l → any p (map f (consIf b x (keep q l))) ≡ (b && p (f x)) || any (λ y. q y && p (f y)) l
+    go : (b : Bool) → any p (map f (keep q l)) ≡ any (λ y. q y && p (f y)) l → any p (map f (consIf b x (keep q l))) ≡ (b && p (f x))
+        || any (λ y. q y && p (f y)) l
     go true e = rw e
     go false e = e
 
@@ -46,23 +47,37 @@ module _ (k : Kernel) (i : ℕ) where
 
   pub live-id-is : any (eqb i) (liveIds k) ≡ true → (s : ℕ) × (isLive (processAt k s) ≡ true) × (processAt k s .id ≡ i)
   live-id-is t =
-      let f = any-is lives noProcess (k .processes) (sym (any-kept (eqb i) (λ p. p .id) isLive (k .processes)) ∙ t) in
-      (f .place, and-left (isLive (processAt k (f .place))) _ (f .holds), sym (eqb-true i _ (and-right (isLive (processAt k (f .place))) _ (f .holds))))
+      let f = any-is lives noProcess (k .processes) (sym (any-kept (eqb i) (λ p. p .id) isLive (k .processes)) ∙ t) in (
+        f .place,
+        and-left (isLive (processAt k (f .place))) _ (f .holds),
+        sym (eqb-true i _ (and-right (isLive (processAt k (f .place))) _ (f .holds))),
+      )
 
 -- ---- variables
 -- good variables stay good where every live ID stays live
-pub still-owned : (live next : List ℕ) (v : Variables) → ((i : ℕ) → any (eqb i) live ≡ true → any (eqb i) next ≡ true) → goodVariables live v ≡ true → goodVariables next v ≡ true
+pub still-owned : (live next : List ℕ) (v : Variables) → ((i : ℕ) → any (eqb i) live ≡ true → any (eqb i) next ≡ true)
+    → goodVariables live v ≡ true → goodVariables next v ≡ true
 still-owned live next v more t =
     let g = good-variables-is live v t in
-    is-good-variables next v (record { few = g .few; each = all-weaker (goodVariable live) (goodVariable next) (counted v) still (g .each); pairwise = g .pairwise })
+    is-good-variables next v
+    (record {
+      few = g .few;
+      each = all-weaker (goodVariable live) (goodVariable next) (counted v) still (g .each);
+      pairwise =
+          g .pairwise;
+    })
   where
     still : (e : Variable) → goodVariable live e ≡ true → goodVariable next e ≡ true
-    still e b = let d = good-variable-is live e b in is-good-variable next e (record { size = d .size; inside = d .inside; owner = more (e .owner) (d .owner) })
+    still e b = let d = good-variable-is live e b in
+        is-good-variable next e (record { size = d .size; inside = d .inside; owner = more (e .owner) (d .owner) })
 
 -- no variable is of an ID that is not live
 pub none-owned : {k : Kernel} {disc : List ℕ} → GoodState k disc → (i : ℕ) → slotOf k i ≡ Nowhere → owned (k .variables) i ≡ []
 unfolding owned
-none-owned {k} {disc} g i none = ap (map (cellOf (k .variables .memory))) (keep-none (ownedBy i) (counted (k .variables)) (all-weaker (goodVariable (liveIds k)) (λ e. not (ownedBy i e)) (counted (k .variables)) other each))
+none-owned {k} {disc} g i none =
+    ap (map (cellOf (k .variables .memory)))
+    (keep-none (ownedBy i) (counted (k .variables))
+    (all-weaker (goodVariable (liveIds k)) (λ e. not (ownedBy i e)) (counted (k .variables)) other each))
   where
     each : all (goodVariable (liveIds k)) (counted (k .variables)) ≡ true
     each = good-variables-is (liveIds k) (k .variables) (good-kernel-is (files disc) k (g .area) .variables) .each

@@ -27,7 +27,8 @@ live-inside k s h = go (ltb s (length (k .processes))) refl
   where
     go : (b : Bool) → ltb s (length (k .processes)) ≡ b → s < length (k .processes)
     go true e = ltb-true s (length (k .processes)) e
-    go false e = absurd (true-not-false h (ap isLive (List·getD-eq-default (k .processes) noProcess (ltb-false s (length (k .processes)) e))))
+    go false e = absurd (true-not-false h
+        (ap isLive (List·getD-eq-default (k .processes) noProcess (ltb-false s (length (k .processes)) e))))
 
 pub live-below-ten : {k : Kernel} {disc : List ℕ} → GoodState k disc → (s : ℕ) → isLive (processAt k s) ≡ true → s < 10
 live-below-ten {k} g s h = omega (arith, live-inside k s h, g .sized .processes)
@@ -39,7 +40,8 @@ is-has-id : (i : ℕ) (p : Process) → isLive p ≡ true → p .id ≡ i → ha
 is-has-id i p h e = and-both h (eq-eqb (p .id) i e)
 
 -- ---- what the search for an ID found
-pub slot-at : (k : Kernel) (i s : ℕ) → slotOf k i ≡ At s → (s < length (k .processes)) × (isLive (processAt k s) ≡ true) × (processAt k s .id ≡ i)
+pub slot-at : (k : Kernel) (i s : ℕ) → slotOf k i ≡ At s → (s < length (k .processes)) × (isLive (processAt k s) ≡ true)
+    × (processAt k s .id ≡ i)
 unfolding slotOf
 slot-at k i s e =
     let f = index-at (hasId i) noProcess (k .processes) s e in
@@ -48,16 +50,22 @@ slot-at k i s e =
 
 pub slot-none : (k : Kernel) (i : ℕ) → slotOf k i ≡ Nowhere → (s : ℕ) → isLive (processAt k s) ≡ true → processAt k s .id ≡ i → ⊥
 unfolding slotOf
-slot-none k i e s h q = true-not-false (is-has-id i (processAt k s) h q) (index-none (hasId i) noProcess (k .processes) e s (live-inside k s h))
+slot-none k i e s h q =
+    true-not-false (is-has-id i (processAt k s) h q) (index-none (hasId i) noProcess (k .processes) e s (live-inside k s h))
 
 -- ---- what it will find
 pub slot-nowhere : (k : Kernel) (i : ℕ) → ((s : ℕ) → isLive (processAt k s) ≡ true → processAt k s .id ≡ i → ⊥) → slotOf k i ≡ Nowhere
 unfolding slotOf
-slot-nowhere k i n = index-miss (hasId i) (k .processes) noProcess (λ s h. not-true-is-false (hasId i (processAt k s)) (λ t. let f = has-id-is i (processAt k s) t in n s (f .0) (f .1)))
+slot-nowhere k i n =
+    index-miss (hasId i) (k .processes) noProcess
+    (λ s h. not-true-is-false (hasId i (processAt k s)) (λ t. let f = has-id-is i (processAt k s) t in n s (f .0) (f .1)))
 
-pub slot-is : {k : Kernel} {disc : List ℕ} → GoodState k disc → (s i : ℕ) → isLive (processAt k s) ≡ true → processAt k s .id ≡ i → slotOf k i ≡ At s
+pub slot-is : {k : Kernel} {disc : List ℕ} → GoodState k disc → (s i : ℕ) → isLive (processAt k s) ≡ true → processAt k s .id ≡ i
+    → slotOf k i ≡ At s
 unfolding slotOf
-slot-is {k} {disc} g s i h e = index-is (hasId i) (k .processes) s noProcess (live-inside k s h) (is-has-id i (processAt k s) h e) (λ t m. not-true-is-false (hasId i (processAt k t)) (before t m))
+slot-is {k} {disc} g s i h e =
+    index-is (hasId i) (k .processes) s noProcess (live-inside k s h) (is-has-id i (processAt k s) h e)
+    (λ t m. not-true-is-false (hasId i (processAt k t)) (before t m))
   where
     before : (t : ℕ) → t < s → hasId i (processAt k t) ≡ true → ⊥
     before t m b =

@@ -17,14 +17,16 @@ use Rattle.store.specs.Directory.{lookup}
 use Rattle.store.specs.File.{admission}
 use Rattle.store.specs.declared.Admission.{Admission}
 use Rattle.store.specs.declared.Admission.the-variants.{Start, Denied}
-use Rattle.machine.specs.Beyond.{Answered, carriesOn, breaks, advanced, answered, continues, created, createdAt, forked, inside, openedAt, ownFile, pushed, received, unlessBreaks, withOpenFile}
+use Rattle.machine.specs.Beyond.{Answered, carriesOn, breaks, advanced, answered, continues, created, createdAt, forked, inside}
+use Rattle.machine.specs.Beyond.{openedAt, ownFile, pushed, received, unlessBreaks, withOpenFile}
 use Rattle.machine.specs.Effect.{Request, opens, closes, writes, reads, readsString, forks, awaits}
 use Rattle.machine.specs.Start.{Starting, starts, refuses, starting}
 use Rattle.machine.specs.State.{Local}
 use Rattle.machine.specs.declared.Kernel.{Kernel}
 use Rattle.machine.proofs.Operations.FileAnswers.{numberRead, textAhead, textRead}
 
--- Document 01: "4 stack above 32", "11 no open file; 12 past the file's end", and 13, "OPEN's new file refused by name, size or store's 8 or 9"
+-- Document 01: "4 stack above 32", "11 no open file; 12 past the file's end", and 13, "OPEN's new file refused by name, size or store's 8
+-- or 9"
 abbrev pub FaultOf : Request → ℕ → Type 0
 FaultOf (opens name size l) n = n ≡ 13
 FaultOf (closes l) n = ⊥
@@ -52,7 +54,8 @@ module _ (k : Kernel) (slot : ℕ) (disc : List ℕ) where
       sized (Is n) = admit n (admission disc name n)
       sized Refused = refl
 
-  in-file : (P : ℕ → Type 0) (n : ℕ) (rest : Answered) → P 11 → P 12 → Breaks P rest → Breaks P (withOpenFile k slot disc (inside k slot disc n rest))
+  in-file : (P : ℕ → Type 0) (n : ℕ) (rest : Answered) → P 11 → P 12 → Breaks P rest
+      → Breaks P (withOpenFile k slot disc (inside k slot disc n rest))
   in-file P n rest p q h = go (eqb (ownFile k slot disc .len) 0) (leb (ownFile k slot disc .offset + n) (ownFile k slot disc .len))
     where
       go : (closed b : Bool) → Breaks P (cond closed (breaks 11) (unlessBreaks b 12 rest))
@@ -60,10 +63,14 @@ module _ (k : Kernel) (slot : ℕ) (disc : List ℕ) where
       go false false = q
       go false true = h
 
-  read-breaks : (stack : List ℕ) (n : ℕ) (l : Local) → Breaks (λ m. (m ≡ 4) ⊎ ((m ≡ 11) ⊎ (m ≡ 12))) (withOpenFile k slot disc (inside k slot disc n (received k slot disc stack n l)))
-  read-breaks stack n l = in-file (λ m. (m ≡ 4) ⊎ ((m ≡ 11) ⊎ (m ≡ 12))) n (received k slot disc stack n l) (inr (inl refl)) (inr (inr refl)) (go (leb (length stack) 32))
+  read-breaks : (stack : List ℕ) (n : ℕ) (l : Local)
+      → Breaks (λ m. (m ≡ 4) ⊎ ((m ≡ 11) ⊎ (m ≡ 12))) (withOpenFile k slot disc (inside k slot disc n (received k slot disc stack n l)))
+  read-breaks stack n l =
+      in-file (λ m. (m ≡ 4) ⊎ ((m ≡ 11) ⊎ (m ≡ 12))) n (received k slot disc stack n l) (inr (inl refl)) (inr (inr refl))
+      (go (leb (length stack) 32))
     where
-      go : (b : Bool) → Breaks (λ m. (m ≡ 4) ⊎ ((m ≡ 11) ⊎ (m ≡ 12))) (unlessBreaks b 4 (continues k slot disc (pushed l stack) (advanced (ownFile k slot disc) n) disc))
+      go : (b : Bool) → Breaks (λ m. (m ≡ 4)
+          ⊎ ((m ≡ 11) ⊎ (m ≡ 12))) (unlessBreaks b 4 (continues k slot disc (pushed l stack) (advanced (ownFile k slot disc) n) disc))
       go true = tt
       go false = inl refl
 
@@ -95,7 +102,8 @@ fault-number (forks name l) n h = absurd h
 fault-number (awaits id stay go) n h = absurd h
 
 -- 13 is OPEN's alone
-pub thirteen-opens : (r : Request) (n : ℕ) → n ≡ 13 → FaultOf r n → (name : List ℕ) × (size : Number) × (l : Local) × (r ≡ opens name size l)
+pub thirteen-opens : (r : Request) (n : ℕ) → n ≡ 13 → FaultOf r n → (name : List ℕ) × (size : Number) × (l : Local)
+    × (r ≡ opens name size l)
 thirteen-opens r n thirteen h = go r h
   where
     past-end : (n ≡ 11) ⊎ (n ≡ 12) → ⊥

@@ -35,7 +35,8 @@ module _ (b : Buffers) (sizes : isDiscLength (length (b .disc)) && isAreaLength 
 
   pub boot-good : goodDisc (b .disc) ≡ true → Passes (bootAnswer b .disc) (bootAnswer b .area)
   unfolding bootAnswer
-  boot-good good = rw (and-right (isDiscLength (length (b .disc))) (isAreaLength (length (b .area))) sizes) (booted-passes (b .disc) long good)
+  boot-good good = rw (and-right (isDiscLength (length (b .disc))) (isAreaLength (length (b .area))) sizes)
+      (booted-passes (b .disc) long good)
 
   -- Document 01: "Format zeroes the disc, then boots."
   pub format-good : Passes (formatAnswer b .disc) (formatAnswer b .area)

@@ -36,7 +36,8 @@ use Rattle.machine.proofs.Changes.Change.{GoodState, begins}
 use Rattle.machine.proofs.Kept.Begins.{started-new, starting-begins}
 use Rattle.machine.specs.declared.Kernel.{Kernel}
 use Rattle.machine.specs.Area.{kernelOf}
-use Rattle.machine.specs.Answer.{Answer, Buffers, store, erase, run, freeSpace, command, turn, answer, commandAnswer, runAt, retrieve, files, list}
+use Rattle.machine.specs.Answer.{Answer, Buffers, store, erase, run, freeSpace, command, turn, answer, commandAnswer, runAt, retrieve}
+use Rattle.machine.specs.Answer.{files, list}
 use Rattle.machine.specs.Due.{Holds, Usable, Writes, filesText}
 use Rattle.machine.specs.NoPlace.{NoneFits}
 use Rattle.machine.specs.Operations.{Command, suspend, resume, kill, commandAt, commanded, inUse, listText}
@@ -59,11 +60,13 @@ unfolding answer
 store-due b name bytes start u good size few new fit =
     let a = admits (b .disc) name (length bytes) start good size few new fit in
     let done : storeAnswer (b .disc) name bytes .number ≡ pos 0 =
-    ap (λ (x : Updated). x .number) (store-admission (b .disc) name bytes (u .0) (u .1)) ∙ ap (λ (x : Admission). storeAt x (b .disc) name bytes .number) (a .1) in
+    ap (λ (x : Updated). x .number) (store-admission (b .disc) name bytes (u .0) (u .1))
+    ∙ ap (λ (x : Admission). storeAt x (b .disc) name bytes .number) (a .1) in
     let file = store-done (b .disc) name bytes 0 done in
     (done, (fileCount (b .disc), file .found, file .holds))
 
-pub fork-due : (b : Buffers) (slot clock : ℕ) (name : List ℕ) (l : Local) (child i : ℕ) → MayTurn b slot → effectAt (stateOf b) slot clock (b .disc) ≡ asks (forks name l)
+pub fork-due : (b : Buffers) (slot clock : ℕ) (name : List ℕ) (l : Local) (child i : ℕ) → MayTurn b slot
+    → effectAt (stateOf b) slot clock (b .disc) ≡ asks (forks name l)
     → endedSlot (stateOf b) ≡ At child → lookup (b .disc) name ≡ At i → (stateOf b .next ≡ 32768 → ⊥)
     → slotOf (kernelOf (answer (turn slot clock) b .area)) (stateOf b .next) ≡ At child
 unfolding turned carriedOut answered starting
@@ -106,17 +109,21 @@ fork-due b slot clock name l child i may e free found left =
         ∙ put-other (started k child entry) slot own child other
         ∙ started-new (starting-begins name k (b .disc) child entry begun)
 
-pub erase-due : (b : Buffers) (name : List ℕ) (i : ℕ) → Passes (b .disc) (b .area) → lookup (b .disc) name ≡ At i → inUse (stateOf b) (entryAt (b .disc) i) ≡ false
+pub erase-due : (b : Buffers) (name : List ℕ) (i : ℕ) → Passes (b .disc) (b .area) → lookup (b .disc) name ≡ At i
+    → inUse (stateOf b) (entryAt (b .disc) i) ≡ false
     → (answer (erase name) b .number ≡ pos 0) × (lookup (answer (erase name) b .disc) name ≡ Nowhere)
 unfolding answer
 erase-due b name i passes e free =
-    let whole : answer (erase name) b ≡ record { number = pos 0; disc = erased (b .disc) i; area = b .area; out = b .out } = on-good b _ passes ∙ rw (e, free) in (
+    let whole : answer (erase name) b ≡ record { number = pos 0; disc = erased (b .disc) i; area = b .area; out = b .out } =
+    on-good b _ passes ∙ rw (e, free) in (
       ap (λ (a : Answer). a .number) whole,
-      ap (λ (a : Answer). lookup (a .disc) name) whole ∙ erased-missing (b .disc) (passes .disc-good) i (lookup-at (b .disc) name i e .inside) name e,
+      ap (λ (a : Answer). lookup (a .disc) name) whole
+          ∙ erased-missing (b .disc) (passes .disc-good) i (lookup-at (b .disc) name i e .inside) name e,
     )
 
 pub free-space-due : (b : Buffers) → Usable (b .disc)
-    → (n : ℕ) × (answer freeSpace b .number ≡ pos n) × (0 < n → (start : ℕ) × (fits (taken (b .disc)) 161 (length (b .disc)) n start ≡ true))
+    → (n : ℕ) × (answer freeSpace b .number ≡ pos n)
+    × (0 < n → (start : ℕ) × (fits (taken (b .disc)) 161 (length (b .disc)) n start ≡ true))
     × ((m : ℕ) → n < m → NoneFits (taken (b .disc)) 161 (length (b .disc)) m)
 unfolding answer freeSpaceAnswer placeOf
 free-space-due b u =
@@ -124,30 +131,44 @@ free-space-due b u =
     let done : freeSpaceAnswer (b .disc) ≡ pos n = rw (is-usable (b .disc) (u .0) (u .1)) in (
       n,
       done,
-      (λ some. let s = free-space-fits (b .disc) n done some in (s .0, is-fits (taken (b .disc)) 161 (length (b .disc)) n (s .0) (place-fits (taken (b .disc)) 161 (length (b .disc)) n (s .0) (s .1)))),
+      (λ some. let s = free-space-fits (b .disc) n done some in (
+        s .0,
+        is-fits (taken (b .disc)) 161 (length (b .disc)) n (s .0)
+            (place-fits (taken (b .disc)) 161 (length (b .disc)) n (s .0) (s .1)),
+      )),
       (λ m longer. no-place-none-fits (taken (b .disc)) 161 (length (b .disc)) m (free-space-most (b .disc) n done m longer)),
     )
 
 -- ---- processes
-pub retrieve-due : (b : Buffers) (name : List ℕ) (i : ℕ) → Usable (b .disc) → lookup (b .disc) name ≡ At i → entryAt (b .disc) i .len ≤ length (b .out)
+pub retrieve-due : (b : Buffers) (name : List ℕ) (i : ℕ) → Usable (b .disc) → lookup (b .disc) name ≡ At i
+    → entryAt (b .disc) i .len ≤ length (b .out)
     → Writes (entryAt (b .disc) i .len) (contents (b .disc) (runOf (entryAt (b .disc) i))) b (answer (retrieve name) b)
 unfolding answer retrieveAnswer
 retrieve-due b name i u e fit =
-    let whole : retrieveAnswer (b .disc) name (b .out) ≡ reported (Done (entryAt (b .disc) i .len)) (overwrite (b .out) 0 (contents (b .disc) (runOf (entryAt (b .disc) i)))) =
+    let whole : retrieveAnswer (b .disc) name (b .out) ≡ reported (Done (entryAt (b .disc) i .len))
+    (overwrite (b .out) 0 (contents (b .disc) (runOf (entryAt (b .disc) i)))) =
     rw (is-usable (b .disc) (u .0) (u .1), e, le-leb _ _ fit) in
     (ap (λ (r : Reported). r .number) whole, ap (λ (r : Reported). r .out) whole)
 
-pub files-due : (b : Buffers) → Usable (b .disc) → length (filesText b) ≤ length (b .out) → Writes (length (filesText b)) (filesText b) b (answer files b)
+pub files-due : (b : Buffers) → Usable (b .disc) → length (filesText b) ≤ length (b .out)
+    → Writes (length (filesText b)) (filesText b) b (answer files b)
 unfolding answer filesAnswer
 files-due b u fit =
-    let whole : filesAnswer (b .disc) (b .out) ≡ reported (Done (length (filesText b))) (overwrite (b .out) 0 (filesText b)) = rw (is-usable (b .disc) (u .0) (u .1), le-leb _ _ fit) in
+    let whole : filesAnswer (b .disc) (b .out) ≡ reported (Done (length (filesText b))) (overwrite (b .out) 0 (filesText b)) =
+    rw (is-usable (b .disc) (u .0) (u .1), le-leb _ _ fit) in
     (ap (λ (r : Reported). r .number) whole, ap (λ (r : Reported). r .out) whole)
 
 pub list-due : (b : Buffers) → Passes (b .disc) (b .area) → length (listText (stateOf b)) ≤ length (b .out)
     → Writes (length (listText (stateOf b))) (listText (stateOf b)) b (answer list b)
 unfolding answer
 list-due b passes fit =
-    let whole : answer list b ≡ record { number = pos (length (listText (stateOf b))); disc = b .disc; area = b .area; out = overwrite (b .out) 0 (listText (stateOf b)) } =
+    let whole : answer list b ≡ record {
+      number = pos (length (listText (stateOf b)));
+      disc = b .disc;
+      area = b .area;
+      out =
+          overwrite (b .out) 0 (listText (stateOf b));
+    } =
     on-good b _ passes ∙ rw (le-leb _ _ fit) in
     (ap (λ (a : Answer). a .number) whole, ap (λ (a : Answer). a .out) whole)
 
@@ -155,7 +176,11 @@ pub run-due : (b : Buffers) (name : List ℕ) (slot i : ℕ) → Passes (b .disc
     → endedSlot (stateOf b) ≡ At slot → lookup (b .disc) name ≡ At i → (stateOf b .next ≡ 32768 → ⊥)
     → (answer (run name) b .number ≡ pos (stateOf b .next)) × (slotOf (kernelOf (answer (run name) b .area)) (stateOf b .next) ≡ At slot)
 unfolding answer starting
-run-due b name slot i passes free e left = (ap (λ (a : Answer). a .number) done, ap (λ (a : Answer). slotOf (kernelOf (a .area)) (k .next)) done ∙ ap (λ (j : Kernel). slotOf j (k .next)) (good-back _ _ good) ∙ at)
+run-due b name slot i passes free e left = (
+  ap (λ (a : Answer). a .number) done,
+  ap (λ (a : Answer). slotOf (kernelOf (a .area)) (k .next)) done
+      ∙ ap (λ (j : Kernel). slotOf j (k .next)) (good-back _ _ good) ∙ at,
+)
   where
     k : Kernel
     k = stateOf b
@@ -178,7 +203,8 @@ run-due b name slot i passes free e left = (ap (λ (a : Answer). a .number) done
     at : slotOf (started k slot entry) (k .next) ≡ At slot
     at = slot-is good slot (k .next) (ap isLive new) (ap (λ (p : Process). p .id) new)
 
-pub command-due : (b : Buffers) (c : Command) (id slot : ℕ) → Passes (b .disc) (b .area) → slotOf (stateOf b) id ≡ At slot → takes c (processAt (stateOf b) slot) ≡ true
+pub command-due : (b : Buffers) (c : Command) (id slot : ℕ) → Passes (b .disc) (b .area) → slotOf (stateOf b) id ≡ At slot
+    → takes c (processAt (stateOf b) slot) ≡ true
     → answer (command c id) b .number ≡ pos 0
 unfolding answer commanded
 command-due b c id slot passes e t = ap (λ (a : Answer). a .number) (on-good b _ passes) ∙ rw e (given c t)

@@ -36,7 +36,8 @@ module _ (b : Buffers) (slot clock : ℕ) (may : MayTurn b slot) where
     where
       go : ((m : ℕ) × EndsBy m) ⊎ (isRunning (processAt (turnedState b slot clock) slot) ≡ true) → EndsBy n
       go (inl e) =
-          let own : processAt (turnedState b slot clock) slot ≡ endedProcess (processAt (stateOf b) slot) (e .0) = ended-only b slot clock may (e .0) (e .1) .3 .own in
+          let own : processAt (turnedState b slot clock) slot ≡ endedProcess (processAt (stateOf b) slot) (e .0) =
+          ended-only b slot clock may (e .0) (e .1) .3 .own in
           subst EndsBy (sym (ap (λ (p : Process). p .fault) own) ∙ h .1) (e .1)
       go (inr r) = absurd (true-not-false r (h .0))
 
@@ -54,11 +55,19 @@ module _ (b : Buffers) (slot clock : ℕ) (may : MayTurn b slot) where
       not-ten n ten (inr (inr (inl e))) = omega arith
       not-ten n ten (inr (inr (inr e))) = omega arith
 
-      go : EndsBy 10 → (name : ℕ) × (kind : ℕ) × (bytes : List ℕ) × (l : Local) × (effectAt (stateOf b) slot clock (b .disc) ≡ assigns name kind bytes l)
+      go : EndsBy 10 → (name : ℕ) × (kind : ℕ) × (bytes : List ℕ) × (l : Local)
+          × (effectAt (stateOf b) slot clock (b .disc) ≡ assigns name kind bytes l)
           × Lacking (freed (stateOf b .variables) (isOf name (processAt (stateOf b) slot .id))) (length bytes)
       go (stopped e z) = absurd (omega arith)
       go (faulted e some few) = absurd (omega arith)
-      go (unplaced name kind bytes l e p z) = (name, kind, bytes, l, e, turn-set-lacking (stateOf b) slot (may .running) clock (b .disc) name kind bytes l e (stopped-then 10 h))
+      go (unplaced name kind bytes l e p z) = (
+        name,
+        kind,
+        bytes,
+        l,
+        e,
+        turn-set-lacking (stateOf b) slot (may .running) clock (b .disc) name kind bytes l e (stopped-then 10 h),
+      )
       go (broken r e q) = absurd (not-ten 10 refl (fault-number r 10 (answer-fault (stateOf b) slot (b .disc) r 10 q)))
 
   pub open-refused : EndsWith b slot clock 13
@@ -66,12 +75,14 @@ module _ (b : Buffers) (slot clock : ℕ) (may : MayTurn b slot) where
       × (lookup (b .disc) name ≡ Nowhere) × NewFileRefused (b .disc) name (sizeWithin (length (b .disc) - 161) size)
   open-refused h = go (ended-by 13 h)
     where
-      refused : (name : List ℕ) (size : Number) (l : Local) → effectAt (stateOf b) slot clock (b .disc) ≡ asks (opens name size l) → (lookup (b .disc) name ≡ Nowhere) × NewFileRefused (b .disc) name (sizeWithin (length (b .disc) - 161) size)
+      refused : (name : List ℕ) (size : Number) (l : Local) → effectAt (stateOf b) slot clock (b .disc) ≡ asks (opens name size l)
+          → (lookup (b .disc) name ≡ Nowhere) × NewFileRefused (b .disc) name (sizeWithin (length (b .disc) - 161) size)
       refused name size l e =
           let good = passes-good (b .disc) (b .area) (may .passes) in
           turn-open-refused (stateOf b) slot (may .running) clock (b .disc) (good .long) (good .sound) name size l e (stopped-then 13 h)
 
-      go : EndsBy 13 → (name : List ℕ) × (size : Number) × (l : Local) × (effectAt (stateOf b) slot clock (b .disc) ≡ asks (opens name size l))
+      go : EndsBy 13 → (name : List ℕ) × (size : Number) × (l : Local)
+          × (effectAt (stateOf b) slot clock (b .disc) ≡ asks (opens name size l))
           × (lookup (b .disc) name ≡ Nowhere) × NewFileRefused (b .disc) name (sizeWithin (length (b .disc) - 161) size)
       go (stopped e z) = absurd (omega arith)
       go (faulted e some few) = absurd (omega arith)

@@ -1,5 +1,5 @@
--- Document 01: "A faulting instruction changes nothing but the ending." What ends a process in its turn leaves the state `ended`, and what does not
--- leaves it running.
+-- Document 01: "A faulting instruction changes nothing but the ending." What ends a process in its turn leaves the state `ended`, and what
+-- does not leaves it running.
 use Prim.Native.Nat.{ℕ, _<_}
 use mathlib.Core.Path.{_≡_, refl, sym, ap, subst⁻¹, _∙_}
 use mathlib.Core.Bool.{true, not}
@@ -26,11 +26,13 @@ use Rattle.machine.proofs.Demands.Lasting.{LeftRunning, answer-left, mo
 use Rattle.machine.proofs.Instructions.Sound.{Sound}
 use Rattle.machine.proofs.Operations.Turning.{SoundAt}
 
-pub turn-ends : {k : Kernel} {slot clock : ℕ} {disc : List ℕ} {n : ℕ} → Ends k slot clock disc n → turned k slot clock disc ≡ finished k slot disc n
+pub turn-ends : {k : Kernel} {slot clock : ℕ} {disc : List ℕ} {n : ℕ} → Ends k slot clock disc n
+    → turned k slot clock disc ≡ finished k slot disc n
 unfolding turned carriedOut
 turn-ends {k} {slot} {clock} {disc} {n} (stopped e z) = ap (carriedOut k slot disc) e ∙ ap (finished k slot disc) (sym z)
 turn-ends {k} {slot} {clock} {disc} {n} (faulted e some few) = ap (carriedOut k slot disc) e
-turn-ends {k} {slot} {clock} {disc} {n} (unplaced name kind bytes l e p z) = ap (carriedOut k slot disc) e ∙ none p ∙ ap (finished k slot disc) (sym z)
+turn-ends {k} {slot} {clock} {disc} {n} (unplaced name kind bytes l e p z) = ap (carriedOut k slot disc) e ∙ none p
+    ∙ ap (finished k slot disc) (sym z)
   where
     a : Assigned
     a = placed k slot name kind bytes
@@ -41,13 +43,16 @@ turn-ends {k} {slot} {clock} {disc} {n} (unplaced name kind bytes l e p z) = ap 
 turn-ends {k} {slot} {clock} {disc} {n} (broken r e q) = ap (carriedOut k slot disc) e ∙ ap (answering k slot disc) q
 
 -- ---- what does not end it leaves it running
-pub ends-or-goes : (k : Kernel) (slot clock : ℕ) (disc : List ℕ) → isRunning (processAt k slot) ≡ true → slot < length (k .processes) → SoundAt k slot clock disc
+pub ends-or-goes : (k : Kernel) (slot clock : ℕ) (disc : List ℕ) → isRunning (processAt k slot) ≡ true → slot < length (k .processes)
+    → SoundAt k slot clock disc
     → ((n : ℕ) × Ends k slot clock disc n) ⊎ (isRunning (processAt (turned k slot clock disc .kernel) slot) ≡ true)
 unfolding turned carriedOut Sound
 ends-or-goes k slot clock disc running low sound = go (effectAt k slot clock disc) refl sound
   where
-    set-left : (name kind : ℕ) (bytes : List ℕ) (l : Local) → effectAt k slot clock disc ≡ assigns name kind bytes l → (q : Placing) → placed k slot name kind bytes .placing ≡ q
-        → ((n : ℕ) × Ends k slot clock disc n) ⊎ (isRunning (processAt (setting k slot disc q (placed k slot name kind bytes .variables) l .kernel) slot) ≡ true)
+    set-left : (name kind : ℕ) (bytes : List ℕ) (l : Local) → effectAt k slot clock disc ≡ assigns name kind bytes l → (q : Placing)
+        → placed k slot name kind bytes .placing ≡ q
+        → ((n : ℕ) × Ends k slot clock disc n)
+        ⊎ (isRunning (processAt (setting k slot disc q (placed k slot name kind bytes .variables) l .kernel) slot) ≡ true)
     set-left name kind bytes l e (Address a) h = inr (moved-running k slot running low l)
     set-left name kind bytes l e NoEntry h = inl (10, unplaced name kind bytes l e (inl h) refl)
     set-left name kind bytes l e NoRun h = inl (10, unplaced name kind bytes l e (inr h) refl)
@@ -85,5 +90,7 @@ ended-touches k slot n h =
       zeros = refl;
     }
 
-pub turn-touches : {k : Kernel} {slot clock : ℕ} {disc : List ℕ} {n : ℕ} → Ends k slot clock disc n → slot < length (k .processes) → Touched k slot n (turned k slot clock disc .kernel)
-turn-touches {k} {slot} {clock} {disc} {n} e h = subst⁻¹ (λ (t : Turned). Touched k slot n (t .kernel)) (turn-ends e) (ended-touches k slot n h)
+pub turn-touches : {k : Kernel} {slot clock : ℕ} {disc : List ℕ} {n : ℕ} → Ends k slot clock disc n → slot < length (k .processes)
+    → Touched k slot n (turned k slot clock disc .kernel)
+turn-touches {k} {slot} {clock} {disc} {n} e h =
+    subst⁻¹ (λ (t : Turned). Touched k slot n (t .kernel)) (turn-ends e) (ended-touches k slot n h)

@@ -13,9 +13,11 @@ use Rattle.store.specs.Directory.{entryAt, isDiscLength, lookup}
 use Rattle.store.specs.File.{erased, unless}
 use Rattle.store.proofs.Calls.{store-cases, stored}
 use Rattle.store.proofs.Lookups.{lookup-at}
-use Rattle.machine.specs.Answer.{Answer, Buffers, Call, store, retrieve, erase, run, files, freeSpace, list, command, turn, round, answer, commandAnswer, eraseAt, goodArea, onDisc, onGood, refused, runAt}
+use Rattle.machine.specs.Answer.{Answer, Buffers, Call, store, retrieve, erase, run, files, freeSpace, list, command, turn, round}
+use Rattle.machine.specs.Answer.{answer, commandAnswer, eraseAt, goodArea, onDisc, onGood, refused, runAt}
 use Rattle.machine.specs.Area.{isAreaLength, kernelBytes, kernelOf}
-use Rattle.machine.specs.Operations.{Command, Commanded, becomes, refused as declined, commanded, inUse, listText, slots, turnIfRunning, turnsOf}
+use Rattle.machine.specs.Operations.{Command, Commanded, becomes, refused as declined, commanded, inUse, listText, slots}
+use Rattle.machine.specs.Operations.{turnIfRunning, turnsOf}
 use Rattle.machine.specs.Refusals.{Passes}
 use Rattle.machine.specs.Start.{Starting, starts, refuses, started, starting}
 use Rattle.machine.specs.Stack.{topString}
@@ -40,7 +42,13 @@ area-length {disc} p = and-right (isDiscLength (length disc)) _ (p .sizes)
 pub passes-good : (disc area : List ℕ) → Passes disc area → GoodState (kernelOf area) disc
 unfolding goodArea
 passes-good disc area p =
-    record { sized = decoded-sized area (eqb-true _ _ (area-length p)); long = and-left (isDiscLength (length disc)) _ (p .sizes); sound = p .disc-good; area = p .area-good }
+    record {
+      sized = decoded-sized area (eqb-true _ _ (area-length p));
+      long = and-left (isDiscLength (length disc)) _ (p .sizes);
+      sound =
+          p .disc-good;
+      area = p .area-good;
+    }
 
 -- the area's bytes may be others that say the same
 pub good-passes-as : (disc area : List ℕ) → isAreaLength (length area) ≡ true → GoodState (kernelOf area) disc → Passes disc area
@@ -52,7 +60,8 @@ good-back k disc g = kernel-decode-encode k (g .sized)
 
 pub good-passes : (k : Kernel) (disc : List ℕ) → GoodState k disc → Passes disc (kernelBytes k)
 good-passes k disc g =
-    good-passes-as disc (kernelBytes k) (eq-eqb _ _ (kernel-bytes-length k (g .sized))) (subst⁻¹ (λ (j : Kernel). GoodState j disc) (good-back k disc g) g)
+    good-passes-as disc (kernelBytes k) (eq-eqb _ _ (kernel-bytes-length k (g .sized)))
+    (subst⁻¹ (λ (j : Kernel). GoodState j disc) (good-back k disc g) g)
 
 pub on-good : (b : Buffers) (rest : Answer) → Passes (b .disc) (b .area) → onGood b rest ≡ rest
 on-good b rest p = rw (p .sizes, p .disc-good, p .area-good)
@@ -60,22 +69,27 @@ on-good b rest p = rw (p .sizes, p .disc-good, p .area-good)
 -- ---- a turn
 pub turn-is-change : (k : Kernel) (slot clock : ℕ) (disc : List ℕ) → GoodState k disc → isRunning (processAt k slot) ≡ true
     → Change (topString (localOf (processAt k slot) .stack)) slot k disc (turned k slot clock disc .kernel) (turned k slot clock disc .disc)
-turn-is-change k slot clock disc g h = turn-change k slot clock disc g h (exec-sound _ clock _ _ (within-local g slot (running-live (processAt k slot) h)))
+turn-is-change k slot clock disc g h =
+    turn-change k slot clock disc g h (exec-sound _ clock _ _ (within-local g slot (running-live (processAt k slot) h)))
 
-pub turn-good : (k : Kernel) (slot clock : ℕ) (disc : List ℕ) → GoodState k disc → isRunning (processAt k slot) ≡ true → GoodState (turned k slot clock disc .kernel) (turned k slot clock disc .disc)
+pub turn-good : (k : Kernel) (slot clock : ℕ) (disc : List ℕ) → GoodState k disc → isRunning (processAt k slot) ≡ true
+    → GoodState (turned k slot clock disc .kernel) (turned k slot clock disc .disc)
 turn-good k slot clock disc g h = change-good _ slot k disc _ _ g (turn-is-change k slot clock disc g h)
 
 -- ---- a round
-pub turn-if-running-good : (k : Kernel) (slot clock : ℕ) (disc : List ℕ) → GoodState k disc → GoodState (turnIfRunning k slot clock disc .kernel) (turnIfRunning k slot clock disc .disc)
+pub turn-if-running-good : (k : Kernel) (slot clock : ℕ) (disc : List ℕ) → GoodState k disc
+    → GoodState (turnIfRunning k slot clock disc .kernel) (turnIfRunning k slot clock disc .disc)
 unfolding turnIfRunning
 turn-if-running-good k slot clock disc g = go (isRunning (processAt k slot)) refl
   where
     go : (running : Bool) → isRunning (processAt k slot) ≡ running
-        → GoodState (cond running (turned k slot clock disc) (record { kernel = k; disc = disc; out = [] }) .kernel) (cond running (turned k slot clock disc) (record { kernel = k; disc = disc; out = [] }) .disc)
+        → GoodState (cond running (turned k slot clock disc) (record { kernel = k; disc = disc; out = [] }) .kernel)
+        (cond running (turned k slot clock disc) (record { kernel = k; disc = disc; out = [] }) .disc)
     go true e = turn-good k slot clock disc g e
     go false e = g
 
-pub turns-good : (l : List ℕ) (k : Kernel) (clock : ℕ) (disc : List ℕ) → GoodState k disc → GoodState (turnsOf l k clock disc .kernel) (turnsOf l k clock disc .disc)
+pub turns-good : (l : List ℕ) (k : Kernel) (clock : ℕ) (disc : List ℕ) → GoodState k disc
+    → GoodState (turnsOf l k clock disc .kernel) (turnsOf l k clock disc .disc)
 unfolding turnsOf
 turns-good [] k clock disc g = g
 turns-good (slot ∷ l) k clock disc g =
@@ -107,7 +121,8 @@ module _ (b : Buffers) (passes : Passes (b .disc) (b .area)) where
   store-kept : (name bytes : List ℕ) → Kept (answer (store name bytes) b)
   unfolding answer
   store-kept name bytes =
-      store-cases (b .disc) name bytes (λ u. Kept (onDisc u b)) (λ r d. passes) (λ s l g a. disc-kept (stored (b .disc) name bytes s) (stores name bytes s a refl refl))
+      store-cases (b .disc) name bytes (λ u. Kept (onDisc u b)) (λ r d. passes)
+      (λ s l g a. disc-kept (stored (b .disc) name bytes s) (stores name bytes s a refl refl))
 
   erase-kept : (name : List ℕ) → Kept (answer (erase name) b)
   unfolding answer k
@@ -125,7 +140,8 @@ module _ (b : Buffers) (passes : Passes (b .disc) (b .area)) where
     where
       placed : (s : Starting) → starting k (b .disc) name ≡ s → Kept (runAt s k b)
       placed (refuses n) e = passes
-      placed (starts slot f) e = good-passes _ _ (outside-good name k (b .disc) (started k slot f) (b .disc) good (begins slot f e refl refl))
+      placed (starts slot f) e =
+          good-passes _ _ (outside-good name k (b .disc) (started k slot f) (b .disc) good (begins slot f e refl refl))
 
   command-kept : (c : Command) (id : ℕ) → Kept (answer (command c id) b)
   unfolding answer k

@@ -18,7 +18,8 @@ use Rattle.store.specs.Directory.{lookup}
 use Rattle.store.specs.File.{admission}
 use Rattle.store.specs.declared.Admission.{Admission}
 use Rattle.store.specs.declared.Admission.the-variants.{Start, Denied}
-use Rattle.machine.specs.Beyond.{Answered, carriesOn, breaks, advanced, answered, continues, created, createdAt, forked, inside, isAwaited, opened, openedAt, pushId, pushed, received, unlessBreaks, withOpenFile}
+use Rattle.machine.specs.Beyond.{Answered, carriesOn, breaks, advanced, answered, continues, created, createdAt, forked, inside}
+use Rattle.machine.specs.Beyond.{isAwaited, opened, openedAt, pushId, pushed, received, unlessBreaks, withOpenFile}
 use Rattle.machine.specs.Effect.{Request, opens, closes, writes, reads, readsString, forks, awaits}
 use Rattle.machine.specs.Start.{Starting, starts, refuses, startedProcess, starting}
 use Rattle.machine.specs.State.{Local, isRunning, noProcess, processAt, withFile, withLocal, withProcess}
@@ -35,7 +36,8 @@ module _ (k : Kernel) (slot : ℕ) (running : isRunning (processAt k slot) ≡ t
   abbrev p : Process
   p = processAt k slot
 
-  still : (ps : List Process) (q : Process) → length ps ≡ length (k .processes) → isRunning q ≡ true → isRunning (getD (set ps slot q) slot noProcess) ≡ true
+  still : (ps : List Process) (q : Process) → length ps ≡ length (k .processes) → isRunning q ≡ true
+      → isRunning (getD (set ps slot q) slot noProcess) ≡ true
   still ps q e r = ap isRunning (getD-set-same ps slot q noProcess (subst⁻¹ (λ (n : ℕ). slot < n) e low)) ∙ r
 
   pub moved-running : (l : Local) → isRunning (processAt (withProcess k slot (withLocal p l)) slot) ≡ true
@@ -77,7 +79,9 @@ module _ (k : Kernel) (slot : ℕ) (running : isRunning (processAt k slot) ≡ t
 
     fork-left : (s : Starting) (l : Local) → Left (forked k slot disc s l)
     fork-left (refuses r) l = moved-running (pushId l 0)
-    fork-left (starts child e) l = still (set (k .processes) child (startedProcess e (k .next))) (withLocal p (pushId l (k .next))) (length-set (k .processes) child (startedProcess e (k .next))) running
+    fork-left (starts child e) l =
+        still (set (k .processes) child (startedProcess e (k .next))) (withLocal p (pushId l (k .next)))
+        (length-set (k .processes) child (startedProcess e (k .next))) running
 
     pub answer-left : (r : Request) → Left (answered k slot disc r)
     unfolding answered
@@ -85,6 +89,7 @@ module _ (k : Kernel) (slot : ℕ) (running : isRunning (processAt k slot) ≡ t
     answer-left (closes l) = moved-running l
     answer-left (writes bytes l) = in-file (length bytes) _ (continued-running l (advanced (p .file) (length bytes)))
     answer-left (reads kind l) = in-file kind _ (received-left (numberRead k slot disc kind l) kind l)
-    answer-left (readsString l) = in-file (length (textAhead k slot disc) + 1) _ (received-left (textRead k slot disc l) (length (textAhead k slot disc) + 1) l)
+    answer-left (readsString l) =
+        in-file (length (textAhead k slot disc) + 1) _ (received-left (textRead k slot disc l) (length (textAhead k slot disc) + 1) l)
     answer-left (forks name l) = fork-left (starting k disc name) l
     answer-left (awaits id stay go) = moved-running (cond (any (isAwaited k slot disc id) (k .processes)) stay go)

@@ -26,7 +26,8 @@ use Rattle.store.specs.File.{admission, entered, goodSize}
 use Rattle.store.specs.declared.Admission.{Admission}
 use Rattle.store.specs.declared.Admission.the-variants.{Start, Denied}
 use Rattle.store.specs.declared.Refusal.{Refusal}
-use Rattle.store.specs.declared.Refusal.the-variants.{WrongLength, BadDisc, ShortOutput, BadName, BadSize, NameExists, DirectoryFull, NoRun, NoSuchFile}
+use Rattle.store.specs.declared.Refusal.the-variants.{WrongLength, BadDisc, ShortOutput, BadName, BadSize, NameExists, DirectoryFull, NoRun}
+use Rattle.store.specs.declared.Refusal.the-variants.{NoSuchFile}
 use Rattle.store.proofs.Admissions.{Denial, denied, denied-full}
 use Rattle.machine.specs.Beyond.{Answered, breaks, answered, continues, created, createdAt, opened, openedAt}
 use Rattle.machine.specs.Effect.{opens}
@@ -39,7 +40,8 @@ use Rattle.machine.specs.declared.OpenFile.{OpenFile}
 sized-within : (max n : ℕ) (z : ℤ) → sized (within max z) ≡ Is n → leb 1 n && leb n max ≡ true
 sized-within max n z e = go (inRange max z) refl z refl e
   where
-    go : (inside : Bool) → inRange max z ≡ inside → (y : ℤ) → y ≡ z → sized (cond inside (whole.Is y) OutOfRange) ≡ Is n → leb 1 n && leb n max ≡ true
+    go : (inside : Bool) → inRange max z ≡ inside → (y : ℤ) → y ≡ z → sized (cond inside (whole.Is y) OutOfRange) ≡ Is n → leb 1 n
+        && leb n max ≡ true
     go false p y q h = absurd (let x : _≡_ {A = ℕ} 0 1 = cc in omega arith)
     go true p (pos zero) q h = absurd (let x : _≡_ {A = ℕ} 0 1 = cc in omega arith)
     go true p (negsuc m) q h = absurd (let x : _≡_ {A = ℕ} 0 1 = cc in omega arith)
@@ -59,15 +61,18 @@ size-within max n (Float x) e = float-within x e
     float-within (inf s) e = absurd (let x : _≡_ {A = ℕ} 0 1 = cc in omega arith)
     float-within (fin s m e) h = sized-within max n (signed s (m * up e / down e)) h
 
-module _ (k : Kernel) (slot : ℕ) (disc name : List ℕ) (l : Local) (long : isDiscLength (length disc) ≡ true) (good : goodDisc disc ≡ true) where
+module _ (k : Kernel) (slot : ℕ) (disc name : List ℕ) (l : Local) (long : isDiscLength (length disc) ≡ true)
+    (good : goodDisc disc ≡ true) where
   -- a file of that name would have been opened, so that it exists is no reason
-  denial-refuses : (n : ℕ) (size : Size) → size ≡ Is n → goodSize disc n ≡ true → lookup disc name ≡ Nowhere → (r : Refusal) → admission disc name n ≡ Denied r → Denial disc name n r → NewFileRefused disc name size
+  denial-refuses : (n : ℕ) (size : Size) → size ≡ Is n → goodSize disc n ≡ true → lookup disc name ≡ Nowhere → (r : Refusal)
+      → admission disc name n ≡ Denied r → Denial disc name n r → NewFileRefused disc name size
   denial-refuses n size e fit new WrongLength a d = absurd (true-not-false long d)
   denial-refuses n size e fit new BadDisc a d = absurd (true-not-false good d)
   denial-refuses n size e fit new BadName a d = by-name d
   denial-refuses n size e fit new BadSize a d = absurd (true-not-false fit d)
   denial-refuses n size e fit new DirectoryFull a d = by-full (denied-full disc name n good a)
-  denial-refuses n size e fit new NameExists a d = absurd (let found : lookup disc name ≡ At (d .0) = d .1 in let z : _≡_ {A = ℕ} 0 1 = cc in omega arith)
+  denial-refuses n size e fit new NameExists a d = absurd (let found : lookup disc name ≡ At (d .0) = d .1 in
+      let z : _≡_ {A = ℕ} 0 1 = cc in omega arith)
   denial-refuses n size e fit new NoRun a d = by-no-run n e d
   denial-refuses n size e fit new ShortOutput a d = absurd d
   denial-refuses n size e fit new NoSuchFile a d = absurd d
@@ -80,9 +85,11 @@ module _ (k : Kernel) (slot : ℕ) (disc name : List ℕ) (l : Local) (long : is
   unfolding answered
   open-cases size P goes refused = found (lookup disc name) refl
     where
-      create : lookup disc name ≡ Nowhere → (n : ℕ) → sizeWithin (length disc - 161) size ≡ Is n → (a : Admission) → admission disc name n ≡ a → P (createdAt k slot disc a name n l)
+      create : lookup disc name ≡ Nowhere → (n : ℕ) → sizeWithin (length disc - 161) size ≡ Is n → (a : Admission)
+          → admission disc name n ≡ a → P (createdAt k slot disc a name n l)
       create new n e (Start s) a = goes (opened (runFrom s n)) (entered disc name n s)
-      create new n e (Denied r) a = refused new (denial-refuses n _ e (size-within (length disc - 161) n size e) new r a (denied disc name n r a))
+      create new n e (Denied r) a =
+          refused new (denial-refuses n _ e (size-within (length disc - 161) n size e) new r a (denied disc name n r a))
 
       judged : lookup disc name ≡ Nowhere → (s : Size) → sizeWithin (length disc - 161) size ≡ s → P (created k slot disc s name l)
       judged new Improper e = refused new (by-size e)

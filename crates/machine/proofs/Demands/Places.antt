@@ -23,7 +23,8 @@ use Rattle.store.specs.Answer.{Updated, storeAnswer}
 use Rattle.store.specs.Directory.{fileCount, goodDisc, isDiscLength, taken, lookup}
 use Rattle.store.proofs.Checks.{by-checks}
 use Rattle.store.proofs.Calls.{store-admission, store-refused-full, store-refused-no-run}
-use Rattle.variable.specs.Assign.{addressOr, assigned, assignAt, entryLimit, highEnd, ifEntry, lowEnd, placeFor, placing, placingFault, takenRuns}
+use Rattle.variable.specs.Assign.{addressOr, assigned, assignAt, entryLimit, highEnd, ifEntry, lowEnd, placeFor, placing, placingFault}
+use Rattle.variable.specs.Assign.{takenRuns}
 use Rattle.variable.specs.Table.{freed, isOf}
 use Rattle.variable.specs.declared.Assigned.{Assigned}
 use Rattle.variable.specs.declared.Placing.{Placing}
@@ -50,7 +51,8 @@ module _ (b : Buffers) (name bytes : List ℕ) where
       by-checks (b .disc) (λ (u : Updated). u .number ≡ negℤ (pos 8) → fileCount (b .disc) ≡ 10) _ _
       (λ e h. absurd (let z : _≡_ {A = ℕ} 0 7 = cc in omega arith))
       (λ e h. absurd (let z : _≡_ {A = ℕ} 1 7 = cc in omega arith))
-      (λ l good h. store-refused-full (b .disc) name bytes good (ap (λ (u : Updated). u .number) (store-admission (b .disc) name bytes l good) ∙ h))
+      (λ l good h. store-refused-full (b .disc) name bytes good
+      (ap (λ (u : Updated). u .number) (store-admission (b .disc) name bytes l good) ∙ h))
 
   -- Document 01: "9 no free run long enough"
   pub store-no-run : answer (store name bytes) b .number ≡ negℤ (pos 9) → NoneFits (taken (b .disc)) 161 (length (b .disc)) (length bytes)
@@ -58,19 +60,23 @@ module _ (b : Buffers) (name bytes : List ℕ) where
   store-no-run h = store-refused-no-run (b .disc) name bytes h
 
 -- ---- SET
-placing-lacking : (runs : List Run) (low high used limit n : ℕ) → placingFault (placing runs low high used limit n) ≡ 10 → (limit ≤ used) ⊎ NoneFits runs low high n
+placing-lacking : (runs : List Run) (low high used limit n : ℕ) → placingFault (placing runs low high used limit n) ≡ 10 → (limit ≤ used)
+    ⊎ NoneFits runs low high n
 unfolding placing
 placing-lacking runs low high used limit n = go (ltb used limit) refl (place runs low high n) refl
   where
-    go : (free : Bool) → ltb used limit ≡ free → (f : Found) → place runs low high n ≡ f → placingFault (ifEntry free (addressOr f)) ≡ 10 → (limit ≤ used) ⊎ NoneFits runs low high n
+    go : (free : Bool) → ltb used limit ≡ free → (f : Found) → place runs low high n ≡ f → placingFault (ifEntry free (addressOr f)) ≡ 10
+        → (limit ≤ used) ⊎ NoneFits runs low high n
     go false p f q h = inl (ltb-false used limit p)
     go true p Nowhere q h = inr (no-place-none-fits runs low high n q)
     go true p (At a) q h = absurd (omega arith)
 
 -- Document 01: "SET first frees the old variable", so fault 10 is judged on what is left
-pub set-lacking : (v : Variables) (name id : ℕ) (x : Value) → placingFault (assigned v name id x .placing) ≡ 10 → Lacking (freed v (isOf name id)) (x .size)
+pub set-lacking : (v : Variables) (name id : ℕ) (x : Value) → placingFault (assigned v name id x .placing) ≡ 10
+    → Lacking (freed v (isOf name id)) (x .size)
 unfolding assigned placeFor
-set-lacking v name id x h = placing-lacking (takenRuns w) lowEnd highEnd (w .count) entryLimit (x .size) (ap placingFault (same (placeFor w (x .size))) ∙ h)
+set-lacking v name id x h =
+    placing-lacking (takenRuns w) lowEnd highEnd (w .count) entryLimit (x .size) (ap placingFault (same (placeFor w (x .size))) ∙ h)
   where
     w : Variables
     w = freed v (isOf name id)
@@ -84,13 +90,15 @@ set-lacking v name id x h = placing-lacking (takenRuns w) lowEnd highEnd (w .cou
 module _ (k : Kernel) (slot : ℕ) (h : isRunning (processAt k slot) ≡ true) where
   -- what is put into the slot is there
   still-running : (p : Process) → isRunning p ≡ true → isRunning (processAt (withProcess k slot p) slot) ≡ true
-  still-running p r = ap isRunning (getD-set-same (k .processes) slot p noProcess (live-inside k slot (running-live (processAt k slot) h))) ∙ r
+  still-running p r = ap isRunning (getD-set-same (k .processes) slot p noProcess (live-inside k slot (running-live (processAt k slot) h)))
+      ∙ r
 
   module _ (clock : ℕ) (disc : List ℕ) where
     abbrev Ends : Effect → Type 0
     Ends e = isRunning (processAt (carriedOut k slot disc e .kernel) slot) ≡ false
 
-    pub turn-set-lacking : (name kind : ℕ) (bytes : List ℕ) (l : Local) → effectAt k slot clock disc ≡ assigns name kind bytes l → isRunning (processAt (turned k slot clock disc .kernel) slot) ≡ false
+    pub turn-set-lacking : (name kind : ℕ) (bytes : List ℕ) (l : Local) → effectAt k slot clock disc ≡ assigns name kind bytes l
+        → isRunning (processAt (turned k slot clock disc .kernel) slot) ≡ false
         → Lacking (freed (k .variables) (isOf name (processAt k slot .id))) (length bytes)
     unfolding turned carriedOut
     turn-set-lacking name kind bytes l e ends = go (a .placing) refl (subst Ends e ends)
@@ -98,17 +106,21 @@ module _ (k : Kernel) (slot : ℕ) (h : isRunning (processAt k slot) ≡ true) w
         a : Assigned
         a = assigned (k .variables) name (processAt k slot .id) (valueOf kind bytes)
 
-        go : (p : Placing) → a .placing ≡ p → isRunning (processAt (setting k slot disc p (a .variables) l .kernel) slot) ≡ false → Lacking (freed (k .variables) (isOf name (processAt k slot .id))) (length bytes)
+        go : (p : Placing) → a .placing ≡ p → isRunning (processAt (setting k slot disc p (a .variables) l .kernel) slot) ≡ false
+            → Lacking (freed (k .variables) (isOf name (processAt k slot .id))) (length bytes)
         go (Address at) q r = absurd (true-not-false (still-running (withLocal (processAt k slot) l) h) r)
         go NoEntry q r = set-lacking (k .variables) name (processAt k slot .id) (valueOf kind bytes) (ap placingFault q)
         go NoFreeRun q r = set-lacking (k .variables) name (processAt k slot .id) (valueOf kind bytes) (ap placingFault q)
 
-    pub turn-open-refused : isDiscLength (length disc) ≡ true → goodDisc disc ≡ true → (name : List ℕ) (size : Number) (l : Local) → effectAt k slot clock disc ≡ asks (opens name size l)
-        → isRunning (processAt (turned k slot clock disc .kernel) slot) ≡ false → (lookup disc name ≡ Nowhere) × NewFileRefused disc name (sizeWithin (length disc - 161) size)
+    pub turn-open-refused : isDiscLength (length disc) ≡ true → goodDisc disc ≡ true → (name : List ℕ) (size : Number) (l : Local)
+        → effectAt k slot clock disc ≡ asks (opens name size l)
+        → isRunning (processAt (turned k slot clock disc .kernel) slot) ≡ false → (lookup disc name ≡ Nowhere)
+        × NewFileRefused disc name (sizeWithin (length disc - 161) size)
     unfolding turned carriedOut
     turn-open-refused long good name size l e ends =
         open-cases k slot disc name l long good size
-        (λ a. isRunning (processAt (answering k slot disc a .kernel) slot) ≡ false → (lookup disc name ≡ Nowhere) × NewFileRefused disc name (sizeWithin (length disc - 161) size))
+        (λ a. isRunning (processAt (answering k slot disc a .kernel) slot) ≡ false → (lookup disc name ≡ Nowhere)
+        × NewFileRefused disc name (sizeWithin (length disc - 161) size))
         (λ f after r. absurd (true-not-false (still-running (withFile (withLocal (processAt k slot) l) f) h) r))
         (λ new refused r. (new, refused))
         (subst Ends e ends)

@@ -17,13 +17,17 @@ use Rattle.store.specs.Directory.{contents, entryAt, files as entries, goodDisc
 use Rattle.store.specs.File.{unless}
 use Rattle.store.specs.declared.Answer.the-variants.{Done, Refused}
 use Rattle.store.specs.declared.Refusal.{Refusal}
-use Rattle.store.specs.declared.Refusal.the-variants.{WrongLength, BadDisc, ShortOutput, BadName, BadSize, NameExists, DirectoryFull, NoRun, NoSuchFile}
+use Rattle.store.specs.declared.Refusal.the-variants.{WrongLength, BadDisc, ShortOutput, BadName, BadSize, NameExists, DirectoryFull, NoRun}
+use Rattle.store.specs.declared.Refusal.the-variants.{NoSuchFile}
 use Rattle.store.proofs.Admissions.{Denial}
 use Rattle.store.proofs.Checks.{by-checks}
 use Rattle.store.proofs.Calls.{done-not-below, store-cases}
-use Rattle.machine.specs.Answer.{Answer, Buffers, Call, store, retrieve, erase, run, files, freeSpace, list, command, turn, round, answer, bootAnswer, commandAnswer, eraseAt, formatAnswer, goodArea, onDisc, onGood, onOutput, refused, runAt}
+use Rattle.machine.specs.Answer.{Answer, Buffers, Call, store, retrieve, erase, run, files, freeSpace, list, command, turn, round}
+use Rattle.machine.specs.Answer.{answer, bootAnswer, commandAnswer, eraseAt, formatAnswer, goodArea, onDisc, onGood, onOutput}
+use Rattle.machine.specs.Answer.{refused, runAt}
 use Rattle.machine.specs.Area.{isAreaLength, kernelOf}
-use Rattle.machine.specs.Operations.{Command, becomes, refused as declined, suspend, resume, kill, changed, commandAt, commanded, inUse, listText, slots, turnsOf}
+use Rattle.machine.specs.Operations.{Command, becomes, refused as declined, suspend, resume, kill, changed, commandAt, commanded}
+use Rattle.machine.specs.Operations.{inUse, listText, slots, turnsOf}
 use Rattle.machine.specs.Refusals.{Names}
 use Rattle.machine.specs.Start.{starting, startIn}
 use Rattle.machine.specs.State.{endedSlot, isRunning, paused, processAt, running, slotOf, withProcess, withState}
@@ -52,14 +56,16 @@ module _ (c : Call) (b : Buffers) where
 
 -- ---- operations on the disc alone
 -- "4: output shorter than needed"
-written : (c : Call) (b : Buffers) (fit : Bool) (n : ℕ) (after : List ℕ) → Names c 4 → Outcome c b (onOutput (unless fit (reported (Refused ShortOutput) (b .out)) (reported (Done n) after)) b)
+written : (c : Call) (b : Buffers) (fit : Bool) (n : ℕ) (after : List ℕ) → Names c 4
+    → Outcome c b (onOutput (unless fit (reported (Refused ShortOutput) (b .out)) (reported (Done n) after)) b)
 written c b true n after h = succeeds n refl
 written c b false n after h = declines 4 h refl
 
 store-outcome : (b : Buffers) (name bytes : List ℕ) → Outcome (store name bytes) b (answer (store name bytes) b)
 unfolding answer any
 store-outcome b name bytes =
-    store-cases (b .disc) name bytes (λ u. Outcome (store name bytes) b (onDisc u b)) (λ r d. declines (refusalNumber r) (named r d) refl) (λ s l g a. succeeds 0 refl)
+    store-cases (b .disc) name bytes (λ u. Outcome (store name bytes) b (onDisc u b)) (λ r d. declines (refusalNumber r) (named r d) refl)
+    (λ s l g a. succeeds 0 refl)
   where
     named : (r : Refusal) → Denial (b .disc) name (length bytes) r → Names (store name bytes) (refusalNumber r)
     named WrongLength d = refl
@@ -75,7 +81,8 @@ store-outcome b name bytes =
 retrieve-outcome : (b : Buffers) (name : List ℕ) → Outcome (retrieve name) b (answer (retrieve name) b)
 unfolding answer any retrieveAnswer
 retrieve-outcome b name =
-    by-checks (b .disc) (λ r. Outcome (retrieve name) b (onOutput r b)) _ _ (λ e. declines 1 refl refl) (λ e. declines 2 refl refl) (λ l g. found (lookup (b .disc) name))
+    by-checks (b .disc) (λ r. Outcome (retrieve name) b (onOutput r b)) _ _ (λ e. declines 1 refl refl) (λ e. declines 2 refl refl)
+    (λ l g. found (lookup (b .disc) name))
   where
     found : (f : Found) → Outcome (retrieve name) b (onOutput (retrieveAt f (b .disc) (b .out)) b)
     found Nowhere = declines 10 refl refl
@@ -109,7 +116,9 @@ erase-outcome b name = on-good (erase name) b _ refl refl refl (found (lookup (b
 
 run-outcome : (b : Buffers) (name : List ℕ) → Outcome (run name) b (answer (run name) b)
 unfolding answer any starting
-run-outcome b name = on-good (run name) b _ refl refl refl (placed (endedSlot (kernelOf (b .area))) (lookup (b .disc) name) (eqb (kernelOf (b .area) .next) 32768))
+run-outcome b name =
+    on-good (run name) b _ refl refl refl
+    (placed (endedSlot (kernelOf (b .area))) (lookup (b .disc) name) (eqb (kernelOf (b .area) .next) 32768))
   where
     placed : (slot file : Found) (spent : Bool) → Outcome (run name) b (runAt (startIn slot file spent (b .disc)) (kernelOf (b .area)) b)
     placed Nowhere file spent = declines 12 refl refl
@@ -127,7 +136,8 @@ command-outcome b c id = at (slotOf k id) c
     change : (c : Command) (slot state : ℕ) → Names (command c id) 15 → Outcome (command c id) b (commandAnswer (changed k slot state) b)
     change c slot state h = go (eqb (processAt k slot .state) state)
       where
-        go : (same : Bool) → Outcome (command c id) b (commandAnswer (cond same (declined 15) (becomes (withProcess k slot (withState (processAt k slot) state)))) b)
+        go : (same : Bool) → Outcome (command c id) b
+            (commandAnswer (cond same (declined 15) (becomes (withProcess k slot (withState (processAt k slot) state)))) b)
         go true = declines 15 h refl
         go false = succeeds 0 refl
 
@@ -183,13 +193,15 @@ refused-by c b h = go (outcome c b)
     go (succeeds n e) = absurd (done-not-below n (subst (λ (z : ℤ). z <ℤ pos 0) e h))
 
 -- Document 01: "−n is refusal n with both buffers and the output unchanged"
-pub refused-unchanged : (c : Call) (b : Buffers) → answer c b .number <ℤ pos 0 → (answer c b .disc ≡ b .disc) × (answer c b .area ≡ b .area) × (answer c b .out ≡ b .out)
+pub refused-unchanged : (c : Call) (b : Buffers) → answer c b .number <ℤ pos 0 → (answer c b .disc ≡ b .disc) × (answer c b .area ≡ b .area)
+    × (answer c b .out ≡ b .out)
 refused-unchanged c b h =
     let e = refused-by c b h .2 in
     (ap (λ (a : Answer). a .disc) e, ap (λ (a : Answer). a .area) e, ap (λ (a : Answer). a .out) e)
 
 -- ---- format and boot, which are no Call: refused by 1 alone
-only-length : (b : Buffers) (test : Bool) (a : Answer) → a .number ≡ pos 0 → unless test (refused 1 b) a .number <ℤ pos 0 → unless test (refused 1 b) a ≡ refused 1 b
+only-length : (b : Buffers) (test : Bool) (a : Answer) → a .number ≡ pos 0 → unless test (refused 1 b) a .number <ℤ pos 0
+    → unless test (refused 1 b) a ≡ refused 1 b
 only-length b true a e h = absurd (done-not-below 0 (subst (λ (z : ℤ). z <ℤ pos 0) e h))
 only-length b false a e h = refl
 

@@ -46,12 +46,14 @@ module _ (b : Buffers) (slot clock : ℕ) (may : MayTurn b slot) where
   turn-done = turn-running b slot clock (may .passes) (may .room) (may .low) (may .running)
 
   pub state-after : turnedState b slot clock ≡ step .kernel
-  state-after = ap (λ (a : Answer). kernelOf (a .area)) turn-done ∙ good-back (step .kernel) (step .disc) (turn-good (stateOf b) slot clock (b .disc) good (may .running))
+  state-after = ap (λ (a : Answer). kernelOf (a .area)) turn-done
+      ∙ good-back (step .kernel) (step .disc) (turn-good (stateOf b) slot clock (b .disc) good (may .running))
 
   -- ---- faults
   pub ended-only : (n : ℕ) → Ends (stateOf b) slot clock (b .disc) n → EndedOnly b slot n (answer (turn slot clock) b)
   ended-only n ends =
-      let whole : answer (turn slot clock) b ≡ turnedAnswer (finished (stateOf b) slot (b .disc) n) b = turn-done ∙ ap (λ (t : Turned). turnedAnswer t b) (turn-ends ends) in (
+      let whole : answer (turn slot clock) b ≡ turnedAnswer (finished (stateOf b) slot (b .disc) n) b = turn-done
+      ∙ ap (λ (t : Turned). turnedAnswer t b) (turn-ends ends) in (
         ap (λ (a : Answer). a .number) whole,
         ap (λ (a : Answer). a .disc) whole,
         ap (λ (a : Answer). a .out) whole,
@@ -59,7 +61,8 @@ module _ (b : Buffers) (slot clock : ℕ) (may : MayTurn b slot) where
       )
 
   pub ends-or-runs : ((n : ℕ) × Ends (stateOf b) slot clock (b .disc) n) ⊎ Running (turnedState b slot clock) true
-  ends-or-runs = subst⁻¹ (λ (j : Kernel). ((n : ℕ) × Ends (stateOf b) slot clock (b .disc) n) ⊎ Running j true) state-after (ends-or-goes (stateOf b) slot clock (b .disc) (may .running) inside sound)
+  ends-or-runs = subst⁻¹ (λ (j : Kernel). ((n : ℕ) × Ends (stateOf b) slot clock (b .disc) n)
+      ⊎ Running j true) state-after (ends-or-goes (stateOf b) slot clock (b .disc) (may .running) inside sound)
 
   -- ---- output
   pub prints-little : length (step .out) ≤ 32
@@ -69,14 +72,25 @@ module _ (b : Buffers) (slot clock : ℕ) (may : MayTurn b slot) where
 pub turn-passed : (b : Buffers) (slot clock n : ℕ) → answer (turn slot clock) b .number ≡ pos n → MayTurn b slot
 unfolding answer
 turn-passed b slot clock n =
-    go (isDiscLength (length (b .disc)) && isAreaLength (length (b .area))) refl (goodDisc (b .disc)) refl (goodArea (b .disc) (b .area)) refl (leb 32 (length (b .out))) refl (ltb slot 10 && isRunning (processAt (stateOf b) slot)) refl
+    go (isDiscLength (length (b .disc)) && isAreaLength (length (b .area))) refl (goodDisc (b .disc)) refl
+    (goodArea (b .disc) (b .area)) refl (leb 32 (length (b .out))) refl (ltb slot 10 && isRunning (processAt (stateOf b) slot)) refl
   where
-    go : (p : Bool) → isDiscLength (length (b .disc)) && isAreaLength (length (b .area)) ≡ p → (q : Bool) → goodDisc (b .disc) ≡ q → (r : Bool) → goodArea (b .disc) (b .area) ≡ r → (s : Bool) → leb 32 (length (b .out)) ≡ s
+    go : (p : Bool) → isDiscLength (length (b .disc)) && isAreaLength (length (b .area)) ≡ p → (q : Bool) → goodDisc (b .disc) ≡ q
+        → (r : Bool) → goodArea (b .disc) (b .area) ≡ r → (s : Bool) → leb 32 (length (b .out)) ≡ s
         → (t : Bool) → ltb slot 10 && isRunning (processAt (stateOf b) slot) ≡ t
-        → unless p (refused 1 b) (unless q (refused 2 b) (unless r (refused 3 b) (unless s (refused 4 b) (unless t (refused 16 b) (turnedAnswer (turned (stateOf b) slot clock (b .disc)) b))))) .number ≡ pos n
+        → unless p (refused 1 b)
+        (unless q (refused 2 b)
+        (unless r (refused 3 b)
+        (unless s (refused 4 b) (unless t (refused 16 b) (turnedAnswer (turned (stateOf b) slot clock (b .disc)) b))))) .number ≡ pos n
         → MayTurn b slot
     go true p true q true r true s true t h =
-        record { passes = record { sizes = p; disc-good = q; area-good = r }; room = s; low = and-left (ltb slot 10) _ t; running = and-right (ltb slot 10) _ t }
+        record {
+          passes = record { sizes = p; disc-good = q; area-good = r };
+          room = s;
+          low = and-left (ltb slot 10) _ t;
+          running =
+              and-right (ltb slot 10) _ t;
+        }
     go true p true q true r true s false t h = below-not-done h
     go true p true q true r false s u t h = below-not-done h
     go true p true q false r w s u t h = below-not-done h
@@ -86,6 +100,7 @@ turn-passed b slot clock n =
 pub turn-output-bound : (b : Buffers) (slot clock n : ℕ) → answer (turn slot clock) b .number ≡ pos n → n ≤ 32
 turn-output-bound b slot clock n done =
     let may = turn-passed b slot clock n done in
-    let same : pos (length (turned (stateOf b) slot clock (b .disc) .out)) ≡ pos n = sym (ap (λ (a : Answer). a .number) (turn-done b slot clock may)) ∙ done in
+    let same : pos (length (turned (stateOf b) slot clock (b .disc) .out)) ≡ pos n =
+    sym (ap (λ (a : Answer). a .number) (turn-done b slot clock may)) ∙ done in
     let size : length (turned (stateOf b) slot clock (b .disc) .out) ≡ n = cc in
     subst (λ (m : ℕ). m ≤ 32) size (prints-little b slot clock may)

@@ -11,7 +11,9 @@ use Rattle.machine.specs.declared.Kernel.{Kernel}
 use Rattle.machine.proofs.Goodness.GoodLaws.{is-other-id}
 
 -- live IDs are distinct where no two slots have the same
-pub distinct-ids : (k : Kernel) → ((i j : ℕ) → isLive (processAt k i) ≡ true → isLive (processAt k j) ≡ true → processAt k i .id ≡ processAt k j .id → i ≡ j) → pairs otherId (k .processes) ≡ true
+pub distinct-ids : (k : Kernel)
+    → ((i j : ℕ) → isLive (processAt k i) ≡ true → isLive (processAt k j) ≡ true → processAt k i .id ≡ processAt k j .id → i ≡ j)
+    → pairs otherId (k .processes) ≡ true
 distinct-ids k one =
     pairs-each otherId (k .processes) noProcess
     (λ i j n m. is-other-id (processAt k i) (processAt k j) (λ a b e. let w : i ≡ j = one i j a b e in omega arith))

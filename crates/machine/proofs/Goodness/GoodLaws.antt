@@ -28,7 +28,12 @@ pub good-header-is : (k : Kernel) → goodHeader k ≡ true → GoodHeader k
 unfolding goodHeader
 good-header-is k t =
     let r = and-right (all (eqb 0) (k .zeros)) (leb 1 (k .next) && leb (k .next) 32768) t in
-    record { zeros = and-left (all (eqb 0) (k .zeros)) _ t; low = leb-true _ _ (and-left (leb 1 (k .next)) _ r); high = leb-true _ _ (and-right (leb 1 (k .next)) _ r) }
+    record {
+      zeros = and-left (all (eqb 0) (k .zeros)) _ t;
+      low = leb-true _ _ (and-left (leb 1 (k .next)) _ r);
+      high =
+          leb-true _ _ (and-right (leb 1 (k .next)) _ r);
+    }
 
 pub is-good-header : (k : Kernel) → GoodHeader k → goodHeader k ≡ true
 unfolding goodHeader
@@ -47,7 +52,8 @@ module _ (p q : Process) where
       same-live : isLive p && (isLive q && eqb (p .id) (q .id)) ≡ true → ⊥
       same-live t =
           let r = and-right (isLive p) (isLive q && eqb (p .id) (q .id)) t in
-          n (and-left (isLive p) (isLive q && eqb (p .id) (q .id)) t) (and-left (isLive q) (eqb (p .id) (q .id)) r) (eqb-true _ _ (and-right (isLive q) (eqb (p .id) (q .id)) r))
+          n (and-left (isLive p) (isLive q && eqb (p .id) (q .id)) t) (and-left (isLive q) (eqb (p .id) (q .id)) r)
+          (eqb-true _ _ (and-right (isLive q) (eqb (p .id) (q .id)) r))
 
 -- ---- the whole
 pub record GoodKernel (entries : List Entry) (k : Kernel) : Type 0 where
@@ -78,12 +84,15 @@ module _ (entries : List Entry) (k : Kernel) where
     good-process-at i h = all-at (goodProcess entries (k .next)) (k .processes) i noProcess h (good-kernel-is good .each)
 
     -- an ID is that of one live process
-    pub one-of-id : (i j : ℕ) → i < length (k .processes) → j < length (k .processes) → isLive (processAt k i) ≡ true → isLive (processAt k j) ≡ true
+    pub one-of-id : (i j : ℕ) → i < length (k .processes) → j < length (k .processes) → isLive (processAt k i) ≡ true
+        → isLive (processAt k j) ≡ true
         → processAt k i .id ≡ processAt k j .id → i ≡ j
     one-of-id i j h m a b e = go (ltb i j) refl
       where
-        later : (x y : ℕ) → x < y → y < length (k .processes) → isLive (processAt k x) ≡ true → isLive (processAt k y) ≡ true → processAt k x .id ≡ processAt k y .id → ⊥
-        later x y l n = other-id-is (processAt k x) (processAt k y) (pairs-at otherId (k .processes) x y noProcess l n (good-kernel-is good .distinct))
+        later : (x y : ℕ) → x < y → y < length (k .processes) → isLive (processAt k x) ≡ true → isLive (processAt k y) ≡ true
+            → processAt k x .id ≡ processAt k y .id → ⊥
+        later x y l n = other-id-is (processAt k x) (processAt k y)
+            (pairs-at otherId (k .processes) x y noProcess l n (good-kernel-is good .distinct))
 
         go : (t : Bool) → ltb i j ≡ t → i ≡ j
         go true w = absurd (later i j (ltb-true i j w) m a b e)

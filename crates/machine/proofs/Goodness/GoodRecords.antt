@@ -42,7 +42,8 @@ is-good-registers p g =
     and-both (eq-eqb _ _ (g .spare))
     (and-both (le-leb _ _ (g .sp))
     (and-both (le-leb _ _ (g .pc))
-    (⊎-elim (λ e. or-first (leb (p .loopstart) (p .code .len)) (eq-eqb _ _ e)) (λ e. or-second (eqb (p .loopstart) noLoop) (le-leb _ _ e)) (g .loop))))
+    (⊎-elim (λ e. or-first (leb (p .loopstart) (p .code .len)) (eq-eqb _ _ e)) (λ e. or-second (eqb (p .loopstart) noLoop) (le-leb _ _ e))
+    (g .loop))))
 
 -- ---- the program and the open file of a live record
 pub record ProgramIs (p : Process) (e : Entry) : Type 0 where
@@ -71,7 +72,11 @@ pub record OpenIn (f : OpenFile) (e : Entry) : Type 0 where
   pub len : f .len ≡ e .len
 
 pub open-in-is : (f : OpenFile) (e : Entry) → isOpenIn f e ≡ true → OpenIn f e
-open-in-is f e t = record { start = eqb-true _ _ (and-left (eqb (f .start) (e .start)) _ t); len = eqb-true _ _ (and-right (eqb (f .start) (e .start)) _ t) }
+open-in-is f e t = record {
+  start = eqb-true _ _ (and-left (eqb (f .start) (e .start)) _ t);
+  len =
+      eqb-true _ _ (and-right (eqb (f .start) (e .start)) _ t);
+}
 
 pub is-open-in : (f : OpenFile) (e : Entry) → OpenIn f e → isOpenIn f e ≡ true
 is-open-in f e g = and-both (eq-eqb _ _ (g .start)) (eq-eqb _ _ (g .len))
@@ -93,9 +98,15 @@ module _ (entries : List Entry) (f : OpenFile) where
   unfolding goodFile
   good-file-is t = go (eqb (f .len) 0) refl t
     where
-      go : (b : Bool) → eqb (f .len) 0 ≡ b → cond b (eqb (f .offset) 0) (leb (f .offset) (f .len) && any (isOpenIn f) entries) ≡ true → GoodFile entries f
+      go : (b : Bool) → eqb (f .len) 0 ≡ b → cond b (eqb (f .offset) 0) (leb (f .offset) (f .len) && any (isOpenIn f) entries) ≡ true
+          → GoodFile entries f
       go true e h = inl (record { len = eqb-true _ _ e; offset = eqb-true _ _ h })
-      go false e h = inr (record { some = eqb-false _ _ e; offset = leb-true _ _ (and-left (leb (f .offset) (f .len)) _ h); listed = and-right (leb (f .offset) (f .len)) _ h })
+      go false e h = inr (record {
+        some = eqb-false _ _ e;
+        offset = leb-true _ _ (and-left (leb (f .offset) (f .len)) _ h);
+        listed =
+            and-right (leb (f .offset) (f .len)) _ h;
+      })
 
   pub is-good-file : GoodFile entries f → goodFile entries f ≡ true
   unfolding goodFile

@@ -20,7 +20,8 @@ use Rattle.number.specs.declared.operators.Operator.{Operator}
 use Rattle.number.specs.declared.operators.Operator.the-variants.{OfOne, OfTwo, NotAnOperator}
 use Rattle.variable.specs.Good.{goodSize}
 use Rattle.variable.specs.Table.{Cell}
-use Rattle.machine.specs.Effect.{Effect, goes, assigns, stops, faults, asks, unlessFaults, land, settle, withPopped, withOutcome, withCell, operates, number}
+use Rattle.machine.specs.Effect.{Effect, goes, assigns, stops, faults, asks, unlessFaults, land, settle, withPopped, withOutcome}
+use Rattle.machine.specs.Effect.{withCell, operates, number}
 use Rattle.machine.specs.Stack.{Item, Popped, popped, cannot, pop}
 use Rattle.machine.specs.State.{Local, noLoop}
 use Rattle.machine.proofs.Instructions.InstructionBytes.{reaching}
@@ -34,7 +35,8 @@ instructionByte prog l = getD prog (l .pc) 0
 -- an effect that is sound where the process fits its record, assigns only by SET's byte, 5, and asks only by a byte that may
 unfoldable pub Does : List ℕ → Local → Effect → Type 0
 Does prog l (goes m out) = Within (length prog) l → Within (length prog) m × (length out ≤ 32)
-Does prog l (assigns name kind bytes m) = (instructionByte prog l ≡ 5) × (Within (length prog) l → Within (length prog) m × (goodSize kind (length bytes) ≡ true))
+Does prog l (assigns name kind bytes m) = (instructionByte prog l ≡ 5)
+    × (Within (length prog) l → Within (length prog) m × (goodSize kind (length bytes) ≡ true))
 Does prog l stops = Unit {0}
 Does prog l (faults n) = (1 ≤ n) × (n ≤ 9)
 Does prog l (asks r) = (reaching (instructionByte prog l) ≡ true) × (Within (length prog) l → Asked prog l r)
@@ -66,12 +68,14 @@ module _ (prog : List ℕ) (l : Local) where
   outcome-does DivisionByZero next h = (omega arith, omega arith)
   outcome-does OutOfRange next h = (omega arith, omega arith)
 
-  pub cell-does : (f : Found) (own : List Cell) (next : Cell → Effect) → ((c : Cell) → Does prog l (next c)) → Does prog l (withCell f own next)
+  pub cell-does : (f : Found) (own : List Cell) (next : Cell → Effect) → ((c : Cell) → Does prog l (next c))
+      → Does prog l (withCell f own next)
   unfolding Does
   cell-does Nowhere own next h = (omega arith, omega arith)
   cell-does (At i) own next h = h _
 
-  pub operates-does : (o : Operator) (stack : List ℕ) (next : List ℕ → Effect) → ((s : List ℕ) → Does prog l (next s)) → Does prog l (operates o stack next)
+  pub operates-does : (o : Operator) (stack : List ℕ) (next : List ℕ → Effect) → ((s : List ℕ) → Does prog l (next s))
+      → Does prog l (operates o stack next)
   unfolding Does operates
   operates-does (OfOne o) stack next h = popped-does (takenBy (OfOne o)) stack _ λ x rest e t. outcome-does (unary o (number x)) _ λ a. h _
   operates-does (OfTwo o) stack next h =
@@ -89,7 +93,8 @@ module _ (prog : List ℕ) (l : Local) where
     where
       lands : (f : Found) → leb (length stack) 32 ≡ true → Does prog l (land prog f stack loopstart out)
       lands Nowhere s = (omega arith, omega arith)
-      lands (At pc) s = unless-does (leb pc (length prog)) 3 _ (omega arith, omega arith) λ p. λ w. (record { stack = leb-true _ _ s; pc = leb-true _ _ p; loop = h w .0 }, h w .1)
+      lands (At pc) s = unless-does (leb pc (length prog)) 3 _ (omega arith, omega arith) λ p. λ w.
+          (record { stack = leb-true _ _ s; pc = leb-true _ _ p; loop = h w .0 }, h w .1)
 
   pub onward-does : (target : Found) (stack : List ℕ) → Does prog l (settle prog target stack (l .loopstart) [])
   onward-does target stack = settle-does target stack (l .loopstart) [] λ w. (w .loop, omega arith)

@@ -1,5 +1,5 @@
--- Every instruction is sound: it leaves of a process that fits its record one that does, and only the bytes of the instructions that reach beyond
--- the process ask.
+-- Every instruction is sound: it leaves of a process that fits its record one that does, and only the bytes of the instructions that reach
+-- beyond the process ask.
 use Prim.Native.Nat.{ℕ, _+_, _≤_, _<_}
 use mathlib.Core.Path.{_≡_, refl, sym, ap, subst}
 use mathlib.Core.Bool.{Bool, true, false}
@@ -17,10 +17,13 @@ use Rattle.number.specs.Value.{isZero}
 use Rattle.variable.specs.Table.{Cell}
 use Rattle.machine.specs.Effect.{Effect, goes, assigns, stops, faults, asks, Request, number, printed, newline, clockInt}
 use Rattle.machine.specs.Exec.{exec, performs, reaches, withArguments}
-use Rattle.machine.specs.Instruction.{Instruction, Reach, literal, stringLiteral, setVariable, getVariable, operate, delayUntil, millis, print, jumpIf, endIf, while, endWhile, loop, endLoop, stop, reach, unknown, openFile, closeFile, writeFile, readString, fork, waitUntilDone, readNumber, instructionOf}
+use Rattle.machine.specs.Instruction.{Instruction, Reach, literal, stringLiteral, setVariable, getVariable, operate, delayUntil}
+use Rattle.machine.specs.Instruction.{millis, print, jumpIf, endIf, while, endWhile, loop, endLoop, stop, reach, unknown, openFile}
+use Rattle.machine.specs.Instruction.{closeFile, writeFile, readString, fork, waitUntilDone, readNumber, instructionOf}
 use Rattle.machine.specs.Stack.{aNumber, aString, aValue, stringText}
 use Rattle.machine.specs.State.{Local}
-use Rattle.machine.proofs.Instructions.EffectParts.{Does, instructionByte, unless-does, either-does, popped-does, cell-does, operates-does, settle-does, onward-does}
+use Rattle.machine.proofs.Instructions.EffectParts.{Does, instructionByte, unless-does, either-does, popped-does, cell-does}
+use Rattle.machine.proofs.Instructions.EffectParts.{operates-does, settle-does, onward-does}
 use Rattle.machine.proofs.Instructions.InstructionBytes.{reaching, isByteOf, asksBy, instruction-asks-by, reads-by}
 use Rattle.machine.proofs.Instructions.Popping.{printed-short, string-lay, value-good-size}
 use Rattle.machine.proofs.Instructions.Sound.{Asked, Sound, Within}
@@ -32,36 +35,52 @@ newline-short false = omega arith
 -- ---- instructions; pc is the place behind the instruction byte
 module _ (prog : List ℕ) (clock : ℕ) (l : Local) (pc : ℕ) (inside : pc ≤ length prog) where
   -- the process goes on at pc with what is left of its stack
-  on-within : (rest : List ℕ) → length rest ≤ length (l .stack) → Within (length prog) l → Within (length prog) (record { stack = rest; pc = pc; loopstart = l .loopstart })
+  on-within : (rest : List ℕ) → length rest ≤ length (l .stack) → Within (length prog) l
+      → Within (length prog) (record { stack = rest; pc = pc; loopstart = l .loopstart })
   on-within rest h w = record { stack = omega (arith, w .stack); pc = inside; loop = w .loop }
 
   arguments : (n : ℕ) (e : Effect) → (pc + n ≤ length prog → Does prog l e) → Does prog l (withArguments prog clock pc n e)
   arguments n e h = unless-does prog l (leb (pc + n) (length prog)) 2 e (omega arith, omega arith) λ t. h (leb-true _ _ t)
 
-  reaches-does : (r : Reach) → reaching (instructionByte prog l) ≡ true → isByteOf (instructionByte prog l) r ≡ true → Does prog l (reaches prog clock l pc r)
+  reaches-does : (r : Reach) → reaching (instructionByte prog l) ≡ true → isByteOf (instructionByte prog l) r ≡ true
+      → Does prog l (reaches prog clock l pc r)
   unfolding Does Asked
   reaches-does openFile a h =
       popped-does prog l aNumber (l .stack) _ λ size rest e t.
       popped-does prog l aString rest _ λ name below d u.
       (a, λ w. (eqb-true _ _ h, on-within below (omega (arith, t .lay, u .lay)) w))
   reaches-does closeFile a h = (a, λ w. (eqb-true _ _ h, on-within (l .stack) (omega arith) w))
-  reaches-does writeFile a h = popped-does prog l aValue (l .stack) _ λ x rest e t. (a, λ w. (eqb-true _ _ h, on-within rest (omega (arith, t .lay)) w))
+  reaches-does writeFile a h = popped-does prog l aValue (l .stack) _ λ x rest e t.
+      (a, λ w. (eqb-true _ _ h, on-within rest (omega (arith, t .lay)) w))
   reaches-does (readNumber kind) a h = (a, λ w. (reads-by (instructionByte prog l) h, on-within (l .stack) (omega arith) w))
   reaches-does readString a h = (a, λ w. (eqb-true _ _ h, on-within (l .stack) (omega arith) w))
   reaches-does fork a h =
-      popped-does prog l aString (l .stack) _ λ name rest e t.
-      (a, λ w. (eqb-true _ _ h, sym (ap stringText e), omega (arith, string-lay (l .stack) name rest t, w .stack), on-within rest (omega (arith, t .lay)) w))
-  reaches-does waitUntilDone a h = popped-does prog l aNumber (l .stack) _ λ x rest e t. (a, λ w. (eqb-true _ _ h, refl, on-within rest (omega (arith, t .lay)) w))
+      popped-does prog l aString (l .stack) _ λ name rest e t. (
+        a,
+        λ w. (
+          eqb-true _ _ h,
+          sym (ap stringText e),
+          omega (arith, string-lay (l .stack) name rest t, w .stack),
+          on-within rest (omega (arith, t .lay)) w,
+        ),
+      )
+  reaches-does waitUntilDone a h = popped-does prog l aNumber (l .stack) _ λ x rest e t.
+      (a, λ w. (eqb-true _ _ h, refl, on-within rest (omega (arith, t .lay)) w))
 
-  performs-does : (i : Instruction) (own : List Cell) → asksBy (instructionByte prog l) i ≡ true → Does prog l (performs prog clock i l pc own)
+  performs-does : (i : Instruction) (own : List Cell) → asksBy (instructionByte prog l) i ≡ true
+      → Does prog l (performs prog clock i l pc own)
   unfolding Does performs
   performs-does (literal kind) own h = arguments kind _ λ a. onward-does prog l _ _
   performs-does stringLiteral own h = arguments _ _ λ a. onward-does prog l _ _
   performs-does setVariable own h =
       arguments 1 _ λ a.
-      popped-does prog l aValue (l .stack) _ λ x rest e t.
-      (eqb-true _ _ h, λ w. (record { stack = omega (arith, w .stack, t .lay); pc = a; loop = w .loop }, value-good-size (l .stack) x rest t (w .stack)))
-  performs-does getVariable own h = arguments 1 _ λ a. cell-does prog l (index (λ c. eqb (c .name) (getD prog pc 0)) own) own _ λ c. onward-does prog l _ _
+      popped-does prog l aValue (l .stack) _ λ x rest e t. (
+        eqb-true _ _ h,
+        λ w.
+            (record { stack = omega (arith, w .stack, t .lay); pc = a; loop = w .loop }, value-good-size (l .stack) x rest t (w .stack)),
+      )
+  performs-does getVariable own h = arguments 1 _ λ a. cell-does prog l (index (λ c. eqb (c .name) (getD prog pc 0)) own) own _ λ c.
+      onward-does prog l _ _
   performs-does (operate o) own h = operates-does prog l o (l .stack) _ λ s. onward-does prog l _ s
   performs-does delayUntil own h =
       popped-does prog l aNumber (l .stack) _ λ x rest e t.
@@ -83,7 +102,8 @@ module _ (prog : List ℕ) (clock : ℕ) (l : Local) (pc : ℕ) (inside : pc ≤
   performs-does loop own h = settle-does prog l (At pc) (l .stack) pc [] λ w. (inr inside, omega arith)
   performs-does endLoop own h = onward-does prog l _ _
   performs-does stop own h = tt
-  performs-does (reach r) own h = reaches-does r (and-left (reaching (instructionByte prog l)) _ h) (and-right (reaching (instructionByte prog l)) _ h)
+  performs-does (reach r) own h =
+      reaches-does r (and-left (reaching (instructionByte prog l)) _ h) (and-right (reaching (instructionByte prog l)) _ h)
   performs-does unknown own h = (omega arith, omega arith)
 
 exec-does : (prog : List ℕ) (clock : ℕ) (l : Local) (own : List Cell) → Does prog l (exec prog clock l own)
@@ -91,7 +111,8 @@ unfolding Does exec
 exec-does prog clock l own =
     unless-does prog l (ltb (l .pc) (length prog)) 2 _ (omega arith, omega arith) λ t.
     let inside : l .pc < length prog = ltb-true _ _ t in
-    performs-does prog clock l (l .pc + 1) (omega arith) (instructionOf (instructionByte prog l)) own (instruction-asks-by (instructionByte prog l))
+    performs-does prog clock l (l .pc + 1) (omega arith) (instructionOf (instructionByte prog l)) own
+    (instruction-asks-by (instructionByte prog l))
 
 pub exec-sound : (prog : List ℕ) (clock : ℕ) (l : Local) (own : List Cell) → Within (length prog) l → Sound prog l (exec prog clock l own)
 unfolding Does Sound
@@ -105,7 +126,8 @@ exec-sound prog clock l own w = go (exec prog clock l own) (exec-does prog clock
     go (asks r) d = d .1 w
 
 -- a byte of no such instruction asks nothing
-pub exec-quiet : (prog : List ℕ) (clock : ℕ) (l : Local) (own : List Cell) → reaching (getD prog (l .pc) 0) ≡ false → (r : Request) → exec prog clock l own ≡ asks r → ⊥
+pub exec-quiet : (prog : List ℕ) (clock : ℕ) (l : Local) (own : List Cell) → reaching (getD prog (l .pc) 0) ≡ false → (r : Request)
+    → exec prog clock l own ≡ asks r → ⊥
 unfolding Does
 exec-quiet prog clock l own q r e =
     let d : Does prog l (asks r) = subst (λ (x : Effect). Does prog l x) e (exec-does prog clock l own) in

@@ -11,7 +11,10 @@ use Rattle.buffer.proofs.Bools.{and-left, and-right}
 use Rattle.number.specs.Instruction.{operatorOf}
 use Rattle.number.specs.declared.operators.Operator.{Operator}
 use Rattle.number.specs.declared.operators.Operator.the-variants.{OfOne, OfTwo, NotAnOperator}
-use Rattle.machine.specs.Instruction.{Instruction, Reach, literal, stringLiteral, setVariable, getVariable, operate, delayUntil, millis, print, jumpIf, endIf, while, endWhile, loop, endLoop, stop, reach, unknown, openFile, closeFile, writeFile, readString, fork, waitUntilDone, readNumber, find, instructionOf, operatorOr, others}
+use Rattle.machine.specs.Instruction.{Instruction, Reach, literal, stringLiteral, setVariable, getVariable, operate, delayUntil}
+use Rattle.machine.specs.Instruction.{millis, print, jumpIf, endIf, while, endWhile, loop, endLoop, stop, reach, unknown, openFile}
+use Rattle.machine.specs.Instruction.{closeFile, writeFile, readString, fork, waitUntilDone, readNumber, find, instructionOf}
+use Rattle.machine.specs.Instruction.{operatorOr, others}
 use Rattle.buffer.proofs.Disjunctions.{or-cases}
 
 -- Document 01, appendix C: 53 OPEN to 59 READSTRING, 68 FORK, 69 WAITUNTILDONE
@@ -30,7 +33,9 @@ isByteOf b waitUntilDone = eqb b 69
 -- READINT, READCHAR, READFLOAT
 pub reads-by : (b : ℕ) → eqb b 56 || (eqb b 57 || eqb b 58) ≡ true → (b ≡ 56) ⊎ ((b ≡ 57) ⊎ (b ≡ 58))
 reads-by b h =
-    ⊎-elim (λ e. inl (eqb-true b 56 e)) (λ o. inr (⊎-elim (λ e. inl (eqb-true b 57 e)) (λ e. inr (eqb-true b 58 e)) (or-cases (eqb b 57) (eqb b 58) o))) (or-cases (eqb b 56) (eqb b 57 || eqb b 58) h)
+    ⊎-elim (λ e. inl (eqb-true b 56 e))
+    (λ o. inr (⊎-elim (λ e. inl (eqb-true b 57 e)) (λ e. inr (eqb-true b 58 e)) (or-cases (eqb b 57) (eqb b 58) o)))
+    (or-cases (eqb b 56) (eqb b 57 || eqb b 58) h)
 
 -- the byte of SET, and of an instruction that asks; every other instruction assigns and asks nothing
 abbrev pub asksBy : ℕ → Instruction → Bool
@@ -53,13 +58,16 @@ asksBy b (reach r) = reaching b && isByteOf b r
 asksBy b unknown = true
 
 -- what a test says of every row of a table and of no row, it says of what is found there
-find-all : (test : ℕ → Instruction → Bool) (n : ℕ) (table : List (ℕ × Instruction)) → test n unknown ≡ true → all (λ row. test (row .0) (row .1)) table ≡ true → test n (find n table) ≡ true
+find-all : (test : ℕ → Instruction → Bool) (n : ℕ) (table : List (ℕ × Instruction)) → test n unknown ≡ true
+    → all (λ row. test (row .0) (row .1)) table ≡ true → test n (find n table) ≡ true
 unfolding find all
 find-all test n [] u h = u
-find-all test n (row ∷ table) u h = go (eqb n (row .0)) refl (find-all test n table u (and-right (test (row .0) (row .1)) (all (λ r. test (r .0) (r .1)) table) h))
+find-all test n (row ∷ table) u h =
+    go (eqb n (row .0)) refl (find-all test n table u (and-right (test (row .0) (row .1)) (all (λ r. test (r .0) (r .1)) table) h))
   where
     go : (b : Bool) → eqb n (row .0) ≡ b → test n (find n table) ≡ true → test n (cond b (row .1) (find n table)) ≡ true
-    go true e rest = subst⁻¹ (λ (k : ℕ). test k (row .1) ≡ true) (eqb-true n (row .0) e) (and-left (test (row .0) (row .1)) (all (λ r. test (r .0) (r .1)) table) h)
+    go true e rest = subst⁻¹ (λ (k : ℕ). test k (row .1) ≡ true) (eqb-true n (row .0) e)
+        (and-left (test (row .0) (row .1)) (all (λ r. test (r .0) (r .1)) table) h)
     go false e rest = rest
 
 pub instruction-asks-by : (b : ℕ) → asksBy b (instructionOf b) ≡ true

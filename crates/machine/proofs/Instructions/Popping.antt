@@ -18,7 +18,8 @@ use Rattle.number.proofs.Texts.{text-short}
 use Rattle.store.specs.Name.{trimmed, unlessZero}
 use Rattle.variable.specs.Good.{goodSize}
 use Rattle.machine.specs.Effect.{number, printed}
-use Rattle.machine.specs.Stack.{Item, Popped, popped, cannot, aNumber, aString, aValue, pop, popNumber, popString, stringKind, unlessFault, wellFormed}
+use Rattle.machine.specs.Stack.{Item, Popped, popped, cannot, aNumber, aString, aValue, pop, popNumber, popString, stringKind}
+use Rattle.machine.specs.Stack.{unlessFault, wellFormed}
 use Rattle.buffer.proofs.Disjunctions.{or-cases}
 
 pub trimmed-short : (l : List ℕ) → length (trimmed l) ≤ length l
@@ -45,7 +46,8 @@ unfoldable pub Pops : (ℕ → Bool) → List ℕ → Popped → Type 0
 Pops takes stack (popped item rest) = TakenOff takes stack item rest
 Pops takes stack (cannot fault) = (fault ≡ 5) ⊎ (fault ≡ 6)
 
-unless-pops : (takes : ℕ → Bool) (stack : List ℕ) (b : Bool) (fault : ℕ) (p : Popped) → (fault ≡ 5) ⊎ (fault ≡ 6) → (b ≡ true → Pops takes stack p) → Pops takes stack (unlessFault b fault p)
+unless-pops : (takes : ℕ → Bool) (stack : List ℕ) (b : Bool) (fault : ℕ) (p : Popped) → (fault ≡ 5) ⊎ (fault ≡ 6)
+    → (b ≡ true → Pops takes stack p) → Pops takes stack (unlessFault b fault p)
 unfolding Pops
 unless-pops takes stack true fault p f h = h refl
 unless-pops takes stack false fault p f h = f
@@ -65,7 +67,13 @@ module _ (takes : ℕ → Bool) (stack : List ℕ) where
       let k : len + 2 ≤ n = leb-true _ _ enough in
       let bytes : length (part stack (n - 2 - len) len) ≡ len = part-length stack (n - 2 - len) len (omega arith) in
       let rest : length (take (n - 2 - len) stack) ≡ n - 2 - len = length-take-le (n - 2 - len) stack (omega arith) in
-      record { taken = t; lay = omega arith; string = λ e. record { zero-last = well-formed-is _ formed; lay = omega arith }; number = λ other. absurd (other refl) }
+      record {
+        taken = t;
+        lay = omega arith;
+        string = λ e. record { zero-last = well-formed-is _ formed; lay = omega arith };
+        number =
+            λ other. absurd (other refl);
+      }
     where
       n : ℕ
       n = length stack
@@ -87,7 +95,8 @@ module _ (takes : ℕ → Bool) (stack : List ℕ) where
 
   pub pop-pops : Pops takes stack (pop takes stack)
   unfolding Pops pop
-  pop-pops = unless-pops takes stack (leb 1 n) 5 _ (inl refl) (λ some. unless-pops takes stack (takes kind) 6 _ (inr refl) (λ t. by-kind t (eqb kind stringKind) refl))
+  pop-pops = unless-pops takes stack (leb 1 n) 5 _ (inl refl)
+      (λ some. unless-pops takes stack (takes kind) 6 _ (inr refl) (λ t. by-kind t (eqb kind stringKind) refl))
     where
       n : ℕ
       n = length stack
@@ -95,7 +104,8 @@ module _ (takes : ℕ → Bool) (stack : List ℕ) where
       kind : ℕ
       kind = getD stack (n - 1) 0
 
-      by-kind : takes kind ≡ true → (b : Bool) → eqb kind stringKind ≡ b → Pops takes stack (cond b (popString stack n) (popNumber stack n kind))
+      by-kind : takes kind ≡ true → (b : Bool) → eqb kind stringKind ≡ b
+          → Pops takes stack (cond b (popString stack n) (popNumber stack n kind))
       by-kind t true e = string-pops (rw (sym (eqb-true kind stringKind e)) t)
       by-kind t false e = number-pops kind t (eqb-false kind stringKind e)
 
@@ -106,7 +116,8 @@ number-no-string kind t e = true-not-false (subst (λ (k : ℕ). aNumber k ≡ t
 number-good-size : (kind : ℕ) → aNumber kind ≡ true → goodSize kind kind ≡ true
 unfolding goodSize
 number-good-size kind t =
-    ⊎-elim (is 1 refl) (λ u. ⊎-elim (is 2 refl) (is 4 refl) (or-cases (eqb kind 2) (eqb kind 4) u)) (or-cases (eqb kind 1) (eqb kind 2 || eqb kind 4) t)
+    ⊎-elim (is 1 refl) (λ u. ⊎-elim (is 2 refl) (is 4 refl) (or-cases (eqb kind 2) (eqb kind 4) u))
+    (or-cases (eqb kind 1) (eqb kind 2 || eqb kind 4) t)
   where
     is : (n : ℕ) → goodSize n n ≡ true → eqb kind n ≡ true → goodSize kind kind ≡ true
     is n h e = subst⁻¹ (λ (k : ℕ). goodSize k k ≡ true) (eqb-true kind n e) h
@@ -133,10 +144,12 @@ module _ (stack : List ℕ) (item : Item) (rest : List ℕ) (t : TakenOff aValue
       of-string : eqb (item .kind) stringKind ≡ true → goodSize (item .kind) (length (item .bytes)) ≡ true
       of-string e =
           let kind : item .kind ≡ stringKind = eqb-true (item .kind) stringKind e in
-          subst⁻¹ (λ (k : ℕ). goodSize k (length (item .bytes)) ≡ true) kind (and-both (le-leb _ _ (string-not-empty stack item rest (t .string kind))) (le-leb _ _ (string-short kind)))
+          subst⁻¹ (λ (k : ℕ). goodSize k (length (item .bytes)) ≡ true) kind
+          (and-both (le-leb _ _ (string-not-empty stack item rest (t .string kind))) (le-leb _ _ (string-short kind)))
 
       of-number : aNumber (item .kind) ≡ true → goodSize (item .kind) (length (item .bytes)) ≡ true
-      of-number e = subst⁻¹ (λ (n : ℕ). goodSize (item .kind) n ≡ true) (t .number (number-no-string (item .kind) e)) (number-good-size (item .kind) e)
+      of-number e = subst⁻¹ (λ (n : ℕ). goodSize (item .kind) n ≡ true) (t .number (number-no-string (item .kind) e))
+          (number-good-size (item .kind) e)
 
   pub printed-short : length (printed item) ≤ 30
   printed-short = go (eqb (item .kind) stringKind) refl

@@ -28,11 +28,13 @@ pub record Begins (name : List ℕ) (k : Kernel) (disc : List ℕ) (slot : ℕ) 
   pub entry : e ≡ entryAt disc file
   pub unspent : k .next ≡ 32768 → ⊥
 
-pub starting-begins : (name : List ℕ) (k : Kernel) (disc : List ℕ) (slot : ℕ) (e : Entry) → starting k disc name ≡ starts slot e → Begins name k disc slot e
+pub starting-begins : (name : List ℕ) (k : Kernel) (disc : List ℕ) (slot : ℕ) (e : Entry) → starting k disc name ≡ starts slot e
+    → Begins name k disc slot e
 unfolding starting endedSlot
 starting-begins name k disc slot e = go (endedSlot k) refl (lookup disc name) refl (eqb (k .next) 32768) refl
   where
-    go : (f : Found) → endedSlot k ≡ f → (h : Found) → lookup disc name ≡ h → (b : Bool) → eqb (k .next) 32768 ≡ b → startIn f h b disc ≡ starts slot e → Begins name k disc slot e
+    go : (f : Found) → endedSlot k ≡ f → (h : Found) → lookup disc name ≡ h → (b : Bool) → eqb (k .next) 32768 ≡ b
+        → startIn f h b disc ≡ starts slot e → Begins name k disc slot e
     go Nowhere p h q b r t = absurd (let z : _≡_ {A = ℕ} 0 1 = cc in omega arith)
     go (At s) p Nowhere q b r t = absurd (let z : _≡_ {A = ℕ} 0 1 = cc in omega arith)
     go (At s) p (At i) q true r t = absurd (let z : _≡_ {A = ℕ} 0 1 = cc in omega arith)
@@ -40,7 +42,15 @@ starting-begins name k disc slot e = go (endedSlot k) refl (lookup disc name) re
         let same : s ≡ slot = cc in
         let that : e ≡ entryAt disc i = cc in
         let f = index-at (λ x. not (isLive x)) noProcess (k .processes) slot (p ∙ ap (λ (n : ℕ). At n) same) in
-        record { inside = f .inside; free = not-true _ (f .holds); file = i; found = q; entry = that; unspent = eqb-false (k .next) 32768 r }
+        record {
+          inside = f .inside;
+          free = not-true _ (f .holds);
+          file = i;
+          found = q;
+          entry = that;
+          unspent =
+              eqb-false (k .next) 32768 r;
+        }
 
 -- ---- the records after a start
 module _ {name : List ℕ} {k : Kernel} {disc : List ℕ} {slot : ℕ} {e : Entry} (b : Begins name k disc slot e) where
@@ -55,9 +65,11 @@ module _ {name : List ℕ} {k : Kernel} {disc : List ℕ} {slot : ℕ} {e : Entr
   started-spares s h = started-other s (λ w. true-not-false h (subst (λ (x : ℕ). isLive (processAt k x) ≡ false) (sym w) (b .free)))
 
   -- each record is the new one or what it was
-  pub started-cases : (s : ℕ) → ((s ≡ slot) × (processAt (started k slot e) s ≡ startedProcess e (k .next))) ⊎ (processAt (started k slot e) s ≡ processAt k s)
+  pub started-cases : (s : ℕ) → ((s ≡ slot) × (processAt (started k slot e) s ≡ startedProcess e (k .next)))
+      ⊎ (processAt (started k slot e) s ≡ processAt k s)
   started-cases s = go (eqb s slot) refl
     where
-      go : (t : Bool) → eqb s slot ≡ t → ((s ≡ slot) × (processAt (started k slot e) s ≡ startedProcess e (k .next))) ⊎ (processAt (started k slot e) s ≡ processAt k s)
+      go : (t : Bool) → eqb s slot ≡ t → ((s ≡ slot) × (processAt (started k slot e) s ≡ startedProcess e (k .next)))
+          ⊎ (processAt (started k slot e) s ≡ processAt k s)
       go true q = let w : s ≡ slot = eqb-true s slot q in inl (w, ap (processAt (started k slot e)) w ∙ started-new)
       go false q = inr (started-other s (eqb-false s slot q))

@@ -59,7 +59,8 @@ module _ (name : List ℕ) (w : ℕ) (k : Kernel) (disc : List ℕ) (j : Kernel)
         let v = own-variables s g l other x in
         record {
           process = own-process s other x ∙ u .process;
-          variables = subst (λ (id : ℕ). owned (j .variables) id ≡ owned (m .variables) id) (ap (λ (p : Process). p .id) (u .process)) v ∙ u .variables;
+          variables = subst (λ (id : ℕ). owned (j .variables) id ≡ owned (m .variables) id) (ap (λ (p : Process). p .id) (u .process)) v
+              ∙ u .variables;
         }
 
     pub change-untouched : (s ≡ w → ⊥) → Change name w k disc j after → Untouched s k j
@@ -68,7 +69,8 @@ module _ (name : List ℕ) (w : ℕ) (k : Kernel) (disc : List ℕ) (j : Kernel)
         let o = own-of-write x in
         record { process = own-process s other o; variables = own-variables s good live other o }
 
-    pub change-program : NoWriteInto s w k disc j → Change name w k disc j after → programOf after (processAt k s) ≡ programOf disc (processAt k s)
+    pub change-program : NoWriteInto s w k disc j → Change name w k disc j after
+        → programOf after (processAt k s) ≡ programOf disc (processAt k s)
     change-program safe (acts m o x) = outside-spares good s live o .program
     change-program safe (writes x) =
         let p : processAt j w ≡ x .process = ap (λ (h : Kernel). processAt h w) (x .kernel) ∙ put-at k w (x .process) (x .goes .before) in
@@ -80,7 +82,8 @@ module _ (name : List ℕ) (w : ℕ) (k : Kernel) (disc : List ℕ) (j : Kernel)
   change-gone i g (writes x) = gone-after i g (own-of-write x)
 
   -- what a live process does starts at most another one, which is then as a start leaves it
-  pub change-begun : isLive (processAt k w) ≡ true → (i : ℕ) → slotOf k i ≡ Nowhere → Change name w k disc j after → (slotOf j i ≡ Nowhere) ⊎ Begun name i disc j after
+  pub change-begun : isLive (processAt k w) ≡ true → (i : ℕ) → slotOf k i ≡ Nowhere → Change name w k disc j after → (slotOf j i ≡ Nowhere)
+      ⊎ Begun name i disc j after
   change-begun live i none (writes x) = inl (own-none i none (own-of-write x))
   change-begun live i none (acts m o x) = go (outside-begun i good none o)
     where
@@ -94,7 +97,8 @@ module _ (name : List ℕ) (w : ℕ) (k : Kernel) (disc : List ℕ) (j : Kernel)
           let d : processAt m (b .slot) .id ≡ i = ap (λ (p : Process). p .id) (b .process) in
           let u = outside-spares good w live o in
           let other : b .slot ≡ w → ⊥ = λ e.
-          no-place (sym (slot-is good w i live (ap (λ (p : Process). p .id) (sym (u .process)) ∙ subst (λ (t : ℕ). processAt m t .id ≡ i) e d)) ∙ none) in
+          no-place (sym (slot-is good w i live (ap (λ (p : Process). p .id) (sym (u .process))
+          ∙ subst (λ (t : ℕ). processAt m t .id ≡ i) e d)) ∙ none) in
           inr
           (record {
             same-disc = b .same-disc;
@@ -103,5 +107,6 @@ module _ (name : List ℕ) (w : ℕ) (k : Kernel) (disc : List ℕ) (j : Kernel)
             found = b .found;
             process = own-process (b .slot) other x ∙ b .process;
             inside = b .inside;
-            variables = subst (λ (id : ℕ). owned (j .variables) id ≡ owned (m .variables) id) d (own-variables (b .slot) g l other x) ∙ b .variables;
+            variables = subst (λ (id : ℕ). owned (j .variables) id ≡ owned (m .variables) id) d (own-variables (b .slot) g l other x)
+                ∙ b .variables;
           })

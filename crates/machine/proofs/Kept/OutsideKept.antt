@@ -35,23 +35,34 @@ module _ {k : Kernel} {disc title : List ℕ} (g : GoodState k disc) where
   pub stored-state-good : (bytes : List ℕ) (s : ℕ) → Admitted disc title (length bytes) s → GoodState k (stored disc title bytes s)
   stored-state-good bytes s a =
       files-good (stored disc title bytes s) g (stored-length bytes (g .sound) a) (stored-good bytes (g .sound) a)
-      (λ slot i h u. record { place = i; inside = omega (arith, lookup-at (stored disc title bytes s) title (fileCount disc) (stored-found bytes (g .sound) a) .inside); same = stored-old bytes (g .sound) a i h })
+      (λ slot i h u. record {
+        place = i;
+        inside =
+            omega (arith, lookup-at (stored disc title bytes s) title (fileCount disc) (stored-found bytes (g .sound) a) .inside);
+        same =
+            stored-old bytes (g .sound) a i h;
+      })
 
 -- ---- erase: "11 a live process runs it or has it open"
 used-is-in-use : (k : Kernel) (e : Entry) (s : ℕ) → uses e (processAt k s) ≡ true → inUse k e ≡ true
 unfolding inUse
 used-is-in-use k e s u = any-at (uses e) (k .processes) s noProcess (live-inside k s (and-left (isLive (processAt k s)) _ u)) u
 
-pub erased-state-good : {k : Kernel} {disc : List ℕ} → GoodState k disc → (i : ℕ) → i < fileCount disc → inUse k (entryAt disc i) ≡ false → GoodState k (erased disc i)
-erased-state-good {k} {disc} g i h unused = files-good (erased disc i) g (erased-length (present disc (g .sound) i h)) (erased-good disc (g .sound) i h) again
+pub erased-state-good : {k : Kernel} {disc : List ℕ} → GoodState k disc → (i : ℕ) → i < fileCount disc → inUse k (entryAt disc i) ≡ false
+    → GoodState k (erased disc i)
+erased-state-good {k} {disc} g i h unused =
+    files-good (erased disc i) g (erased-length (present disc (g .sound) i h)) (erased-good disc (g .sound) i h) again
   where
     again : (s j : ℕ) → j < fileCount disc → uses (entryAt disc j) (processAt k s) ≡ true → Again disc (erased disc i) j
     again s j m u =
-        let f = erased-to (present disc (g .sound) i h) j m (λ w. true-not-false (used-is-in-use k (entryAt disc i) s (subst (λ (x : ℕ). uses (entryAt disc x) (processAt k s) ≡ true) w u)) unused) in
+        let f = erased-to (present disc (g .sound) i h) j m
+        (λ w. true-not-false
+        (used-is-in-use k (entryAt disc i) s (subst (λ (x : ℕ). uses (entryAt disc x) (processAt k s) ≡ true) w u)) unused) in
         record { place = f .0; inside = f .1; same = f .2 }
 
 -- ---- the kinds
-pub outside-good : (name : List ℕ) (k : Kernel) (disc : List ℕ) (j : Kernel) (after : List ℕ) → GoodState k disc → Outside name k disc j after → GoodState j after
+pub outside-good : (name : List ℕ) (k : Kernel) (disc : List ℕ) (j : Kernel) (after : List ℕ) → GoodState k disc
+    → Outside name k disc j after → GoodState j after
 outside-good name k disc j after g = kinds
   where
     become : (x : Kernel) (d : List ℕ) → j ≡ x → after ≡ d → GoodState x d → GoodState j after

@@ -33,7 +33,8 @@ module _ (k : Kernel) (w : ℕ) (fault : ℕ) where
   ended-variables = owned-freed-all (k .variables) (processAt k w .id)
 
   -- no other live process has its ID
-  pub ended-gone : (disc : List ℕ) → GoodState k disc → isLive (processAt k w) ≡ true → slotOf (ended k w fault) (processAt k w .id) ≡ Nowhere
+  pub ended-gone : (disc : List ℕ) → GoodState k disc → isLive (processAt k w) ≡ true
+      → slotOf (ended k w fault) (processAt k w .id) ≡ Nowhere
   unfolding ended slotOf
   ended-gone disc good live =
       slot-nowhere (withProcess k w (endedProcess (processAt k w) fault)) (processAt k w .id)
@@ -41,7 +42,9 @@ module _ (k : Kernel) (w : ℕ) (fault : ℕ) where
       (λ s other h same. other (one-of-id (files disc) k (good .area) s w (live-inside k s h) (live-inside k w live) h live same)))
 
 -- Document 01: "A SET without fault drops the old variable, then adds the new one"
-pub set-variables : (k : Kernel) (disc : List ℕ) → GoodState k disc → (name id : ℕ) (x : Value) (a : ℕ) → length (valueBytes x) ≡ x .size → assigned (k .variables) name id x .placing ≡ Address a
+pub set-variables : (k : Kernel) (disc : List ℕ) → GoodState k disc → (name id : ℕ) (x : Value) (a : ℕ) → length (valueBytes x) ≡ x .size
+    → assigned (k .variables) name id x .placing ≡ Address a
     → owned (assigned (k .variables) name id x .variables) id ≡ withCell (owned (k .variables) id) (newCell name x)
 set-variables k disc good name id x a sized placed =
-    assigned-own (k .variables) name id x (good .sized .variables) (good-variables-is (liveIds k) (k .variables) (good-kernel-is (files disc) k (good .area) .variables) .few) sized a placed
+    assigned-own (k .variables) name id x (good .sized .variables)
+    (good-variables-is (liveIds k) (k .variables) (good-kernel-is (files disc) k (good .area) .variables) .few) sized a placed

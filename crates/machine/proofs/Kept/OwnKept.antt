@@ -89,12 +89,15 @@ module _ (k : Kernel) (disc : List ℕ) (w : ℕ) (q : Process) (good : GoodStat
   pub moved-good : GoodState (withProcess k w q) disc
   moved-good = going-good (k .variables) (good .sized .variables) (good-kernel-is (files disc) k (good .area) .variables)
 
-  pub set-good : (name : ℕ) (x : Value) → goodSize (x .kind) (x .size) ≡ true → length (valueBytes x) ≡ x .size → GoodState (withVariables (withProcess k w q) (assigned (k .variables) name (processAt k w .id) x .variables)) disc
+  pub set-good : (name : ℕ) (x : Value) → goodSize (x .kind) (x .size) ≡ true → length (valueBytes x) ≡ x .size
+      → GoodState (withVariables (withProcess k w q) (assigned (k .variables) name (processAt k w .id) x .variables)) disc
   set-good name x size sized =
       let table = good-kernel-is (files disc) k (good .area) .variables in
       going-good (assigned (k .variables) name (processAt k w .id) x .variables)
-      (assigned-shaped (k .variables) name (processAt k w .id) x (good .sized .variables) (good-variables-is (liveIds k) (k .variables) table .few) sized)
-      (assigned-good (liveIds k) (k .variables) name (processAt k w .id) x (good .sized .variables) sized table size (is-live-id k (processAt k w .id) w (goes .before) refl))
+      (assigned-shaped (k .variables) name (processAt k w .id) x (good .sized .variables)
+      (good-variables-is (liveIds k) (k .variables) table .few) sized)
+      (assigned-good (liveIds k) (k .variables) name (processAt k w .id) x (good .sized .variables) sized table size
+      (is-live-id k (processAt k w .id) w (goes .before) refl))
 
 -- ---- ending
 pub ended-state-good : (k : Kernel) (disc : List ℕ) (w fault : ℕ) → GoodState k disc → GoodState (ended k w fault) disc
@@ -108,11 +111,13 @@ ended-state-good k disc w fault good =
     (ended-good (files disc) (k .next) q refl)
     (λ h. absurd (true-not-false h refl))
     (freed-shaped (k .variables) (ownedBy (p .id)) (good-variables-is (liveIds k) (k .variables) table .few) (good .sized .variables))
-    (freed-all-good (liveIds k) (liveIds (withProcess k w q)) (k .variables) (p .id) table (λ owner other t. live-id-kept k w q owner (λ h n. absurd (other (sym n))) t))
+    (freed-all-good (liveIds k) (liveIds (withProcess k w q)) (k .variables) (p .id) table
+    (λ owner other t. live-id-kept k w q owner (λ h n. absurd (other (sym n))) t))
 
 -- ---- all of them
 pub own-good : (w : ℕ) (k : Kernel) (disc : List ℕ) (j : Kernel) → GoodState k disc → Own w k disc j → GoodState j disc
 own-good w k disc j good (stays e) = subst⁻¹ (λ (x : Kernel). GoodState x disc) e good
 own-good w k disc j good (moves q goes e) = subst⁻¹ (λ (x : Kernel). GoodState x disc) e (moved-good k disc w q good goes)
-own-good w k disc j good (sets q name x a goes size sized placed e) = subst⁻¹ (λ (x : Kernel). GoodState x disc) e (set-good k disc w q good goes name x size sized)
+own-good w k disc j good (sets q name x a goes size sized placed e) =
+    subst⁻¹ (λ (x : Kernel). GoodState x disc) e (set-good k disc w q good goes name x size sized)
 own-good w k disc j good (ends fault live e) = subst⁻¹ (λ (x : Kernel). GoodState x disc) e (ended-state-good k disc w fault good)

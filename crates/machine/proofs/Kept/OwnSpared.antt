@@ -24,7 +24,8 @@ module _ {w : ℕ} {k : Kernel} {disc : List ℕ} {j : Kernel} where
   own-process s other (stays e) = ap (λ (x : Kernel). processAt x s) e
   own-process s other (moves q goes e) = ap (λ (x : Kernel). processAt x s) e ∙ put-other k w q s other
   own-process s other (sets q name x a goes size sized placed e) = ap (λ (x : Kernel). processAt x s) e ∙ put-other k w q s other
-  own-process s other (ends fault live e) = ap (λ (x : Kernel). processAt x s) e ∙ put-other k w (endedProcess (processAt k w) fault) s other
+  own-process s other (ends fault live e) = ap (λ (x : Kernel). processAt x s) e
+      ∙ put-other k w (endedProcess (processAt k w) fault) s other
 
   -- ---- IDs
   pub own-next : Own w k disc j → j .next ≡ k .next
@@ -38,15 +39,18 @@ module _ {w : ℕ} {k : Kernel} {disc : List ℕ} {j : Kernel} where
   unfolding ended slotOf
   own-none i none (stays e) = ap (λ (x : Kernel). slotOf x i) e ∙ none
   own-none i none (moves q goes e) = ap (λ (x : Kernel). slotOf x i) e ∙ put-none k w q (λ h. (goes .before, goes .id)) i none
-  own-none i none (sets q name x a goes size sized placed e) = ap (λ (x : Kernel). slotOf x i) e ∙ put-none k w q (λ h. (goes .before, goes .id)) i none
-  own-none i none (ends fault live e) = ap (λ (x : Kernel). slotOf x i) e ∙ put-none k w (endedProcess (processAt k w) fault) (λ h. absurd (true-not-false h refl)) i none
+  own-none i none (sets q name x a goes size sized placed e) = ap (λ (x : Kernel). slotOf x i) e
+      ∙ put-none k w q (λ h. (goes .before, goes .id)) i none
+  own-none i none (ends fault live e) = ap (λ (x : Kernel). slotOf x i) e
+      ∙ put-none k w (endedProcess (processAt k w) fault) (λ h. absurd (true-not-false h refl)) i none
 
   -- an ID that was given out and is not live stays so
   pub own-gone : (i : ℕ) → i < k .next → slotOf k i ≡ Nowhere → Own w k disc j → (i < j .next) × (slotOf j i ≡ Nowhere)
   own-gone i given none own = (subst⁻¹ (λ (n : ℕ). i < n) (own-next own) given, own-none i none own)
 
   -- ---- another process's variables
-  pub own-variables : (s : ℕ) → GoodState k disc → isLive (processAt k s) ≡ true → (s ≡ w → ⊥) → Own w k disc j → owned (j .variables) (processAt k s .id) ≡ owned (k .variables) (processAt k s .id)
+  pub own-variables : (s : ℕ) → GoodState k disc → isLive (processAt k s) ≡ true → (s ≡ w → ⊥) → Own w k disc j
+      → owned (j .variables) (processAt k s .id) ≡ owned (k .variables) (processAt k s .id)
   unfolding ended
   own-variables s good live other own = go own
     where
@@ -62,5 +66,8 @@ module _ {w : ℕ} {k : Kernel} {disc : List ℕ} {j : Kernel} where
       go (moves q goes e) = ap (λ (x : Kernel). owned (x .variables) id) e
       go (sets q name x a goes size sized placed e) =
           ap (λ (x : Kernel). owned (x .variables) id) e
-          ∙ assigned-other (k .variables) name (processAt k w .id) x (good .sized .variables) (good-variables-is (liveIds k) (k .variables) (good-kernel-is (files disc) k (good .area) .variables) .few) sized id (apart (goes .before))
-      go (ends fault h e) = ap (λ (x : Kernel). owned (x .variables) id) e ∙ owned-freed-all-other (k .variables) (processAt k w .id) id (apart h)
+          ∙ assigned-other (k .variables) name (processAt k w .id) x (good .sized .variables)
+          (good-variables-is (liveIds k) (k .variables) (good-kernel-is (files disc) k (good .area) .variables) .few) sized id
+          (apart (goes .before))
+      go (ends fault h e) = ap (λ (x : Kernel). owned (x .variables) id) e
+          ∙ owned-freed-all-other (k .variables) (processAt k w .id) id (apart h)

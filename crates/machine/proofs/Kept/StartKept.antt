@@ -42,7 +42,13 @@ module _ {name : List ℕ} {k : Kernel} {disc : List ℕ} {slot : ℕ} {e : Entr
         given = omega arith;
         registers = record { spare = refl; sp = omega arith; pc = omega arith; loop = inl refl };
         program = is-listed (isProgram (startedProcess e (k .next))) disc (b .file) (lookup-at disc name (b .file) (b .found) .inside)
-            (is-program (startedProcess e (k .next)) (entryAt disc (b .file)) (record { name = ap (λ (x : Entry). x .name) (b .entry); start = ap (λ (x : Entry). x .start) (b .entry); len = ap (λ (x : Entry). x .len) (b .entry) }));
+            (is-program (startedProcess e (k .next)) (entryAt disc (b .file))
+            (record {
+              name = ap (λ (x : Entry). x .name) (b .entry);
+              start = ap (λ (x : Entry). x .start) (b .entry);
+              len =
+                  ap (λ (x : Entry). x .len) (b .entry);
+            }));
         file = inl (record { len = refl; offset = refl });
       })
 
@@ -51,13 +57,15 @@ module _ {name : List ℕ} {k : Kernel} {disc : List ℕ} {slot : ℕ} {e : Entr
       ⊎-elim (λ (z : processAt k s .state ≡ 0). ended-good (files disc) (k .next + 1) (processAt k s) z)
       (λ l.
       let x : GoodLive (files disc) (k .next) (processAt k s) = l .1 in
-      live-good (files disc) (k .next + 1) (processAt k s) (l .0) (record { low = x .low; given = omega (arith, x .given); registers = x .registers; program = x .program; file = x .file }))
+      live-good (files disc) (k .next + 1) (processAt k s) (l .0)
+      (record { low = x .low; given = omega (arith, x .given); registers = x .registers; program = x .program; file = x .file }))
       (good-process-is (files disc) (k .next) (processAt k s) (good-process-at (files disc) k (g .area) s m))
 
   each : (s : ℕ) → s < length (started k slot e .processes) → goodProcess (files disc) (k .next + 1) (processAt (started k slot e) s) ≡ true
   each s m =
       ⊎-elim (λ new. subst⁻¹ (λ (p : Process). goodProcess (files disc) (k .next + 1) p ≡ true) (new .1) new-good)
-      (λ (old : processAt (started k slot e) s ≡ processAt k s). subst⁻¹ (λ (p : Process). goodProcess (files disc) (k .next + 1) p ≡ true) old
+      (λ (old : processAt (started k slot e) s ≡ processAt k s).
+      subst⁻¹ (λ (p : Process). goodProcess (files disc) (k .next + 1) p ≡ true) old
       (old-good s (subst (λ (n : ℕ). s < n) (length-set (k .processes) slot (startedProcess e (k .next))) m)))
       (started-cases b s)
 
@@ -68,20 +76,23 @@ module _ {name : List ℕ} {k : Kernel} {disc : List ℕ} {slot : ℕ} {e : Entr
       let n : k .next ≡ processAt k s .id = sym (ap (λ (x : Process). x .id) u) ∙ i ∙ ap (λ (x : Process). x .id) v in
       omega (arith, l .given)
 
-  one : (i j : ℕ) → isLive (processAt (started k slot e) i) ≡ true → isLive (processAt (started k slot e) j) ≡ true → processAt (started k slot e) i .id ≡ processAt (started k slot e) j .id → i ≡ j
+  one : (i j : ℕ) → isLive (processAt (started k slot e) i) ≡ true → isLive (processAt (started k slot e) j) ≡ true
+      → processAt (started k slot e) i .id ≡ processAt (started k slot e) j .id → i ≡ j
   one i j x y q = go (started-cases b i) (started-cases b j)
     where
       p : ℕ → Process
       p s = processAt (started k slot e) s
 
-      go : ((i ≡ slot) × (p i ≡ startedProcess e (k .next))) ⊎ (p i ≡ processAt k i) → ((j ≡ slot) × (p j ≡ startedProcess e (k .next))) ⊎ (p j ≡ processAt k j) → i ≡ j
+      go : ((i ≡ slot) × (p i ≡ startedProcess e (k .next))) ⊎ (p i ≡ processAt k i) → ((j ≡ slot) × (p j ≡ startedProcess e (k .next)))
+          ⊎ (p j ≡ processAt k j) → i ≡ j
       go (inl u) (inl v) = u .0 ∙ sym (v .0)
       go (inl u) (inr v) = absurd (next-not-given j (p i) (p j) (u .1) v y q)
       go (inr u) (inl v) = absurd (next-not-given i (p j) (p i) (v .1) u x (sym q))
       go (inr u) (inr v) =
           let h : isLive (processAt k i) ≡ true = ap isLive (sym u) ∙ x in
           let m : isLive (processAt k j) ≡ true = ap isLive (sym v) ∙ y in
-          one-of-id (files disc) k (g .area) i j (live-inside k i h) (live-inside k j m) h m (ap (λ (r : Process). r .id) (sym u) ∙ q ∙ ap (λ (r : Process). r .id) v)
+          one-of-id (files disc) k (g .area) i j (live-inside k i h) (live-inside k j m) h m (ap (λ (r : Process). r .id) (sym u) ∙ q
+          ∙ ap (λ (r : Process). r .id) v)
 
   more : (i : ℕ) → any (eqb i) (liveIds k) ≡ true → any (eqb i) (liveIds (started k slot e)) ≡ true
   more i t =
@@ -90,12 +101,18 @@ module _ {name : List ℕ} {k : Kernel} {disc : List ℕ} {slot : ℕ} {e : Entr
       is-live-id (started k slot e) i (f .0) (ap isLive same ∙ f .1) (ap (λ (p : Process). p .id) same ∙ f .2)
 
   header : GoodHeader (started k slot e)
-  header = record { zeros = area .header .zeros; low = omega arith; high = let n : k .next ≡ 32768 → ⊥ = b .unspent in omega (arith, area .header .high) }
+  header = record {
+    zeros = area .header .zeros;
+    low = omega arith;
+    high = let n : k .next ≡ 32768 → ⊥ = b .unspent in
+        omega (arith, area .header .high);
+  }
 
   named : length (e .name) ≡ 12
   named =
       subst⁻¹ (λ (x : Entry). length (x .name) ≡ 12) (b .entry)
-      (field-length (entryAt disc (b .file) .name) (good-entry-at disc (g .sound) (b .file) (lookup-at disc name (b .file) (b .found) .inside) .field))
+      (field-length (entryAt disc (b .file) .name)
+      (good-entry-at disc (g .sound) (b .file) (lookup-at disc name (b .file) (b .found) .inside) .field))
 
   pub started-good : GoodState (started k slot e) disc
   started-good =

@@ -38,16 +38,20 @@ module _ {w : ℕ} {k : Kernel} {disc : List ℕ} {j : Kernel} {after : List ℕ
   inside : Inside disc run offset (length (x .bytes))
   inside =
       subst⁻¹ (λ (r : Run). Inside disc r offset (length (x .bytes))) (file .run-is)
-      (file-inside disc (g .sound) (file .place) (file .inside) offset (length (x .bytes)) (subst (λ (r : Run). offset + length (x .bytes) ≤ r .len) (file .run-is) (x .inside)))
+      (file-inside disc (g .sound) (file .place) (file .inside) offset (length (x .bytes))
+      (subst (λ (r : Run). offset + length (x .bytes) ≤ r .len) (file .run-is) (x .inside)))
 
   module _ (s : ℕ) (h : isLive (processAt k s) ≡ true) where
-    pub writes-spares-process : (s ≡ w → ⊥) → (processAt j s ≡ processAt k s) × (owned (j .variables) (processAt k s .id) ≡ owned (k .variables) (processAt k s .id))
+    pub writes-spares-process : (s ≡ w → ⊥) → (processAt j s ≡ processAt k s)
+        × (owned (j .variables) (processAt k s .id) ≡ owned (k .variables) (processAt k s .id))
     writes-spares-process other =
-        subst⁻¹ (λ (l : Kernel). (processAt l s ≡ processAt k s) × (owned (l .variables) (processAt k s .id) ≡ owned (k .variables) (processAt k s .id))) (x .kernel)
+        subst⁻¹ (λ (l : Kernel). (processAt l s ≡ processAt k s)
+        × (owned (l .variables) (processAt k s .id) ≡ owned (k .variables) (processAt k s .id))) (x .kernel)
         (getD-set-other (k .processes) w s (x .process) noProcess other, refl)
 
     -- only what runs the file that is written sees another program
-    pub writes-program : (processAt k w .file .start ≡ processAt k s .code .start → processAt k w .file .len ≡ processAt k s .code .len → ⊥) → programOf after (processAt k s) ≡ programOf disc (processAt k s)
+    pub writes-program : (processAt k w .file .start ≡ processAt k s .code .start → processAt k w .file .len ≡ processAt k s .code .len → ⊥)
+        → programOf after (processAt k s) ≡ programOf disc (processAt k s)
     writes-program other =
         subst⁻¹ (λ (d : List ℕ). programOf d (processAt k s) ≡ programOf disc (processAt k s)) (x .disc-after)
         (written-elsewhere (x .bytes) inside (processAt k s .code) (go (eqb (file .place) (program .place)) refl))
@@ -57,7 +61,8 @@ module _ {w : ℕ} {k : Kernel} {disc : List ℕ} {j : Kernel} {after : List ℕ
 
         go : (b : Bool) → eqb (file .place) (program .place) ≡ b → apart run (processAt k s .code) ≡ true
         go true e =
-            let same : run ≡ processAt k s .code = file .run-is ∙ ap (λ (i : ℕ). runOf (entryAt disc i)) (eqb-true _ _ e) ∙ sym (program .run-is) in
+            let same : run ≡ processAt k s .code = file .run-is ∙ ap (λ (i : ℕ). runOf (entryAt disc i)) (eqb-true _ _ e)
+            ∙ sym (program .run-is) in
             absurd (other (ap (λ (r : Run). r .start) same) (ap (λ (r : Run). r .len) same))
         go false e =
             subst⁻¹ (λ (r : Run). apart r (processAt k s .code) ≡ true) (file .run-is)
@@ -65,7 +70,8 @@ module _ {w : ℕ} {k : Kernel} {disc : List ℕ} {j : Kernel} {after : List ℕ
             (beside-at disc (g .sound) (file .place) (program .place) (file .inside) (program .inside) (eqb-false _ _ e) .clear))
 
 -- the law of one record replaced gives it
-pub writes-good : ((k : Kernel) (disc : List ℕ) (w : ℕ) (q : Process) → GoodState k disc → GoesOn disc (processAt k w) q → GoodState (withProcess k w q) disc)
+pub writes-good : ((k : Kernel) (disc : List ℕ) (w : ℕ) (q : Process) → GoodState k disc → GoesOn disc (processAt k w) q
+    → GoodState (withProcess k w q) disc)
     → (w : ℕ) (k : Kernel) (disc : List ℕ) (j : Kernel) (after : List ℕ) → GoodState k disc → Writes w k disc j after → GoodState j after
 writes-good moved w k disc j after g x =
     subst⁻¹ (λ (l : Kernel). GoodState l after) (x .kernel)
@@ -74,7 +80,8 @@ writes-good moved w k disc j after g x =
       sized = m .sized;
       long = ap isDiscLength (written-length (x .bytes) (inside g x)) ∙ g .long;
       sound = written-good (x .bytes) (inside g x) (g .sound);
-      area = subst⁻¹ (λ (es : List Entry). goodKernel es (withProcess k w (x .process)) ≡ true) (written-files (x .bytes) (inside g x) (good-disc-is disc (g .sound) .few)) (m .area);
+      area = subst⁻¹ (λ (es : List Entry). goodKernel es (withProcess k w (x .process)) ≡ true)
+          (written-files (x .bytes) (inside g x) (good-disc-is disc (g .sound) .few)) (m .area);
     }))
   where
     m : GoodState (withProcess k w (x .process)) disc

@@ -19,12 +19,14 @@ use Rattle.machine.specs.declared.Process.{Process}
 use Rattle.machine.proofs.Kept.Begins.{starting-begins}
 use Rattle.machine.proofs.Operations.Carrying.{goes-on-local, moves-local}
 use Rattle.machine.proofs.Changes.Change.{GoodState, GoesOn, begins, moves, acts}
-use Rattle.machine.proofs.Operations.FileAnswers.{AnswerChanges, numberRead, textAhead, textRead, open-change, read-change, write-change}
+use Rattle.machine.proofs.Operations.FileAnswers.{AnswerChanges, numberRead, textAhead, textRead, open-change, read-change}
+use Rattle.machine.proofs.Operations.FileAnswers.{write-change}
 use Rattle.machine.proofs.Changes.LiveRecords.{running-live, within-local}
 use Rattle.machine.proofs.Instructions.Sound.{Asked, Within}
 use Rattle.machine.specs.Stack.{topString}
 
-module _ {k : Kernel} {disc : List ℕ} (good : GoodState k disc) (slot : ℕ) (running : isRunning (processAt k slot) ≡ true) (name : List ℕ) where
+module _ {k : Kernel} {disc : List ℕ} (good : GoodState k disc) (slot : ℕ) (running : isRunning (processAt k slot) ≡ true)
+    (name : List ℕ) where
   abbrev p : Process
   p = processAt k slot
 
@@ -46,7 +48,8 @@ module _ {k : Kernel} {disc : List ℕ} (good : GoodState k disc) (slot : ℕ) (
 
   -- the child takes an ended slot, so not the own one
   other-slot : (child : ℕ) (e : Entry) → starting k disc name ≡ starts child e → slot ≡ child → ⊥
-  other-slot child e h same = true-not-false live (subst⁻¹ (λ (i : ℕ). isLive (processAt k i) ≡ false) same (starting-begins name k disc child e h .free))
+  other-slot child e h same =
+      true-not-false live (subst⁻¹ (λ (i : ℕ). isLive (processAt k i) ≡ false) same (starting-begins name k disc child e h .free))
 
   fork-change : (l : Local) → length (l .stack) + 3 ≤ 32 → Fits l → Changes (forked k slot disc (starting k disc name) l)
   fork-change l h fits = go (starting k disc name) refl
@@ -62,16 +65,20 @@ module _ {k : Kernel} {disc : List ℕ} (good : GoodState k disc) (slot : ℕ) (
           refl)
 
   -- ---- WAITUNTILDONE: "stays while a live process has that ID"
-  await-change : (waits : Bool) (stay go : Local) → stay ≡ localOf p → Fits go → Changes (carriesOn (withProcess k slot (withLocal p (cond waits stay go))) disc)
+  await-change : (waits : Bool) (stay go : Local) → stay ≡ localOf p → Fits go
+      → Changes (carriesOn (withProcess k slot (withLocal p (cond waits stay go))) disc)
   await-change true stay go e fits = moved stay (subst⁻¹ (λ (l : Local). Fits l) e (within-local good slot live))
   await-change false stay go e fits = moved go fits
 
-  pub answer-change : name ≡ topString (localOf p .stack) → (r : Request) → Asked (programOf disc p) (localOf p) r → Changes (answered k slot disc r)
+  pub answer-change : name ≡ topString (localOf p .stack) → (r : Request) → Asked (programOf disc p) (localOf p) r
+      → Changes (answered k slot disc r)
   unfolding answered Asked
   answer-change top (opens title size l) a = open-change good slot running name title size l (a .1)
   answer-change top (closes l) a = moved l (a .1)
   answer-change top (writes bytes l) a = write-change good slot running name bytes l (a .0) (a .1)
   answer-change top (reads kind l) a = read-change good slot running name (numberRead k slot disc kind l) kind l (a .1)
-  answer-change top (readsString l) a = read-change good slot running name (textRead k slot disc l) (length (textAhead k slot disc) + 1) l (a .1)
-  answer-change top (forks title l) a = subst (λ (t : List ℕ). Changes (forked k slot disc (starting k disc t) l)) (top ∙ sym (a .1)) (fork-change l (a .2) (a .3))
+  answer-change top (readsString l) a =
+      read-change good slot running name (textRead k slot disc l) (length (textAhead k slot disc) + 1) l (a .1)
+  answer-change top (forks title l) a = subst (λ (t : List ℕ). Changes (forked k slot disc (starting k disc t) l)) (top
+      ∙ sym (a .1)) (fork-change l (a .2) (a .3))
   answer-change top (awaits id stay go) a = await-change (any (isAwaited k slot disc id) (k .processes)) stay go (a .1) (a .2)

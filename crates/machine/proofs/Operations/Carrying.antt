@@ -27,7 +27,8 @@ module _ {k : Kernel} {disc : List ℕ} (good : GoodState k disc) (slot : ℕ) (
   p = processAt k slot
 
   -- a state within the program, and a file that stands in the directory as it is then, make a good record
-  pub goes-on : (after : List ℕ) (l : Local) (f : OpenFile) → Within (length (programOf disc p)) l → GoodFile (files after) f → GoesOn after p (withFile (withLocal p l) f)
+  pub goes-on : (after : List ℕ) (l : Local) (f : OpenFile) → Within (length (programOf disc p)) l → GoodFile (files after) f
+      → GoesOn after p (withFile (withLocal p l) f)
   goes-on after l f within file =
       record {
         before = live;
@@ -44,7 +45,13 @@ module _ {k : Kernel} {disc : List ℕ} (good : GoodState k disc) (slot : ℕ) (
       in-record = subst (λ (n : ℕ). Within n l) (program-length good slot live) within
 
       registers : GoodRegisters (withFile (withLocal p l) f)
-      registers = record { spare = live-record good slot live .registers .spare; sp = within .stack; pc = in-record .pc; loop = in-record .loop }
+      registers = record {
+        spare = live-record good slot live .registers .spare;
+        sp = within .stack;
+        pc = in-record .pc;
+        loop =
+            in-record .loop;
+      }
 
   -- with the file it has
   pub goes-on-local : (l : Local) → Within (length (programOf disc p)) l → GoesOn disc p (withLocal p l)
@@ -58,12 +65,14 @@ module _ {k : Kernel} {disc : List ℕ} (good : GoodState k disc) (slot : ℕ) (
     ends-here fault = acts k (nothing refl refl) (ends fault live refl)
 
     -- Document 01, fault 10: "no variable entry or run"
-    pub assigns-here : (letter kind : ℕ) (bytes : List ℕ) (l : Local) → Within (length (programOf disc p)) l → goodSize kind (length bytes) ≡ true
+    pub assigns-here : (letter kind : ℕ) (bytes : List ℕ) (l : Local) → Within (length (programOf disc p)) l
+        → goodSize kind (length bytes) ≡ true
         → (q : Placing) → assigned (k .variables) letter (p .id) (valueOf kind bytes) .placing ≡ q
         → Change name slot k disc (setting k slot disc q (assigned (k .variables) letter (p .id) (valueOf kind bytes) .variables) l .kernel)
         (setting k slot disc q (assigned (k .variables) letter (p .id) (valueOf kind bytes) .variables) l .disc)
     assigns-here letter kind bytes l within size (Address a) e =
-        acts k (nothing refl refl) (sets (withLocal p l) letter (valueOf kind bytes) a (goes-on-local l within) size (ap length whole) e refl)
+        acts k (nothing refl refl)
+        (sets (withLocal p l) letter (valueOf kind bytes) a (goes-on-local l within) size (ap length whole) e refl)
       where
         whole : take (length bytes) (bytes ++ replicate (32 - length bytes) 0) ≡ bytes
         whole = take-at bytes (replicate (32 - length bytes) 0) (length bytes) refl

@@ -23,7 +23,8 @@ command-nowhere k j c id e h =
 
 module _ {k : Kernel} {disc : List ℕ} (good : GoodState k disc) (slot : ℕ) (live : isLive (processAt k slot) ≡ true) where
   -- running or paused, a good area asks the same of the rest of a record
-  in-state : (state : ℕ) → isLive (withState (processAt k slot) state) ≡ true → GoesOn disc (processAt k slot) (withState (processAt k slot) state)
+  in-state : (state : ℕ) → isLive (withState (processAt k slot) state) ≡ true
+      → GoesOn disc (processAt k slot) (withState (processAt k slot) state)
   in-state state h =
       let g = live-record good slot live in
       record {
@@ -38,19 +39,23 @@ module _ {k : Kernel} {disc : List ℕ} (good : GoodState k disc) (slot : ℕ) (
       }
 
   -- Document 01: "15 already in that state"
-  becomes-state : (state : ℕ) → isLive (withState (processAt k slot) state) ≡ true → (j : Kernel) → changed k slot state ≡ becomes j → Own slot k disc j
+  becomes-state : (state : ℕ) → isLive (withState (processAt k slot) state) ≡ true → (j : Kernel) → changed k slot state ≡ becomes j
+      → Own slot k disc j
   becomes-state state h j = go (eqb (processAt k slot .state) state)
     where
-      go : (already : Bool) → cond already (refused 15) (becomes (withProcess k slot (withState (processAt k slot) state))) ≡ becomes j → Own slot k disc j
+      go : (already : Bool) → cond already (refused 15) (becomes (withProcess k slot (withState (processAt k slot) state))) ≡ becomes j
+          → Own slot k disc j
       go true e = absurd (let z : _≡_ {A = ℕ} 0 1 = cc in omega arith)
-      go false e = let q : withProcess k slot (withState (processAt k slot) state) ≡ j = cc in moves (withState (processAt k slot) state) (in-state state h) (sym q)
+      go false e = let q : withProcess k slot (withState (processAt k slot) state) ≡ j = cc in
+          moves (withState (processAt k slot) state) (in-state state h) (sym q)
 
   command-at : (c : Command) (j : Kernel) → commandAt (At slot) c k ≡ becomes j → Own slot k disc j
   command-at suspend j e = becomes-state paused refl j e
   command-at resume j e = becomes-state running refl j e
   command-at kill j e = let q : ended k slot 0 ≡ j = cc in ends 0 live (sym q)
 
-pub command-own : {k : Kernel} {disc : List ℕ} → GoodState k disc → (c : Command) (id : ℕ) (j : Kernel) → commanded c id k ≡ becomes j → (slot : ℕ) × (slotOf k id ≡ At slot) × Own slot k disc j
+pub command-own : {k : Kernel} {disc : List ℕ} → GoodState k disc → (c : Command) (id : ℕ) (j : Kernel) → commanded c id k ≡ becomes j
+    → (slot : ℕ) × (slotOf k id ≡ At slot) × Own slot k disc j
 unfolding commanded
 command-own {k} {disc} good c id j h = go (slotOf k id) refl
   where

@@ -27,7 +27,8 @@ use Rattle.store.proofs.Changes.{entered-count, entered-new}
 use Rattle.store.proofs.Goodness.{good-entry-at}
 use Rattle.store.proofs.Invariant.{room}
 use Rattle.store.proofs.Lookups.{lookup-at}
-use Rattle.machine.specs.Beyond.{Answered, breaks, advanced, continues, created, createdAt, fileRun, inside, opened, openedAt, ownFile, pushed, received, unlessBreaks, withOpenFile, written}
+use Rattle.machine.specs.Beyond.{Answered, breaks, advanced, continues, created, createdAt, fileRun, inside, opened, openedAt}
+use Rattle.machine.specs.Beyond.{ownFile, pushed, received, unlessBreaks, withOpenFile, written}
 use Rattle.machine.specs.GoodArea.{isOpenIn}
 use Rattle.machine.specs.Stack.{push, pushString}
 use Rattle.machine.specs.State.{Local, isLive, isRunning, processAt, withFile, withLocal}
@@ -60,14 +61,22 @@ module _ (k : Kernel) (slot : ℕ) (disc : List ℕ) where
 
 -- ---- files as a process has them open
 -- one of the directory, from its start
-entry-opened : (disc : List ℕ) (i n s : ℕ) → i < fileCount disc → entryAt disc i .start ≡ s → entryAt disc i .len ≡ n → 1 ≤ n → Opened (files disc) (opened (runFrom s n))
-entry-opened disc i n s h e m some = record { some = λ z. omega arith; offset = omega arith; listed = any-at (isOpenIn f) (files disc) i (entryAt disc 0) (omega (arith, tab-length (entryAt disc) (fileCount disc))) here }
+entry-opened : (disc : List ℕ) (i n s : ℕ) → i < fileCount disc → entryAt disc i .start ≡ s → entryAt disc i .len ≡ n → 1 ≤ n
+    → Opened (files disc) (opened (runFrom s n))
+entry-opened disc i n s h e m some =
+    record {
+      some = λ z. omega arith;
+      offset = omega arith;
+      listed =
+          any-at (isOpenIn f) (files disc) i (entryAt disc 0) (omega (arith, tab-length (entryAt disc) (fileCount disc))) here;
+    }
   where
     f : OpenFile
     f = opened (runFrom s n)
 
     here : isOpenIn f (getD (files disc) i (entryAt disc 0)) ≡ true
-    here = subst⁻¹ (λ (d : Entry). isOpenIn f d ≡ true) (tab-at (entryAt disc) (fileCount disc) i (entryAt disc 0) h) (is-open-in f (entryAt disc i) (record { start = sym e; len = sym m }))
+    here = subst⁻¹ (λ (d : Entry). isOpenIn f d ≡ true) (tab-at (entryAt disc) (fileCount disc) i (entryAt disc 0) h)
+        (is-open-in f (entryAt disc i) (record { start = sym e; len = sym m }))
 
 -- a file that is open has its run in the directory
 opened-of : (es : List Entry) (f : OpenFile) → GoodFile es f → eqb (f .len) 0 ≡ false → Opened es f
@@ -78,7 +87,8 @@ opened-of es f (inr o) e = o
 advanced-opened : (es : List Entry) (f : OpenFile) (n : ℕ) → Opened es f → f .offset + n ≤ f .len → Opened es (advanced f n)
 advanced-opened es f n o h = record { some = o .some; offset = h; listed = o .listed }
 
-module _ {k : Kernel} {disc : List ℕ} (good : GoodState k disc) (slot : ℕ) (running : isRunning (processAt k slot) ≡ true) (name : List ℕ) where
+module _ {k : Kernel} {disc : List ℕ} (good : GoodState k disc) (slot : ℕ) (running : isRunning (processAt k slot) ≡ true)
+    (name : List ℕ) where
   abbrev p : Process
   p = processAt k slot
 
@@ -106,7 +116,8 @@ module _ {k : Kernel} {disc : List ℕ} (good : GoodState k disc) (slot : ℕ) (
           acts k (enters title n s a refl refl)
           (moves (withFile (withLocal p l) (opened (runFrom s n)))
           (goes-on good slot live (entered disc title n s) l (opened (runFrom s n)) fits
-          (inr (entry-opened (entered disc title n s) (fileCount disc) n s (omega (arith, entered-count n s (room a))) (rw (entered-new n s (room a))) (rw (entered-new n s (room a))) (a .some))))
+          (inr (entry-opened (entered disc title n s) (fileCount disc) n s (omega (arith, entered-count n s (room a)))
+          (rw (entered-new n s (room a))) (rw (entered-new n s (room a))) (a .some))))
           refl)
 
       judged : (n : ℕ) (a : Admission) → admission disc title n ≡ a → Changes (createdAt k slot disc a title n l)
@@ -125,10 +136,12 @@ module _ {k : Kernel} {disc : List ℕ} (good : GoodState k disc) (slot : ℕ) (
       found Nowhere e = sized (sizeWithin (length disc - 161) size)
 
   -- ---- WRITE and the READs: "11 no open file; 12 past the file's end"
-  in-file : (n : ℕ) (rest : Answered) → (Opened (files disc) (p .file) → p .file .offset + n ≤ p .file .len → Changes rest) → Changes (withOpenFile k slot disc (inside k slot disc n rest))
+  in-file : (n : ℕ) (rest : Answered) → (Opened (files disc) (p .file) → p .file .offset + n ≤ p .file .len → Changes rest)
+      → Changes (withOpenFile k slot disc (inside k slot disc n rest))
   in-file n rest then = go (eqb (p .file .len) 0) refl (leb (p .file .offset + n) (p .file .len)) refl
     where
-      go : (closed : Bool) → eqb (p .file .len) 0 ≡ closed → (b : Bool) → leb (p .file .offset + n) (p .file .len) ≡ b → Changes (cond closed (breaks 11) (unlessBreaks b 12 rest))
+      go : (closed : Bool) → eqb (p .file .len) 0 ≡ closed → (b : Bool) → leb (p .file .offset + n) (p .file .len) ≡ b
+          → Changes (cond closed (breaks 11) (unlessBreaks b 12 rest))
       go true e b q = faulted 11
       go false e false q = faulted 12
       go false e true q = then (opened-of (files disc) (p .file) (live-record good slot live .file) e) (leb-true _ _ q)
@@ -145,7 +158,8 @@ module _ {k : Kernel} {disc : List ℕ} (good : GoodState k disc) (slot : ℕ) (
         instruction = byte;
         file = o;
         inside = h;
-        goes = goes-on good slot live disc l (advanced (p .file) (length bytes)) fits (inr (advanced-opened (files disc) (p .file) (length bytes) o h));
+        goes = goes-on good slot live disc l (advanced (p .file) (length bytes)) fits
+            (inr (advanced-opened (files disc) (p .file) (length bytes) o h));
         kernel = refl;
         disc-after = refl;
       })
@@ -154,10 +168,12 @@ module _ {k : Kernel} {disc : List ℕ} (good : GoodState k disc) (slot : ℕ) (
   write-change bytes l byte fits = in-file (length bytes) _ (written-change bytes l byte fits)
 
   -- fault 4 comes after 11 and 12
-  pub read-change : (stack : List ℕ) (n : ℕ) (l : Local) → Fits l → Changes (withOpenFile k slot disc (inside k slot disc n (received k slot disc stack n l)))
+  pub read-change : (stack : List ℕ) (n : ℕ) (l : Local) → Fits l
+      → Changes (withOpenFile k slot disc (inside k slot disc n (received k slot disc stack n l)))
   read-change stack n l fits = in-file n (received k slot disc stack n l) (λ o h. go o h (leb (length stack) 32) refl)
     where
       go : Opened (files disc) (p .file) → p .file .offset + n ≤ p .file .len → (b : Bool) → leb (length stack) 32 ≡ b
           → Changes (unlessBreaks b 4 (continues k slot disc (pushed l stack) (advanced (p .file) n) disc))
       go o h false e = faulted 4
-      go o h true e = continued (pushed l stack) (advanced (p .file) n) (record { stack = leb-true _ _ e; pc = fits .pc; loop = fits .loop }) (advanced-opened (files disc) (p .file) n o h)
+      go o h true e = continued (pushed l stack) (advanced (p .file) n)
+          (record { stack = leb-true _ _ e; pc = fits .pc; loop = fits .loop }) (advanced-opened (files disc) (p .file) n o h)

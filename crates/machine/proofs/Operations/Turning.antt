@@ -24,8 +24,10 @@ use Rattle.machine.proofs.Instructions.Sound.{Sound}
 abbrev pub SoundAt : Kernel → ℕ → ℕ → List ℕ → Type 0
 SoundAt k slot clock disc = Sound (programOf disc (processAt k slot)) (localOf (processAt k slot)) (effectAt k slot clock disc)
 
-module _ (k : Kernel) (slot clock : ℕ) (disc : List ℕ) (good : GoodState k disc) (running : isRunning (processAt k slot) ≡ true) (sound : SoundAt k slot clock disc) where
-  pub turn-change : Change (topString (localOf (processAt k slot) .stack)) slot k disc (turned k slot clock disc .kernel) (turned k slot clock disc .disc)
+module _ (k : Kernel) (slot clock : ℕ) (disc : List ℕ) (good : GoodState k disc) (running : isRunning (processAt k slot) ≡ true)
+    (sound : SoundAt k slot clock disc) where
+  pub turn-change : Change (topString (localOf (processAt k slot) .stack)) slot k disc (turned k slot clock disc .kernel)
+      (turned k slot clock disc .disc)
   unfolding turned carriedOut Sound
   turn-change = carried (effectAt k slot clock disc) sound
     where
@@ -35,9 +37,12 @@ module _ (k : Kernel) (slot clock : ℕ) (disc : List ℕ) (good : GoodState k d
       live : isLive (processAt k slot) ≡ true
       live = running-live (processAt k slot) running
 
-      carried : (e : Effect) → Sound (programOf disc (processAt k slot)) (localOf (processAt k slot)) e → Change name slot k disc (carriedOut k slot disc e .kernel) (carriedOut k slot disc e .disc)
+      carried : (e : Effect) → Sound (programOf disc (processAt k slot)) (localOf (processAt k slot)) e
+          → Change name slot k disc (carriedOut k slot disc e .kernel) (carriedOut k slot disc e .disc)
       carried (goes l out) s = moves-local good slot live name l (s .0)
-      carried (assigns letter kind bytes l) s = assigns-here good slot live name letter kind bytes l (s .0) (s .1) (assigned (k .variables) letter (processAt k slot .id) (valueOf kind bytes) .placing) refl
+      carried (assigns letter kind bytes l) s =
+          assigns-here good slot live name letter kind bytes l (s .0) (s .1)
+          (assigned (k .variables) letter (processAt k slot .id) (valueOf kind bytes) .placing) refl
       carried stops s = ends-here good slot live name 0
       carried (faults n) s = ends-here good slot live name n
       carried (asks r) s = answer-change good slot running name refl r s
@@ -55,9 +60,12 @@ module _ (k : Kernel) (slot clock : ℕ) (disc : List ℕ) (good : GoodState k d
       answer-prints (carriesOn j after) = omega arith
       answer-prints (breaks n) = omega arith
 
-      carried : (e : Effect) → Sound (programOf disc (processAt k slot)) (localOf (processAt k slot)) e → length (carriedOut k slot disc e .out) ≤ 32
+      carried : (e : Effect) → Sound (programOf disc (processAt k slot)) (localOf (processAt k slot)) e
+          → length (carriedOut k slot disc e .out) ≤ 32
       carried (goes l out) s = s .1
-      carried (assigns letter kind bytes l) s = set-prints (assigned (k .variables) letter (processAt k slot .id) (valueOf kind bytes) .placing) (assigned (k .variables) letter (processAt k slot .id) (valueOf kind bytes) .variables) l
+      carried (assigns letter kind bytes l) s =
+          set-prints (assigned (k .variables) letter (processAt k slot .id) (valueOf kind bytes) .placing)
+          (assigned (k .variables) letter (processAt k slot .id) (valueOf kind bytes) .variables) l
       carried stops s = omega arith
       carried (faults n) s = omega arith
       carried (asks r) s = answer-prints (answered k slot disc r)

@@ -1,6 +1,6 @@
--- What one call on good buffers does to kernel state and disc, seen from a process: nothing, something outside every process, something one process
--- does alone, or the turn of one process. What follows for every other process is stated here without any supposition; only its program's bytes
--- need that no write goes into them.
+-- What one call on good buffers does to kernel state and disc, seen from a process: nothing, something outside every process, something one
+-- process does alone, or the turn of one process. What follows for every other process is stated here without any supposition; only its
+-- program's bytes need that no write goes into them.
 use Prim.Native.Nat.{ℕ}
 use mathlib.Core.Path.{_≡_, refl, sym, ap, subst⁻¹, _∙_}
 use mathlib.Core.Bool.{Bool, true, false, _&&_, not}
@@ -17,7 +17,8 @@ use Rattle.store.specs.File.{unless}
 use Rattle.store.proofs.Calls.{store-cases}
 use Rattle.store.proofs.Lookups.{lookup-at}
 use Rattle.variable.specs.Table.{owned}
-use Rattle.machine.specs.Answer.{Answer, Buffers, Call, store, retrieve, erase, run, files, freeSpace, list, command, turn, round, answer, commandAnswer, eraseAt, onDisc, refused, runAt}
+use Rattle.machine.specs.Answer.{Answer, Buffers, Call, store, retrieve, erase, run, files, freeSpace, list, command, turn, round}
+use Rattle.machine.specs.Answer.{answer, commandAnswer, eraseAt, onDisc, refused, runAt}
 use Rattle.machine.specs.Area.{kernelBytes, kernelOf}
 use Rattle.machine.specs.Isolation.{startName}
 use Rattle.machine.specs.Operations.{Command, Commanded, becomes, refused as declined, commanded, inUse, listText}
@@ -28,7 +29,8 @@ use Rattle.machine.specs.Trace.{Storage, lending}
 use Rattle.machine.specs.Turn.{programOf}
 use Rattle.machine.specs.declared.Kernel.{Kernel}
 use Rattle.machine.proofs.Changes.Change.{GoodState, Outside, stores, erases, begins, Own, Change}
-use Rattle.machine.proofs.Kept.ChangeKept.{NoWriteInto, Untouched, change-begun, change-gone, change-program, change-untouched, gone-after}
+use Rattle.machine.proofs.Kept.ChangeKept.{NoWriteInto, Untouched, change-begun, change-gone, change-program, change-untouched}
+use Rattle.machine.proofs.Kept.ChangeKept.{gone-after}
 use Rattle.machine.proofs.Demands.GoodCalls.{good-back, on-good, passes-good, turn-good, turn-is-change}
 use Rattle.machine.proofs.Kept.OwnKept.{own-good}
 use Rattle.machine.proofs.Kept.OwnSpared.{own-none, own-process, own-variables}
@@ -82,8 +84,10 @@ isRound (round clock) = true
 pub data Effects (s : Storage) (k j : Kernel) (after : List ℕ) : Call → Type 0 where
   none : {c : Call} → j ≡ k → after ≡ s .disc → Effects s k j after c
   outside : {c : Call} → Outside (startName c s) k (s .disc) j after → Effects s k j after c
-  alone : {c : Command} {id : ℕ} (w : ℕ) → isLive (processAt k w) ≡ true → slotOf k id ≡ At w → Own w k (s .disc) j → after ≡ s .disc → Effects s k j after (command c id)
-  takes : {slot clock : ℕ} → isRunning (processAt k slot) ≡ true → Change (startName (turn slot clock) s) slot k (s .disc) j after → Effects s k j after (turn slot clock)
+  alone : {c : Command} {id : ℕ} (w : ℕ) → isLive (processAt k w) ≡ true → slotOf k id ≡ At w → Own w k (s .disc) j → after ≡ s .disc
+      → Effects s k j after (command c id)
+  takes : {slot clock : ℕ} → isRunning (processAt k slot) ≡ true → Change (startName (turn slot clock) s) slot k (s .disc) j after
+      → Effects s k j after (turn slot clock)
 
 module _ (s : Storage) (out : List ℕ) (passes : Passes (s .disc) (s .area)) where
   abbrev k : Kernel
@@ -99,7 +103,8 @@ module _ (s : Storage) (out : List ℕ) (passes : Passes (s .disc) (s .area)) wh
   good = passes-good (s .disc) (s .area) passes
 
   -- a state that is written is read back
-  read-back : (c : Call) (j : Kernel) (after : List ℕ) → GoodState j after → Effects s k j after c → Effects s k (kernelOf (kernelBytes j)) after c
+  read-back : (c : Call) (j : Kernel) (after : List ℕ) → GoodState j after → Effects s k j after c
+      → Effects s k (kernelOf (kernelBytes j)) after c
   read-back c j after g e = subst⁻¹ (λ (h : Kernel). Effects s k h after c) (good-back j after g) e
 
   tried : (c : Call) (test : Bool) (n : ℕ) (rest : Answer) → (test ≡ true → Leaves c rest) → Leaves c (unless test (refused n b) rest)
@@ -109,7 +114,8 @@ module _ (s : Storage) (out : List ℕ) (passes : Passes (s .disc) (s .area)) wh
   store-effects : (name bytes : List ℕ) → Leaves (store name bytes) (answer (store name bytes) b)
   unfolding answer
   store-effects name bytes =
-      store-cases (s .disc) name bytes (λ u. Leaves (store name bytes) (onDisc u b)) (λ r d. none refl refl) (λ at l g a. outside (stores name bytes at a refl refl))
+      store-cases (s .disc) name bytes (λ u. Leaves (store name bytes) (onDisc u b)) (λ r d. none refl refl)
+      (λ at l g a. outside (stores name bytes at a refl refl))
 
   erase-effects : (name : List ℕ) → Leaves (erase name) (answer (erase name) b)
   unfolding answer
@@ -139,7 +145,8 @@ module _ (s : Storage) (out : List ℕ) (passes : Passes (s .disc) (s .area)) wh
       given (declined n) e = none refl refl
       given (becomes j) e =
           let o = command-own good c id j e in
-          read-back (command c id) j (s .disc) (own-good (o .0) k (s .disc) j good (o .2)) (alone (o .0) (slot-at k id (o .0) (o .1) .1) (o .1) (o .2) refl)
+          read-back (command c id) j (s .disc) (own-good (o .0) k (s .disc) j good (o .2))
+          (alone (o .0) (slot-at k id (o .0) (o .1) .1) (o .1) (o .2) refl)
 
   list-effects : Leaves list (answer list b)
   unfolding answer
@@ -154,7 +161,8 @@ module _ (s : Storage) (out : List ℕ) (passes : Passes (s .disc) (s .area)) wh
       let h : isRunning (processAt k slot) ≡ true = and-right (ltb slot 10) _ may in
       read-back (turn slot clock) _ _ (turn-good k slot clock (s .disc) good h) (takes h (turn-is-change k slot clock (s .disc) good h)))
 
-  pub call-effects : (c : Call) → isRound c ≡ false → Effects s (kernelOf (s .area)) (kernelOf (answer c (lending s out) .area)) (answer c (lending s out) .disc) c
+  pub call-effects : (c : Call) → isRound c ≡ false
+      → Effects s (kernelOf (s .area)) (kernelOf (answer c (lending s out) .area)) (answer c (lending s out) .disc) c
   unfolding answer
   call-effects (store name bytes) h = store-effects name bytes
   call-effects (retrieve name) h = none refl refl
@@ -184,17 +192,24 @@ module _ {s : Storage} {k j : Kernel} {after : List ℕ} (g : GoodState k (s .di
   effects-gone i c gone (alone w l e x f) = gone-after i gone x
   effects-gone i c gone (takes r x) = change-gone _ _ k (s .disc) j after g i gone x
 
-  pub effects-begun : (i : ℕ) (c : Call) → slotOf k i ≡ Nowhere → Effects s k j after c → (slotOf j i ≡ Nowhere) ⊎ Begun (startName c s) i (s .disc) j after
+  pub effects-begun : (i : ℕ) (c : Call) → slotOf k i ≡ Nowhere → Effects s k j after c → (slotOf j i ≡ Nowhere)
+      ⊎ Begun (startName c s) i (s .disc) j after
   effects-begun i c h (none e f) = inl (subst⁻¹ (λ (x : Kernel). slotOf x i ≡ Nowhere) e h)
   effects-begun i c h (outside o) = outside-begun i g h o
   effects-begun i c h (alone w l e x f) = inl (own-none i h x)
   effects-begun i (turn slot clock) h (takes r x) = change-begun _ slot k (s .disc) j after g (running-live (processAt k slot) r) i h x
 
   -- the record and the variables of the process in slot own are left as they are
-  pub effects-untouched : (own : ℕ) → isLive (processAt k own) ≡ true → (c : Call) → Elsewhere c own k → Effects s k j after c → Untouched own k j
+  pub effects-untouched : (own : ℕ) → isLive (processAt k own) ≡ true → (c : Call) → Elsewhere c own k → Effects s k j after c
+      → Untouched own k j
   effects-untouched own live c away (none e f) =
-      record { process = ap (λ (x : Kernel). processAt x own) e; variables = ap (λ (x : Kernel). owned (x .variables) (processAt k own .id)) e }
-  effects-untouched own live c away (outside o) = let u = outside-spares g own live o in record { process = u .process; variables = u .variables }
+      record {
+        process = ap (λ (x : Kernel). processAt x own) e;
+        variables =
+            ap (λ (x : Kernel). owned (x .variables) (processAt k own .id)) e;
+      }
+  effects-untouched own live c away (outside o) = let u = outside-spares g own live o in
+      record { process = u .process; variables = u .variables }
   effects-untouched own live (command c id) away (alone w l e x f) =
       let other : own ≡ w → ⊥ = λ q. away .commands (e ∙ ap At (sym q)) in
       record { process = own-process own other x; variables = own-variables own g live other x }

@@ -22,18 +22,22 @@ pub record Genuine (e : Event) : Type 0 where
 unfoldable pub Chain : Kernel → List ℕ → List Event → Type 0
 Chain k disc [] = Unit {0}
 Chain k disc (e ∷ es) =
-    (kernelOf (e .before .area) ≡ k) × (e .before .disc ≡ disc) × Passes (e .before .disc) (e .before .area) × Genuine e × Chain (kernelOf (e .after .area)) (e .after .disc) es
+    (kernelOf (e .before .area) ≡ k) × (e .before .disc ≡ disc) × Passes (e .before .disc) (e .before .area) × Genuine e
+    × Chain (kernelOf (e .after .area)) (e .after .disc) es
 
 -- the events of a chain, and the state they end in
 unfoldable pub Leads : Kernel → List ℕ → List Event → Kernel → List ℕ → Type 0
 Leads k disc [] j after = (j ≡ k) × (after ≡ disc)
 Leads k disc (e ∷ es) j after =
-    (kernelOf (e .before .area) ≡ k) × (e .before .disc ≡ disc) × Passes (e .before .disc) (e .before .area) × Genuine e × Leads (kernelOf (e .after .area)) (e .after .disc) es j after
+    (kernelOf (e .before .area) ≡ k) × (e .before .disc ≡ disc) × Passes (e .before .disc) (e .before .area) × Genuine e
+    × Leads (kernelOf (e .after .area)) (e .after .disc) es j after
 
-pub leads-on : (k : Kernel) (disc : List ℕ) (es rest : List Event) (j : Kernel) (after : List ℕ) → Leads k disc es j after → Chain j after rest → Chain k disc (es ++ rest)
+pub leads-on : (k : Kernel) (disc : List ℕ) (es rest : List Event) (j : Kernel) (after : List ℕ) → Leads k disc es j after
+    → Chain j after rest → Chain k disc (es ++ rest)
 unfolding Leads Chain
 leads-on k disc [] rest j after l c = subst (λ (h : Kernel). Chain h disc rest) (l .0) (subst (λ (d : List ℕ). Chain j d rest) (l .1) c)
-leads-on k disc (e ∷ es) rest j after l c = (l .0, l .1, l .2, l .3, leads-on (kernelOf (e .after .area)) (e .after .disc) es rest j after (l .4) c)
+leads-on k disc (e ∷ es) rest j after l c =
+    (l .0, l .1, l .2, l .3, leads-on (kernelOf (e .after .area)) (e .after .disc) es rest j after (l .4) c)
 
 -- ---- one call
 module _ (s : Storage) (out : List ℕ) (passes : Passes (s .disc) (s .area)) where
@@ -41,7 +45,8 @@ module _ (s : Storage) (out : List ℕ) (passes : Passes (s .disc) (s .area)) wh
   k = kernelOf (s .area)
 
   pub one-event : (c : Call) (text : List ℕ) → Reports c out (answer c (lending s out)) text
-      → Leads k (s .disc) (event c s (answer c (lending s out)) text ∷ []) (kernelOf (answer c (lending s out) .area)) (answer c (lending s out) .disc)
+      → Leads k (s .disc) (event c s (answer c (lending s out)) text ∷ []) (kernelOf (answer c (lending s out) .area))
+      (answer c (lending s out) .disc)
   unfolding Leads
   one-event c text r = (refl, refl, passes, record { out = out; same = refl; reports = r }, (refl, refl))
 
@@ -55,13 +60,16 @@ module _ (s : Storage) (out : List ℕ) (passes : Passes (s .disc) (s .area)) wh
   short-round clock h = rw (passes .sizes, passes .disc-good, passes .area-good, h)
 
   pub turn-leads : (slot clock : ℕ)
-      → Leads k (s .disc) (onlyIf (leb 32 (length out)) (event (turn slot clock) s (answer (turn slot clock) (lending s out)) (outputText (answer (turn slot clock) (lending s out)))))
+      → Leads k (s .disc) (onlyIf (leb 32 (length out))
+      (event (turn slot clock) s (answer (turn slot clock) (lending s out)) (outputText (answer (turn slot clock) (lending s out)))))
       (kernelOf (answer (turn slot clock) (lending s out) .area)) (answer (turn slot clock) (lending s out) .disc)
   unfolding Leads
   turn-leads slot clock = go (leb 32 (length out)) refl
     where
       go : (f : Bool) → leb 32 (length out) ≡ f
-          → Leads k (s .disc) (onlyIf f (event (turn slot clock) s (answer (turn slot clock) (lending s out)) (outputText (answer (turn slot clock) (lending s out)))))
+          → Leads k (s .disc) (onlyIf f
+          (event (turn slot clock) s (answer (turn slot clock) (lending s out))
+          (outputText (answer (turn slot clock) (lending s out)))))
           (kernelOf (answer (turn slot clock) (lending s out) .area)) (answer (turn slot clock) (lending s out) .disc)
       go true h = one-event (turn slot clock) _ (record { turns = (h, refl); commands = tt; single = refl })
       go false h =

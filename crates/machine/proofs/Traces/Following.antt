@@ -1,5 +1,5 @@
--- A live process shows what the single process shows, and its own turn is the single process's. Nothing is supposed of its neighbours, nor of its
--- program: what a turn does is said for each effect that its instruction may have.
+-- A live process shows what the single process shows, and its own turn is the single process's. Nothing is supposed of its neighbours, nor
+-- of its program: what a turn does is said for each effect that its instruction may have.
 use Prim.Native.Nat.{ℕ, _-_, _<_}
 use mathlib.Core.Path.{_≡_, refl, ap, subst, subst⁻¹, _∙_}
 use mathlib.Core.Bool.{true}
@@ -35,7 +35,8 @@ pub record Holds (p : Process) (variables : List Cell) (s : Single) : Type 0 whe
   pub fault : p .fault ≡ s .fault
   pub cells : variables ≡ s .cells
 
-pub held-seen : {p : Process} {variables : List Cell} {s : Single} → Holds p variables s → (text : List ℕ) → seenIn p variables text (pos (length text)) ≡ seenOf s text
+pub held-seen : {p : Process} {variables : List Cell} {s : Single} → Holds p variables s → (text : List ℕ)
+    → seenIn p variables text (pos (length text)) ≡ seenOf s text
 held-seen h text =
     λ t. record {
       sp = h .sp t;
@@ -91,7 +92,8 @@ module _ (i : ℕ) (prog : List ℕ) (k : Kernel) (disc : List ℕ) (s : Single)
   own-effect clock = ap (carriedOut k (x .slot) disc) (λ t. exec (x .runs t) clock (held-local (x .holds) t) (own-cells t))
 
   -- the record goes on with this state, the variables are these
-  moved-holds : (q : Process) (l : Local) (cells : List Cell) (variables : List Cell) → q ≡ withLocal p l → variables ≡ cells → Holds q variables (advancedTo s l cells)
+  moved-holds : (q : Process) (l : Local) (cells : List Cell) (variables : List Cell) → q ≡ withLocal p l → variables ≡ cells
+      → Holds q variables (advancedTo s l cells)
   moved-holds q l cells variables e v =
       record {
         sp = ap (λ (r : Process). r .sp) e;
@@ -103,7 +105,8 @@ module _ (i : ℕ) (prog : List ℕ) (k : Kernel) (disc : List ℕ) (s : Single)
         cells = v;
       }
 
-  moved-follows : (j : Kernel) (l : Local) (cells : List Cell) → processAt j (x .slot) ≡ withLocal p l → owned (j .variables) i ≡ cells → Follows i prog j disc (advancedTo s l cells)
+  moved-follows : (j : Kernel) (l : Local) (cells : List Cell) → processAt j (x .slot) ≡ withLocal p l → owned (j .variables) i ≡ cells
+      → Follows i prog j disc (advancedTo s l cells)
   moved-follows j l cells e v =
       record {
         slot = x .slot;
@@ -113,16 +116,23 @@ module _ (i : ℕ) (prog : List ℕ) (k : Kernel) (disc : List ℕ) (s : Single)
         holds = moved-holds (processAt j (x .slot)) l cells (owned (j .variables) i) e v;
       }
 
-  moved-agrees : (j : Kernel) (l : Local) (cells : List Cell) (out : List ℕ) → processAt j (x .slot) ≡ withLocal p l → owned (j .variables) i ≡ cells
+  moved-agrees : (j : Kernel) (l : Local) (cells : List Cell) (out : List ℕ) → processAt j (x .slot) ≡ withLocal p l
+      → owned (j .variables) i ≡ cells
       → Agrees i prog (x .slot) s (record { kernel = j; disc = disc; out = out }) (did out (advancedTo s l cells))
   moved-agrees j l cells out e v =
       let f = moved-follows j l cells e v in
-      record { observed = ap seen (held-seen (moved-holds (processAt j (x .slot)) l cells (owned (j .variables) i) e v) out); tracked = on f }
+      record {
+        observed = ap seen (held-seen (moved-holds (processAt j (x .slot)) l cells (owned (j .variables) i) e v) out);
+        tracked =
+            on f;
+      }
 
-  pub own-goes : (l : Local) (out : List ℕ) → Agrees i prog (x .slot) s (carriedOut k (x .slot) disc (goes l out)) (singleEffect s (goes l out))
+  pub own-goes : (l : Local) (out : List ℕ)
+      → Agrees i prog (x .slot) s (carriedOut k (x .slot) disc (goes l out)) (singleEffect s (goes l out))
   unfolding carriedOut
   own-goes l out =
-      moved-agrees (withProcess k (x .slot) (withLocal p l)) l (s .cells) out (put-at k (x .slot) (withLocal p l) (x .live)) (x .holds .cells)
+      moved-agrees (withProcess k (x .slot) (withLocal p l)) l (s .cells) out (put-at k (x .slot) (withLocal p l) (x .live))
+      (x .holds .cells)
 
   -- Document 01: "STOP, or a fault, ends it."
   pub own-ends : (fault : ℕ) → Agrees i prog (x .slot) s (finished k (x .slot) disc fault) (did [] (over fault))
@@ -132,7 +142,8 @@ module _ (i : ℕ) (prog : List ℕ) (k : Kernel) (disc : List ℕ) (s : Single)
         observed = ap seen
             ((λ t. seenIn (ended-process k (x .slot) fault (x .live) t) (owned (ended k (x .slot) fault .variables) i) [] (pos 0))
             ∙ ap (λ (v : List Cell). seenIn (endedProcess p fault) v [] (pos 0)) none);
-        tracked = off (subst (λ (id : ℕ). Gone id (ended k (x .slot) fault)) (x .named) (record { given = below; none = ended-gone k (x .slot) fault disc good (x .live) })) refl;
+        tracked = off (subst (λ (id : ℕ). Gone id (ended k (x .slot) fault)) (x .named)
+            (record { given = below; none = ended-gone k (x .slot) fault disc good (x .live) })) refl;
       }
     where
       below : p .id < k .next
@@ -150,7 +161,8 @@ module _ (i : ℕ) (prog : List ℕ) (k : Kernel) (disc : List ℕ) (s : Single)
         → owned (assigned (k .variables) name (p .id) (valueOf kind bytes) .variables) i ≡ assignedCells (s .cells) name kind bytes
     unfolding withCell
     set-cells a e =
-        subst (λ (id : ℕ). owned (assigned (k .variables) name (p .id) (valueOf kind bytes) .variables) id ≡ withCell (owned (k .variables) (p .id)) (newCell name (valueOf kind bytes)))
+        subst (λ (id : ℕ). owned (assigned (k .variables) name (p .id) (valueOf kind bytes) .variables) id ≡ withCell
+        (owned (k .variables) (p .id)) (newCell name (valueOf kind bytes)))
         (x .named) (set-variables k disc good name (p .id) (valueOf kind bytes) a (ap length value-bytes) e)
         ∙ (λ t. assignedCells (own-cells t) name kind (value-bytes t))
 
@@ -159,7 +171,9 @@ module _ (i : ℕ) (prog : List ℕ) (k : Kernel) (disc : List ℕ) (s : Single)
         → Agrees i prog (x .slot) s (carriedOut k (x .slot) disc (assigns name kind bytes l)) (singleEffect s (assigns name kind bytes l))
     unfolding carriedOut
     own-sets a e =
-        subst⁻¹ (λ (q : Placing). Agrees i prog (x .slot) s (setting k (x .slot) disc q (assigned (k .variables) name (p .id) (valueOf kind bytes) .variables) l) (singleEffect s (assigns name kind bytes l)))
+        subst⁻¹ (λ (q : Placing).
+        Agrees i prog (x .slot) s (setting k (x .slot) disc q (assigned (k .variables) name (p .id) (valueOf kind bytes) .variables) l)
+        (singleEffect s (assigns name kind bytes l)))
         e (moved-agrees _ l (assignedCells (s .cells) name kind bytes) [] (put-at k (x .slot) (withLocal p l) (x .live)) (set-cells a e))
 
   -- ---- suspend and resume
@@ -182,8 +196,10 @@ module _ (i : ℕ) (prog : List ℕ) (k : Kernel) (disc : List ℕ) (s : Single)
       put : processAt (withProcess k (x .slot) (withState p state)) (x .slot) ≡ withState p state
       put = put-at k (x .slot) (withState p state) (x .live)
 
-      held : Holds (processAt (withProcess k (x .slot) (withState p state)) (x .slot)) (owned (k .variables) i) (record { state = state; fault = s .fault; loc = s .loc; cells = s .cells })
+      held : Holds (processAt (withProcess k (x .slot) (withState p state)) (x .slot)) (owned (k .variables) i)
+          (record { state = state; fault = s .fault; loc = s .loc; cells = s .cells })
       held =
           let h = x .holds in
-          subst⁻¹ (λ (r : Process). Holds r (owned (k .variables) i) (record { state = state; fault = s .fault; loc = s .loc; cells = s .cells })) put
+          subst⁻¹ (λ (r : Process).
+          Holds r (owned (k .variables) i) (record { state = state; fault = s .fault; loc = s .loc; cells = s .cells })) put
           (record { sp = h .sp; stack = h .stack; pc = h .pc; loop = h .loop; state = refl; fault = h .fault; cells = h .cells })

@@ -38,7 +38,8 @@ given-is i e h = go (placeIn (e .before) i) refl (placeIn (e .after) i) refl h
     go (At s) p g q t = absurd (true-not-false t refl)
 
 -- "Start: running, no loop, no variables, the rest 0."
-begun-follows : (name : List ℕ) (i : ℕ) (disc : List ℕ) (j : Kernel) (after prog : List ℕ) → Begun name i disc j after → fileNamed disc name ≡ prog → Follows i prog j after fresh
+begun-follows : (name : List ℕ) (i : ℕ) (disc : List ℕ) (j : Kernel) (after prog : List ℕ) → Begun name i disc j after
+    → fileNamed disc name ≡ prog → Follows i prog j after fresh
 begun-follows name i disc j after prog b program =
     record {
       slot = b .slot;
@@ -54,7 +55,8 @@ pub begins : (i : ℕ) (prog : List ℕ) (e : Event) → Genuine e → Passes (e
     → Tracks i prog (kernelOf (e .after .area)) (e .after .disc) fresh
 begins i prog e g passes gives program =
     subst⁻¹ (λ (f : Event). Tracks i prog (kernelOf (f .after .area)) (f .after .disc) fresh) (g .same)
-    (go (effects-begun (passes-good (s .disc) (s .area) passes) i (e .call) (sym (place-is-slot s i) ∙ known .0) (call-effects s (g .out) passes (e .call) (g .reports .single))))
+    (go (effects-begun (passes-good (s .disc) (s .area) passes) i (e .call) (sym (place-is-slot s i)
+    ∙ known .0) (call-effects s (g .out) passes (e .call) (g .reports .single))))
   where
     s : Storage
     s = e .before
@@ -65,6 +67,8 @@ begins i prog e g passes gives program =
     known : (placeIn (e .before) i ≡ Nowhere) × (placeIn (e .after) i ≡ Nowhere → ⊥)
     known = given-is i e gives
 
-    go : (slotOf (kernelOf (a .area)) i ≡ Nowhere) ⊎ Begun (startName (e .call) s) i (s .disc) (kernelOf (a .area)) (a .disc) → Tracks i prog (kernelOf (a .area)) (a .disc) fresh
-    go (inl absent) = absurd (known .1 (subst⁻¹ (λ (f : Event). placeIn (f .after) i ≡ Nowhere) (g .same) (place-is-slot (storageOf a) i ∙ absent)))
+    go : (slotOf (kernelOf (a .area)) i ≡ Nowhere) ⊎ Begun (startName (e .call) s) i (s .disc) (kernelOf (a .area)) (a .disc)
+        → Tracks i prog (kernelOf (a .area)) (a .disc) fresh
+    go (inl absent) = absurd
+        (known .1 (subst⁻¹ (λ (f : Event). placeIn (f .after) i ≡ Nowhere) (g .same) (place-is-slot (storageOf a) i ∙ absent)))
     go (inr b) = on (begun-follows (startName (e .call) s) i (s .disc) (kernelOf (a .area)) (a .disc) prog b program)

@@ -10,7 +10,8 @@ use Rattle.buffer.proofs.Bools.{and-left, and-right, true-not-false}
 use Rattle.machine.specs.Area.{kernelOf}
 use Rattle.machine.specs.Isolation.{AsSingle, Isolation, Started}
 use Rattle.machine.specs.Suppositions.{Undisturbed, disturbedBy}
-use Rattle.machine.specs.Observation.{Observation, declined, seen, Watched, inputOf, inputs, isSeen, next, notRefused, observations, observedBy, observedOf, placeIn, singleRun, watch, watchedIf}
+use Rattle.machine.specs.Observation.{Observation, declined, seen, Watched, inputOf, inputs, isSeen, next, notRefused, observations}
+use Rattle.machine.specs.Observation.{observedBy, observedOf, placeIn, singleRun, watch, watchedIf}
 use Rattle.machine.specs.Refusals.{Passes}
 use Rattle.machine.specs.Single.{Input, Response, did, refusedBy, Single, fresh, single}
 use Rattle.machine.specs.Trace.{Event, Invocation, Storage, events}
@@ -22,13 +23,16 @@ use Rattle.machine.proofs.Traces.FreshStart.{begins}
 use Rattle.machine.proofs.Traces.AnyBuffers.{Linked, from-start, linked-of}
 
 -- ---- one run: what is observed along a chain is what the single process shows
-genuine-step : (i : ℕ) (prog : List ℕ) (q : Single) (e : Event) → Genuine e → Passes (e .before .disc) (e .before .area) → Tracks i prog (kernelOf (e .before .area)) (e .before .disc) q
+genuine-step : (i : ℕ) (prog : List ℕ) (q : Single) (e : Event) → Genuine e → Passes (e .before .disc) (e .before .area)
+    → Tracks i prog (kernelOf (e .before .area)) (e .before .disc) q
     → disturbedBy i (e .call) e ≡ false → Keeps i prog q e (inputOf i (e .call) (placeIn (e .before) i))
 genuine-step i prog q e g passes t h =
     subst⁻¹ (λ (f : Event). Keeps i prog q f (inputOf i (e .call) (placeIn (e .before) i))) (g .same)
-    (step i prog (e .before) (g .out) q passes (e .call) (e .text) (g .reports) t (subst (λ (f : Event). disturbedBy i (e .call) f ≡ false) (g .same) h))
+    (step i prog (e .before) (g .out) q passes (e .call) (e .text) (g .reports) t
+    (subst (λ (f : Event). disturbedBy i (e .call) f ≡ false) (g .same) h))
 
-follow : (i : ℕ) (prog : List ℕ) (k : Kernel) (disc : List ℕ) (q : Single) (es : List Event) → Chain k disc es → Tracks i prog k disc q → Undisturbed i es
+follow : (i : ℕ) (prog : List ℕ) (k : Kernel) (disc : List ℕ) (q : Single) (es : List Event) → Chain k disc es → Tracks i prog k disc q
+    → Undisturbed i es
     → observations (watch i es) ≡ singleRun prog q (inputs (watch i es))
 unfolding Chain watch singleRun all
 follow i prog k disc q [] c t h = refl
@@ -52,10 +56,13 @@ follow i prog k disc q (e ∷ es) c t h =
     pick (some x) keeps later = λ z. keeps .0 z ∷ later (next (single prog q x) q) (keeps .1) z
 
 -- ---- what is refused changes nothing, so the single process may be fed what is not refused
-only-done : (prog : List ℕ) (q : Single) (l : List Watched) → observations l ≡ singleRun prog q (inputs l) → observations (notRefused l) ≡ singleRun prog q (inputs (notRefused l))
+only-done : (prog : List ℕ) (q : Single) (l : List Watched) → observations l ≡ singleRun prog q (inputs l)
+    → observations (notRefused l) ≡ singleRun prog q (inputs (notRefused l))
 unfolding singleRun keep
 only-done prog q [] e = refl
-only-done prog q (w ∷ l) e = pick (w .observation) refl (single prog q (w .input)) refl (ap headOf e) (only-done prog (next (single prog q (w .input)) q) l (ap tailOf e))
+only-done prog q (w ∷ l) e =
+    pick (w .observation) refl (single prog q (w .input)) refl (ap headOf e)
+    (only-done prog (next (single prog q (w .input)) q) l (ap tailOf e))
   where
     headOf : List Observation → Observation
     headOf [] = w .observation
@@ -65,11 +72,14 @@ only-done prog q (w ∷ l) e = pick (w .observation) refl (single prog q (w .inp
     tailOf [] = []
     tailOf (o ∷ r) = r
 
-    pick : (o : Observation) → w .observation ≡ o → (r : Response) → single prog q (w .input) ≡ r → w .observation ≡ observedOf (single prog q (w .input))
+    pick : (o : Observation) → w .observation ≡ o → (r : Response) → single prog q (w .input) ≡ r
+        → w .observation ≡ observedOf (single prog q (w .input))
         → observations (notRefused l) ≡ singleRun prog (next (single prog q (w .input)) q) (inputs (notRefused l))
         → observations (consIf (isSeen o) w (notRefused l)) ≡ singleRun prog q (inputs (consIf (isSeen o) w (notRefused l)))
     pick (seen x) d r f h rest = λ z. h z ∷ rest z
-    pick (declined n) d (refusedBy m) f h rest = subst (λ (s : Single). observations (notRefused l) ≡ singleRun prog s (inputs (notRefused l))) (ap (λ (r : Response). next r q) f) rest
+    pick (declined n) d (refusedBy m) f h rest =
+        subst (λ (s : Single). observations (notRefused l) ≡ singleRun prog s (inputs (notRefused l)))
+        (ap (λ (r : Response). next r q) f) rest
     pick (declined n) d (did text s) f h rest = absurd (true-not-false refl (ap isSeen (sym (ap observedOf f) ∙ sym h ∙ d)))
 
 -- a prefix of the events
@@ -79,12 +89,15 @@ chain-prefix k disc [] later c = tt
 chain-prefix k disc (e ∷ es) later c = (c .0, c .1, c .2, c .3, chain-prefix (kernelOf (e .after .area)) (e .after .disc) es later (c .4))
 
 -- ---- one run, and two
-pub one-run : (s : Storage) (calls : List Invocation) (i : ℕ) (prog : List ℕ) (rest : List Event) → Started i prog (events calls s) rest → Undisturbed i rest → AsSingle prog (watch i rest)
+pub one-run : (s : Storage) (calls : List Invocation) (i : ℕ) (prog : List ℕ) (rest : List Event) → Started i prog (events calls s) rest
+    → Undisturbed i rest → AsSingle prog (watch i rest)
 unfolding Chain
 one-run s calls i prog rest x h =
     let e : Event = x .start in
     let c = from-start i (x .earlier) e (rest ++ x .later) (x .gives) (subst Linked (x .splits) (linked-of calls s)) in
-    follow i prog (kernelOf (e .after .area)) (e .after .disc) fresh rest (chain-prefix (kernelOf (e .after .area)) (e .after .disc) rest (x .later) (c .4)) (begins i prog e (c .3) (c .2) (x .gives) (x .program)) h
+    follow i prog (kernelOf (e .after .area)) (e .after .disc) fresh rest
+    (chain-prefix (kernelOf (e .after .area)) (e .after .disc) rest (x .later) (c .4))
+    (begins i prog e (c .3) (c .2) (x .gives) (x .program)) h
 
 pub isolated : Isolation
 unfolding Isolation

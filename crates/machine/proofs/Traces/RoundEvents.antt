@@ -20,9 +20,12 @@ use Rattle.machine.proofs.Demands.Rounds.{round-done, round-passed}
 
 -- "A done round stands for its turns in order, each printing its part of the output."
 pub round-events : (s : Storage) (out : List ℕ) (clock n : ℕ) → Whole (s .area) → answer (round clock) (lending s out) .number ≡ pos n
-    → IsItsEvents s out (answer (round clock) (lending s out)) (turnEvents tenSlots clock s (outputText (answer (round clock) (lending s out))))
+    → IsItsEvents s out (answer (round clock) (lending s out))
+    (turnEvents tenSlots clock s (outputText (answer (round clock) (lending s out))))
 unfolding all
-round-events s out clock n whole done = subst⁻¹ (λ (a : Answer). IsItsEvents s out a (turnEvents tenSlots clock s (outputText a))) (round-done b clock (passed .0) (passed .1)) of-turns
+round-events s out clock n whole done =
+    subst⁻¹ (λ (a : Answer). IsItsEvents s out a (turnEvents tenSlots clock s (outputText a)))
+    (round-done b clock (passed .0) (passed .1)) of-turns
   where
     b : Buffers
     b = lending s out
@@ -40,4 +43,9 @@ round-events s out clock n whole done = subst⁻¹ (λ (a : Answer). IsItsEvents
     p = turn-parts tenSlots clock s (outputText (turnedAnswer u b)) refl (passed .0) (take-at (u .out) _ (length (u .out)) refl)
 
     of-turns : IsItsEvents s out (turnedAnswer u b) es
-    of-turns = (λ z. record { disc = sym (p .disc) z; area = sym (p .area whole) z }, ap pos (sym (p .sum)), ap (overwrite out 0) (sym (p .texts)), p .parts)
+    of-turns = (
+      λ z. record { disc = sym (p .disc) z; area = sym (p .area whole) z },
+      ap pos (sym (p .sum)),
+      ap (overwrite out 0) (sym (p .texts)),
+      p .parts,
+    )

@@ -14,7 +14,8 @@ use Rattle.machine.specs.Area.{Whole, kernelBytes, kernelOf}
 use Rattle.machine.specs.Operations.{turnIfRunning, turnsOf}
 use Rattle.machine.specs.Refusals.{Passes}
 use Rattle.machine.specs.State.{isRunning, processAt}
-use Rattle.machine.specs.Trace.{Event, PrintsItsPart, Storage, counts, event, lastStorage, lending, storageOf, outputText, total, turnEvents}
+use Rattle.machine.specs.Trace.{Event, PrintsItsPart, Storage, counts, event, lastStorage, lending, storageOf, outputText, total}
+use Rattle.machine.specs.Trace.{turnEvents}
 use Rattle.machine.specs.Turn.{Turned, turned}
 use Rattle.machine.specs.declared.Kernel.{Kernel}
 use Rattle.machine.proofs.Demands.GoodCalls.{good-back, good-kept, passes-good, turn-good}
@@ -43,7 +44,8 @@ taken s slot clock low passes = go (isRunning (processAt k slot)) refl
     t : Turned
     t = turned k slot clock (s .disc)
 
-    go : (f : Bool) → isRunning (processAt k slot) ≡ f → Taken s slot clock (answer (turn slot clock) (lent32 s)) (cond f t (record { kernel = k; disc = s .disc; out = [] }))
+    go : (f : Bool) → isRunning (processAt k slot) ≡ f
+        → Taken s slot clock (answer (turn slot clock) (lent32 s)) (cond f t (record { kernel = k; disc = s .disc; out = [] }))
     go true h =
         subst⁻¹ (λ (a : Answer). Taken s slot clock a t) (turn-running (lent32 s) slot clock passes refl low h)
         (record {
@@ -53,10 +55,12 @@ taken s slot clock low passes = go (isRunning (processAt k slot)) refl
           text = take-at (t .out) _ (length (t .out)) refl;
         })
     go false h =
-        subst⁻¹ (λ (a : Answer). Taken s slot clock a (record { kernel = k; disc = s .disc; out = [] })) (turn-not-running (lent32 s) slot clock passes refl low h)
+        subst⁻¹ (λ (a : Answer). Taken s slot clock a (record { kernel = k; disc = s .disc; out = [] }))
+        (turn-not-running (lent32 s) slot clock passes refl low h)
         (record { kernel = refl; disc = refl; count = refl; text = refl })
 
-whole-kept : (s : Storage) (slot clock : ℕ) → ltb slot 10 ≡ true → Passes (s .disc) (s .area) → Whole (s .area) → Whole (answer (turn slot clock) (lent32 s) .area)
+whole-kept : (s : Storage) (slot clock : ℕ) → ltb slot 10 ≡ true → Passes (s .disc) (s .area) → Whole (s .area)
+    → Whole (answer (turn slot clock) (lent32 s) .area)
 whole-kept s slot clock low passes whole = go (isRunning (processAt k slot)) refl
   where
     k : Kernel
@@ -80,11 +84,15 @@ pub record Parts (s : Storage) (es : List Event) (u : Turned) : Type 0 where
 
 -- text is what these turns print, joined
 pub turn-parts : (l : List ℕ) (clock : ℕ) (s : Storage) (text : List ℕ) → all (λ slot. ltb slot 10) l ≡ true → Passes (s .disc) (s .area)
-    → text ≡ turnsOf l (kernelOf (s .area)) clock (s .disc) .out → Parts s (turnEvents l clock s text) (turnsOf l (kernelOf (s .area)) clock (s .disc))
+    → text ≡ turnsOf l (kernelOf (s .area)) clock (s .disc) .out
+    → Parts s (turnEvents l clock s text) (turnsOf l (kernelOf (s .area)) clock (s .disc))
 unfolding turnEvents turnsOf Leads all flat total lastStorage PrintsItsPart
-turn-parts [] clock s text low passes e = record { leads = (refl, refl); texts = refl; sum = refl; parts = tt; disc = refl; area = λ whole. sym whole }
+turn-parts [] clock s text low passes e =
+    record { leads = (refl, refl); texts = refl; sum = refl; parts = tt; disc = refl; area = λ whole. sym whole }
 turn-parts (slot ∷ l) clock s text low passes e =
-    go (isRunning (processAt k slot)) refl (turn-parts l clock (storageOf a) (drop (counts (a .number)) text) (and-right (ltb slot 10) _ low) (good-kept (lent32 s) passes (turn slot clock)) printed)
+    go (isRunning (processAt k slot)) refl
+    (turn-parts l clock (storageOf a) (drop (counts (a .number)) text) (and-right (ltb slot 10) _ low)
+    (good-kept (lent32 s) passes (turn slot clock)) printed)
   where
     k : Kernel
     k = kernelOf (s .area)
@@ -108,7 +116,8 @@ turn-parts (slot ∷ l) clock s text low passes e =
     onward = λ z. turnsOf l (facts .kernel z) clock (facts .disc z)
 
     printed : drop (counts (a .number)) text ≡ turnsOf l (kernelOf (a .area)) clock (a .disc) .out
-    printed = (λ z. drop (facts .count z) (e z)) ∙ drop-at (t .out) (rest .out) (length (t .out)) refl ∙ sym (ap (λ (u : Turned). u .out) onward)
+    printed = (λ z. drop (facts .count z) (e z)) ∙ drop-at (t .out) (rest .out) (length (t .out)) refl
+        ∙ sym (ap (λ (u : Turned). u .out) onward)
 
     part : take (counts (a .number)) text ≡ t .out
     part = (λ z. take (facts .count z) (e z)) ∙ take-at (t .out) (rest .out) (length (t .out)) refl
@@ -117,14 +126,21 @@ turn-parts (slot ∷ l) clock s text low passes e =
     later = turnEvents l clock (storageOf a) (drop (counts (a .number)) text)
 
     go : (f : Bool) → isRunning (processAt k slot) ≡ f → Parts (storageOf a) later (turnsOf l (kernelOf (a .area)) clock (a .disc))
-        → Parts s (consIf f (event (turn slot clock) s a (take (counts (a .number)) text)) later) (record { kernel = rest .kernel; disc = rest .disc; out = t .out ++ rest .out })
+        → Parts s (consIf f (event (turn slot clock) s a (take (counts (a .number)) text)) later)
+        (record { kernel = rest .kernel; disc = rest .disc; out = t .out ++ rest .out })
     go true h p =
         let r : Parts (storageOf a) later rest = subst (λ (u : Turned). Parts (storageOf a) later u) onward p in
         let own : take (counts (a .number)) text ≡ outputText a = part ∙ sym (facts .text) in
         let done : a .number ≡ pos (counts (a .number)) =
         subst⁻¹ (λ (b : Answer). b .number ≡ pos (counts (b .number))) (turn-running (lent32 s) slot clock passes refl here h) refl in
         record {
-          leads = (refl, refl, passes, record { out = replicate 32 0; same = refl; reports = record { turns = (refl, own); commands = tt; single = refl } }, r .leads);
+          leads = (
+            refl,
+            refl,
+            passes,
+            record { out = replicate 32 0; same = refl; reports = record { turns = (refl, own); commands = tt; single = refl } },
+            r .leads,
+          );
           texts = λ z. part z ++ r .texts z;
           sum = (λ z. facts .count z + r .sum z) ∙ sym (length-append (t .out) (rest .out));
           parts = (done ∙ ap pos (facts .count ∙ sym (ap length part)), own, r .parts);

@@ -14,13 +14,15 @@ use Rattle.buffer.specs.declared.Found.the-variants.{At, Nowhere}
 use Rattle.buffer.proofs.Bools.{and-right}
 use Rattle.store.specs.Directory.{entryAt, lookup}
 use Rattle.store.specs.File.{unless}
-use Rattle.machine.specs.Answer.{Answer, Buffers, Call, store, retrieve, erase, run, files, freeSpace, list, command, turn, round, answer, commandAnswer, eraseAt, onGood, refused, runAt, turnedAnswer}
+use Rattle.machine.specs.Answer.{Answer, Buffers, Call, store, retrieve, erase, run, files, freeSpace, list, command, turn, round}
+use Rattle.machine.specs.Answer.{answer, commandAnswer, eraseAt, onGood, refused, runAt, turnedAnswer}
 use Rattle.machine.specs.Area.{AreBytes, Whole, isAreaLength, kernelBytes, kernelOf}
 use Rattle.machine.specs.Operations.{Command, Commanded, becomes, refused as declined, commanded, inUse, listText, slots, turnsOf}
 use Rattle.machine.specs.Refusals.{Passes}
 use Rattle.machine.specs.Start.{Starting, starts, refuses, started, starting}
 use Rattle.machine.specs.State.{isRunning, processAt}
-use Rattle.machine.specs.Trace.{Event, Invocation, Storage, afterCalls, answerOf, event, events, eventsBy, lastStorage, lending, onlyIf, outputText, roundEvents, storageOf, tenSlots}
+use Rattle.machine.specs.Trace.{Event, Invocation, Storage, afterCalls, answerOf, event, events, eventsBy, lastStorage, lending}
+use Rattle.machine.specs.Trace.{onlyIf, outputText, roundEvents, storageOf, tenSlots}
 use Rattle.machine.specs.Turn.{Turned, turned}
 use Rattle.machine.specs.declared.Kernel.{Kernel}
 use Rattle.machine.proofs.Traces.AnyBuffers.{bad-refused, passes-or-not}
@@ -81,11 +83,13 @@ module _ (s : Storage) (out : List ℕ) where
 
     run-area : (name : List ℕ) (x : Starting) → starting k (s .disc) name ≡ x → Written (runAt x k b)
     run-area name (refuses n) e = as-it-was refl
-    run-area name (starts slot f) e = state-bytes (started k slot f) (s .disc) (outside-good name k (s .disc) _ _ good (begins slot f e refl refl)) refl
+    run-area name (starts slot f) e =
+        state-bytes (started k slot f) (s .disc) (outside-good name k (s .disc) _ _ good (begins slot f e refl refl)) refl
 
     command-area : (c : Command) (id : ℕ) (r : Commanded) → commanded c id k ≡ r → Written (commandAnswer r b)
     command-area c id (declined n) e = as-it-was refl
-    command-area c id (becomes j) e = let o = command-own good c id j e in state-bytes j (s .disc) (own-good (o .0) k (s .disc) j good (o .2)) refl
+    command-area c id (becomes j) e = let o = command-own good c id j e in
+        state-bytes j (s .disc) (own-good (o .0) k (s .disc) j good (o .2)) refl
 
     good-area : (c : Call) → Written (answer c b)
     unfolding answer
@@ -101,15 +105,19 @@ module _ (s : Storage) (out : List ℕ) where
         after-good _
         (tried (leb 32 (length out)) 4 _ λ fit.
         tried (ltb slot 10 && isRunning (processAt k slot)) 16 _ λ may.
-        state-bytes (turned k slot clock (s .disc) .kernel) (turned k slot clock (s .disc) .disc) (turn-good k slot clock (s .disc) good (and-right (ltb slot 10) _ may)) refl)
+        state-bytes (turned k slot clock (s .disc) .kernel) (turned k slot clock (s .disc) .disc)
+        (turn-good k slot clock (s .disc) good (and-right (ltb slot 10) _ may)) refl)
     good-area (round clock) =
         after-good _
         (tried (leb 320 (length out)) 4 _ λ fit.
-        state-bytes (turnsOf slots k clock (s .disc) .kernel) (turnsOf slots k clock (s .disc) .disc) (turns-good slots k clock (s .disc) good) refl)
+        state-bytes (turnsOf slots k clock (s .disc) .kernel) (turnsOf slots k clock (s .disc) .disc)
+        (turns-good slots k clock (s .disc) good) refl)
 
   -- both facts of an area that a call keeps: that it is whole, and that it is where it has the right length
-  area-kept : (P : List ℕ → Type 0) → ((j : Kernel) (disc : List ℕ) → GoodState j disc → P (kernelBytes j)) → (c : Call) → P (s .area) → P (answer c b .area)
-  area-kept P written c h = ⊎-elim (λ passes. of (good-area passes c)) (λ bad. subst⁻¹ P (bad-area bad c) h) (passes-or-not (s .disc) (s .area))
+  area-kept : (P : List ℕ → Type 0) → ((j : Kernel) (disc : List ℕ) → GoodState j disc → P (kernelBytes j)) → (c : Call) → P (s .area)
+      → P (answer c b .area)
+  area-kept P written c h =
+      ⊎-elim (λ passes. of (good-area passes c)) (λ bad. subst⁻¹ P (bad-area bad c) h) (passes-or-not (s .disc) (s .area))
     where
       of : Written (answer c b) → P (answer c b .area)
       of (as-it-was e) = subst⁻¹ P e h
@@ -128,19 +136,23 @@ module _ (s : Storage) (out : List ℕ) where
   refused-ends : (n : ℕ) (a : Answer) → a ≡ refused n b → s ≡ storageOf a
   refused-ends n a e = sym (ap storageOf e)
 
-  turn-ends : (slot clock : ℕ) → Ends (onlyIf (leb 32 (length out)) (event (turn slot clock) s (answer (turn slot clock) b) (outputText (answer (turn slot clock) b)))) (answer (turn slot clock) b)
+  turn-ends : (slot clock : ℕ)
+      → Ends (onlyIf (leb 32 (length out))
+      (event (turn slot clock) s (answer (turn slot clock) b) (outputText (answer (turn slot clock) b)))) (answer (turn slot clock) b)
   unfolding lastStorage answer
   turn-ends slot clock = go (leb 32 (length out)) refl (passes-or-not (s .disc) (s .area))
     where
       a : Answer
       a = answer (turn slot clock) b
 
-      go : (f : Bool) → leb 32 (length out) ≡ f → Passes (s .disc) (s .area) ⊎ (Passes (s .disc) (s .area) → ⊥) → Ends (onlyIf f (event (turn slot clock) s a (outputText a))) a
+      go : (f : Bool) → leb 32 (length out) ≡ f → Passes (s .disc) (s .area) ⊎ (Passes (s .disc) (s .area) → ⊥)
+          → Ends (onlyIf f (event (turn slot clock) s a (outputText a))) a
       go true h p = refl
       go false h (inl passes) = refused-ends 4 a (short-turn s out passes slot clock h)
       go false h (inr bad) = let r = bad-refused b _ bad in refused-ends (suc (r .0)) a (r .1)
 
-  round-ends : (clock : ℕ) → Sound (s .area) → Ends (roundEvents (answer (round clock) b .number) clock s (outputText (answer (round clock) b))) (answer (round clock) b)
+  round-ends : (clock : ℕ) → Sound (s .area)
+      → Ends (roundEvents (answer (round clock) b .number) clock s (outputText (answer (round clock) b))) (answer (round clock) b)
   unfolding lastStorage answer all
   round-ends clock whole = go (leb 320 (length out)) refl (passes-or-not (s .disc) (s .area))
     where
@@ -153,7 +165,8 @@ module _ (s : Storage) (out : List ℕ) where
       short : (n : ℕ) → answer (round clock) b ≡ refused (suc n) b → Right (answer (round clock) b)
       short n e = subst⁻¹ Right e refl
 
-      go : (f : Bool) → leb 320 (length out) ≡ f → Passes (s .disc) (s .area) ⊎ (Passes (s .disc) (s .area) → ⊥) → Right (answer (round clock) b)
+      go : (f : Bool) → leb 320 (length out) ≡ f → Passes (s .disc) (s .area) ⊎ (Passes (s .disc) (s .area) → ⊥)
+          → Right (answer (round clock) b)
       go f h (inr bad) = let r = bad-refused b _ bad in short (r .0) (r .1)
       go false h (inl passes) = short 3 (short-round s out passes clock h)
       go true h (inl passes) =

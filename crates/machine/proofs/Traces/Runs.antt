@@ -7,11 +7,13 @@ use lib.Dec.{leb}
 use lib.ListN.{length}
 use lib.Seq.{take-at}
 use Rattle.buffer.specs.Lists.{all}
-use Rattle.machine.specs.Answer.{Answer, Buffers, Call, store, retrieve, erase, run, files, freeSpace, list, command, turn, round, answer, turnedAnswer}
+use Rattle.machine.specs.Answer.{Answer, Buffers, Call, store, retrieve, erase, run, files, freeSpace, list, command, turn, round}
+use Rattle.machine.specs.Answer.{answer, turnedAnswer}
 use Rattle.machine.specs.Area.{kernelOf}
 use Rattle.machine.specs.Operations.{slots, turnsOf}
 use Rattle.machine.specs.Refusals.{Passes}
-use Rattle.machine.specs.Trace.{Invocation, Storage, answerOf, events, eventsBy, lending, roundEvents, storageOf, tenSlots, outputText, turnEvents}
+use Rattle.machine.specs.Trace.{Invocation, Storage, answerOf, events, eventsBy, lending, roundEvents, storageOf, tenSlots}
+use Rattle.machine.specs.Trace.{outputText, turnEvents}
 use Rattle.machine.specs.Turn.{Turned}
 use Rattle.machine.specs.declared.Kernel.{Kernel}
 use Rattle.machine.proofs.Demands.GoodCalls.{good-back, good-kept, passes-good, turns-good}
@@ -22,7 +24,8 @@ use Rattle.machine.proofs.Traces.RoundParts.{turn-parts}
 module _ (s : Storage) (out : List ℕ) (passes : Passes (s .disc) (s .area)) where
   -- "A done round stands for its turns in order, each printing its part of the output."
   round-leads : (clock : ℕ)
-      → Leads (kernelOf (s .area)) (s .disc) (roundEvents (answer (round clock) (lending s out) .number) clock s (outputText (answer (round clock) (lending s out))))
+      → Leads (kernelOf (s .area)) (s .disc)
+      (roundEvents (answer (round clock) (lending s out) .number) clock s (outputText (answer (round clock) (lending s out))))
       (kernelOf (answer (round clock) (lending s out) .area)) (answer (round clock) (lending s out) .disc)
   unfolding Leads all
   round-leads clock = go (leb 320 (length out)) refl
@@ -42,11 +45,14 @@ module _ (s : Storage) (out : List ℕ) (passes : Passes (s .disc) (s .area)) wh
       go : (f : Bool) → leb 320 (length out) ≡ f → Right (answer (round clock) b)
       go true h =
           subst⁻¹ Right (round-done b clock passes h)
-          (subst⁻¹ (λ (j : Kernel). Leads k (s .disc) (turnEvents tenSlots clock s (outputText (turnedAnswer u b))) j (u .disc)) (good-back (u .kernel) (u .disc) (turns-good slots k clock (s .disc) (passes-good (s .disc) (s .area) passes)))
+          (subst⁻¹ (λ (j : Kernel). Leads k (s .disc) (turnEvents tenSlots clock s (outputText (turnedAnswer u b))) j (u .disc))
+          (good-back (u .kernel) (u .disc) (turns-good slots k clock (s .disc) (passes-good (s .disc) (s .area) passes)))
           (turn-parts tenSlots clock s (outputText (turnedAnswer u b)) refl passes (take-at (u .out) _ (length (u .out)) refl) .leads))
       go false h = subst⁻¹ Right (short-round s out passes clock h) (refl, refl)
 
-  call-leads : (c : Call) → Leads (kernelOf (s .area)) (s .disc) (eventsBy c out s (answer c (lending s out))) (kernelOf (answer c (lending s out) .area)) (answer c (lending s out) .disc)
+  call-leads : (c : Call)
+      → Leads (kernelOf (s .area)) (s .disc) (eventsBy c out s (answer c (lending s out))) (kernelOf (answer c (lending s out) .area))
+      (answer c (lending s out) .disc)
   call-leads (store name bytes) = one-event s out passes (store name bytes) [] (record { turns = tt; commands = tt; single = refl })
   call-leads (retrieve name) = one-event s out passes (retrieve name) _ (record { turns = tt; commands = tt; single = refl })
   call-leads (erase name) = one-event s out passes (erase name) [] (record { turns = tt; commands = tt; single = refl })
@@ -64,5 +70,6 @@ unfolding events Chain
 chain-of [] s passes = tt
 chain-of (i ∷ calls) s passes =
     let a : Answer = answerOf i s in
-    leads-on (kernelOf (s .area)) (s .disc) (eventsBy (i .call) (i .out) s a) (events calls (storageOf a)) (kernelOf (a .area)) (a .disc) (call-leads s (i .out) passes (i .call))
+    leads-on (kernelOf (s .area)) (s .disc) (eventsBy (i .call) (i .out) s a) (events calls (storageOf a)) (kernelOf (a .area)) (a .disc)
+    (call-leads s (i .out) passes (i .call))
     (chain-of calls (storageOf a) (good-kept (lending s (i .out)) passes (i .call)))

@@ -1,6 +1,7 @@
 -- `machine::done_when_due` meets its contract: what no refusal speaks against is done.
 use Rattle.machine.specs.Due.{DoneWhenDue}
-use Rattle.machine.proofs.Demands.DueCalls.{command-due, erase-due, files-due, fork-due, free-space-due, list-due, retrieve-due, run-due, store-due, turn-due}
+use Rattle.machine.proofs.Demands.DueCalls.{command-due, erase-due, files-due, fork-due, free-space-due, list-due, retrieve-due}
+use Rattle.machine.proofs.Demands.DueCalls.{run-due, store-due, turn-due}
 use Rattle.machine.proofs.done_when_due.Statement.{statement}
 use Rattle.machine.proofs.done_when_due.Tie as tie
 

@@ -8,8 +8,11 @@ use Rattle.machine.proofs.refused_unchanged.Tie as tie
 
 returns : tie.Need-returns
 unfolding RefusedUnchanged
-returns c =
-    ((λ c b h. let by = refused-by c b h in (refused-unchanged c b h, (by .0, by .1, ap (λ (a : Answer). a .number) (by .2)))), format-refused, boot-refused)
+returns c = (
+  (λ c b h. let by = refused-by c b h in (refused-unchanged c b h, (by .0, by .1, ap (λ (a : Answer). a .number) (by .2)))),
+  format-refused,
+  boot-refused,
+)
 
 pub refused-unchanged-spec : {M : Type 1} → statement M
 refused-unchanged-spec = tie.close (tie.spec returns)

@@ -18,8 +18,12 @@ loop-holds c = (omega arith, refl, refl)
 
 loop-again : tie.Need-loop-again Inv-loop μ-loop
 loop-again c =
-    let l = c .before .before in
-    (simp length-set (omega arith), simp length-set (l .loop .inv .1), copy-next (l .loop .dst) (l .before .args .src .now) (l .before .args .at) (l .loop .i) (omega arith) (omega arith) (l .loop .inv .2))
+    let l = c .before .before in (
+      simp length-set (omega arith),
+      simp length-set (l .loop .inv .1),
+      copy-next (l .loop .dst) (l .before .args .src .now) (l .before .args .at) (l .loop .i) (omega arith) (omega arith)
+          (l .loop .inv .2),
+    )
 
 returns : tie.Need-returns Inv-loop μ-loop
 returns c =

@@ -19,8 +19,11 @@ loop-holds c = (omega arith, refl, paste-zero (c .args .dst .now) (c .args .at) 
 loop-again : tie.Need-loop-again Inv-loop μ-loop
 loop-again c =
     let l = c .before .before in
-    let a = l .before .args in
-    (omega arith, simp length-set (l .loop .inv .1), overwrite-next (a .dst .now) (a .src .now) (l .loop .dst) (a .at) (l .loop .i) (omega arith) (omega arith) (l .loop .inv .2))
+    let a = l .before .args in (
+      omega arith,
+      simp length-set (l .loop .inv .1),
+      overwrite-next (a .dst .now) (a .src .now) (l .loop .dst) (a .at) (l .loop .i) (omega arith) (omega arith) (l .loop .inv .2),
+    )
 
 returns : tie.Need-returns Inv-loop μ-loop
 returns c =

@@ -20,8 +20,11 @@ overwrite-at-requires c κs = room (c .before .before .before)
 returns : tie.Need-returns
 returns c =
     let s = c .before .before .before .before .before in
-    let a = s .args in
-    (refl, ap (λ (l : List ℕ). take (a .text .len + length (a .src .now)) l) (c .before .overwrite-at .ensures) ∙ overwrite-head (a .text .bytes) (a .src .now) (a .text .len) (room s))
+    let a = s .args in (
+      refl,
+      ap (λ (l : List ℕ). take (a .text .len + length (a .src .now)) l) (c .before .overwrite-at .ensures)
+          ∙ overwrite-head (a .text .bytes) (a .src .now) (a .text .len) (room s),
+    )
 
 pub append-spec : {M : Type 1} → statement M
 append-spec =

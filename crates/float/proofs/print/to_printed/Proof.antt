@@ -28,13 +28,15 @@ returns-2 c =
 returns-3 : tie.Need-returns-3
 returns-3 c =
     let start = c .before .before .before .before .before .before .before in
-    let d = finite (start .args .x) (c .before .before .before .before .before .before .decode .ensures) (c .before .before .before .before .negative2 .given .1) in
+    let d = finite (start .args .x) (c .before .before .before .before .before .before .decode .ensures)
+    (c .before .before .before .before .negative2 .given .1) in
     printed-minus d (c .before .before .if1 .taken) (c .if2 .taken) (c .before .whole-size .ensures)
 
 returns-4 : tie.Need-returns-4
 returns-4 c =
     let start = c .before .before .before .before .before .before .before in
-    let d = finite (start .args .x) (c .before .before .before .before .before .before .decode .ensures) (c .before .before .before .before .negative2 .given .1) in
+    let d = finite (start .args .x) (c .before .before .before .before .before .before .decode .ensures)
+    (c .before .before .before .before .negative2 .given .1) in
     printed-plus d (c .before .before .if1 .taken) (c .if2 .left) (c .before .whole-size .ensures)
 
 returns-5 : tie.Need-returns-5

@@ -14,7 +14,8 @@ returns : tie.Need-returns
 returns c = let a = c .before .before .args in up-zero (a .up) (a .a) (a .s) (c .before .if1 .taken) (c .if2 .taken)
 
 returns-2 : tie.Need-returns-2
-returns-2 c = let a = c .before .before .before .args in up-more (a .up) (a .a) (a .s) (c .before .before .if1 .taken) (c .before .if2 .left) (c .cut .ensures)
+returns-2 c = let a = c .before .before .before .args in
+    up-more (a .up) (a .a) (a .s) (c .before .before .if1 .taken) (c .before .if2 .left) (c .cut .ensures)
 
 returns-3 : tie.Need-returns-3
 returns-3 c = let a = c .before .before .args in not-up (a .up) (a .a) (a .s) (c .before .if1 .left) (c .cut2 .ensures)

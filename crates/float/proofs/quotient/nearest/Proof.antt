@@ -10,7 +10,8 @@ returns : tie.Need-returns
 returns c = nearest-whole (c .before .args .a) (c .before .args .s) (c .if1 .taken)
 
 returns-2 : tie.Need-returns-2
-returns-2 c = let a = c .before .before .args in ap (λ (n : ℕ). n / 2 + n % 2) (c .divide .ensures) ∙ nearest-digit (a .a) (a .s) (c .before .if1 .left)
+returns-2 c = let a = c .before .before .args in ap (λ (n : ℕ). n / 2 + n % 2) (c .divide .ensures)
+    ∙ nearest-digit (a .a) (a .s) (c .before .if1 .left)
 
 pub nearest-spec : {M : Type 1} → statement M
 nearest-spec = tie.close (tie.spec returns (λ c. search needs) (λ c κs. search needs) (λ c. search needs) returns-2)

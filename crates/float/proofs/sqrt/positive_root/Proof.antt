@@ -19,14 +19,19 @@ cast-from-bits c =
     let a = c .before .before .args in
     let z = c .before .scale in
     let i = met-root (c .whole-root .ensures) in
-    omega (arith, half-24 (a .significand) (a .exponent) (z .result .radicand) (z .result .shift) (c .whole-root .result) (z .ensures) i .1, z .ensures .near)
+    omega (
+      arith,
+      half-24 (a .significand) (a .exponent) (z .result .radicand) (z .result .shift) (c .whole-root .result) (z .ensures) i .1,
+      z .ensures .near,
+    )
 
 returns : tie.Need-returns
 returns c =
     let a = c .before .before .before .args in
     let z = c .before .before .scale in
     let i = met-root (c .before .whole-root .ensures) in
-    c .from-bits .ensures ∙ root-bits (a .significand) (a .exponent) (z .result .radicand) (z .result .shift) (c .before .whole-root .result) (z .ensures) i
+    c .from-bits .ensures
+    ∙ root-bits (a .significand) (a .exponent) (z .result .radicand) (z .result .shift) (c .before .whole-root .result) (z .ensures) i
 
 pub positive-root-spec : {M : Type 1} → statement M
 positive-root-spec =

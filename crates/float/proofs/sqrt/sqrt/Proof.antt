@@ -17,7 +17,8 @@ returns c =
 positive-root-requires : tie.Need-positive-root-requires
 positive-root-requires c κs =
     let start = c .before .before .before .before .before .before in
-    let d = finite (start .args .x) (c .before .before .before .before .before .decode .ensures) (c .before .before .before .negative2 .given .1) in
+    let d = finite (start .args .x) (c .before .before .before .before .before .decode .ensures)
+    (c .before .before .before .negative2 .given .1) in
     omega (arith, d .short, d .near, c .before .if2 .left)
 
 returns-2 : tie.Need-returns-2
@@ -29,7 +30,8 @@ returns-3 : tie.Need-returns-3
 returns-3 c =
     let x = c .before .before .before .before .before .before .args .x in
     let g = c .before .before .before .negative .given in
-    root-minus-infinite x (g .0 .0) (subst (IsDecoded x) (g .1) (c .before .before .before .before .before .decode .ensures)) (c .before .if1 .taken) (c .from-bits .ensures)
+    root-minus-infinite x (g .0 .0) (subst (IsDecoded x) (g .1) (c .before .before .before .before .before .decode .ensures))
+    (c .before .if1 .taken) (c .from-bits .ensures)
 
 returns-4 : tie.Need-returns-4
 returns-4 c =
@@ -40,13 +42,15 @@ returns-4 c =
 returns-5 : tie.Need-returns-5
 returns-5 c =
     let start = c .before .before .before .before .before .before .before in
-    let d = finite (start .args .x) (c .before .before .before .before .before .before .decode .ensures) (c .before .before .before .before .negative2 .given .1) in
+    let d = finite (start .args .x) (c .before .before .before .before .before .before .decode .ensures)
+    (c .before .before .before .before .negative2 .given .1) in
     finite-negative d (c .before .before .if2 .left) (c .before .if3 .taken) (c .from-bits2 .ensures)
 
 returns-6 : tie.Need-returns-6
 returns-6 c =
     let start = c .before .before .before .before .before .before .before in
-    let d = finite (start .args .x) (c .before .before .before .before .before .before .decode .ensures) (c .before .before .before .before .negative2 .given .1) in
+    let d = finite (start .args .x) (c .before .before .before .before .before .before .decode .ensures)
+    (c .before .before .before .before .negative2 .given .1) in
     c .positive-root .ensures ∙ finite-positive d (c .before .before .if2 .left) (c .before .if3 .left)
 
 pub sqrt-spec : {M : Type 1} → statement M

@@ -12,7 +12,8 @@ cast-t9 c =
     let a = c .before .before .before .before .before .args in
     let g = c .before .before .z .given in
     let e = sym (g .1) ∙ c .before .before .before .before .to-whole .ensures in
-    size-cast (g .0 .0) (search needs) (c .if1 .taken) (lt-of-le-of-lt (whole-mag TowardZero (a .max) (a .x) e) (c .before .before .before .before .before .fits .max .fits))
+    size-cast (g .0 .0) (search needs) (c .if1 .taken)
+    (lt-of-le-of-lt (whole-mag TowardZero (a .max) (a .x) e) (c .before .before .before .before .before .fits .max .fits))
 
 returns : tie.Need-returns
 returns c =
@@ -29,7 +30,8 @@ returns-2 c =
     size-none (g .0 .0) (search needs) (a .max) (a .x) e (c .if1 .left)
 
 returns-3 : tie.Need-returns-3
-returns-3 c = let a = c .before .before .before .args in size-out (a .max) (a .x) (sym (c .enum-told .given .1) ∙ c .before .before .to-whole .ensures)
+returns-3 c = let a = c .before .before .before .args in
+    size-out (a .max) (a .x) (sym (c .enum-told .given .1) ∙ c .before .before .to-whole .ensures)
 
 pub to-size-spec : {M : Type 1} → statement M
 to-size-spec =

@@ -24,7 +24,8 @@ returns-2 c =
 returns-3 : tie.Need-returns-3
 returns-3 c =
     let start = c .before .before .before .before .before .before .before in
-    let d = finite (start .args .x) (c .before .before .before .before .before .before .decode .ensures) (c .before .before .before .before .negative .given .1) in
+    let d = finite (start .args .x) (c .before .before .before .before .before .before .decode .ensures)
+    (c .before .before .before .before .negative .given .1) in
     whole-finite d (start .args .rounding) (start .args .max) (c .before .whole-size .ensures) (c .in-range .ensures)
 
 returns-4 : tie.Need-returns-4

@@ -15,25 +15,29 @@ returns c =
 returns-2 : tie.Need-returns-2
 returns-2 c =
     let a = c .before .before .before .before .args in
-    size-right (a .a) (a .k) (a .rounding) TowardZero (a .negative) (c .before .enum-told .given .1) (omega (arith, c .before .before .before .if1 .left))
+    size-right (a .a) (a .k) (a .rounding) TowardZero (a .negative) (c .before .enum-told .given .1)
+    (omega (arith, c .before .before .before .if1 .left))
     (c .divide .ensures)
 
 returns-3 : tie.Need-returns-3
 returns-3 c =
     let a = c .before .before .before .before .args in
-    size-right (a .a) (a .k) (a .rounding) HalfAway (a .negative) (c .before .enum-told2 .given .1) (omega (arith, c .before .before .before .if1 .left))
+    size-right (a .a) (a .k) (a .rounding) HalfAway (a .negative) (c .before .enum-told2 .given .1)
+    (omega (arith, c .before .before .before .if1 .left))
     (c .nearest .ensures)
 
 returns-4 : tie.Need-returns-4
 returns-4 c =
     let a = c .before .before .before .before .args in
-    size-right (a .a) (a .k) (a .rounding) Down (a .negative) (c .before .enum-told3 .given .1) (omega (arith, c .before .before .before .if1 .left))
+    size-right (a .a) (a .k) (a .rounding) Down (a .negative) (c .before .enum-told3 .given .1)
+    (omega (arith, c .before .before .before .if1 .left))
     (c .divide2 .ensures)
 
 returns-5 : tie.Need-returns-5
 returns-5 c =
     let a = c .before .before .before .before .args in
-    size-right (a .a) (a .k) (a .rounding) Up (a .negative) (c .before .enum-told4 .given .1) (omega (arith, c .before .before .before .if1 .left))
+    size-right (a .a) (a .k) (a .rounding) Up (a .negative) (c .before .enum-told4 .given .1)
+    (omega (arith, c .before .before .before .if1 .left))
     (c .divide3 .ensures)
 
 pub whole-size-spec : {M : Type 1} → statement M

@@ -32,11 +32,15 @@ calculate16-spec =
     (λ c.
     let s = c .before .before .before in
     rw (c .before .enum-told3 .given .1) (calculated Int (s .fits .x) (s .fits .y) _*ℤ_ (c .multiply16 .ensures)))
-    (λ c. let s = c .before .before .before in rw (c .before .enum-told4 .given .1) (divided-by-zero Int (s .fits .x) (s .fits .y) (c .if1 .taken) _))
+    (λ c. let s = c .before .before .before in
+    rw (c .before .enum-told4 .given .1) (divided-by-zero Int (s .fits .x) (s .fits .y) (c .if1 .taken) _))
     (λ c.
     let s = c .before .before .before .before in
-    rw (c .before .before .enum-told4 .given .1) (divided Int (s .fits .x) (s .fits .y) (c .before .if1 .left) quotZ (c .quotient16 .ensures)))
-    (λ c. let s = c .before .before .before in rw (c .before .enum-told5 .given .1) (divided-by-zero Int (s .fits .x) (s .fits .y) (c .if2 .taken) _))
+    rw (c .before .before .enum-told4 .given .1)
+    (divided Int (s .fits .x) (s .fits .y) (c .before .if1 .left) quotZ (c .quotient16 .ensures)))
+    (λ c. let s = c .before .before .before in
+    rw (c .before .enum-told5 .given .1) (divided-by-zero Int (s .fits .x) (s .fits .y) (c .if2 .taken) _))
     (λ c.
     let s = c .before .before .before .before in
-    rw (c .before .before .enum-told5 .given .1) (divided Int (s .fits .x) (s .fits .y) (c .before .if2 .left) remZ (c .remainder16 .ensures))))
+    rw (c .before .before .enum-told5 .given .1)
+    (divided Int (s .fits .x) (s .fits .y) (c .before .if2 .left) remZ (c .remainder16 .ensures))))

@@ -37,10 +37,12 @@ calculate8-spec =
     rw (c .before .enum-told4 .given .1) (divided-by-zero Char (s .fits .x) (s .fits .y) (c .if1 .taken) _))
     (λ c.
     let s = c .before .before .before .before in
-    rw (c .before .before .enum-told4 .given .1) (divided Char (s .fits .x) (s .fits .y) (c .before .if1 .left) quotZ (c .quotient8 .ensures)))
+    rw (c .before .before .enum-told4 .given .1)
+    (divided Char (s .fits .x) (s .fits .y) (c .before .if1 .left) quotZ (c .quotient8 .ensures)))
     (λ c.
     let s = c .before .before .before in
     rw (c .before .enum-told5 .given .1) (divided-by-zero Char (s .fits .x) (s .fits .y) (c .if2 .taken) _))
     (λ c.
     let s = c .before .before .before .before in
-    rw (c .before .before .enum-told5 .given .1) (divided Char (s .fits .x) (s .fits .y) (c .before .if2 .left) remZ (c .remainder8 .ensures))))
+    rw (c .before .before .enum-told5 .given .1)
+    (divided Char (s .fits .x) (s .fits .y) (c .before .if2 .left) remZ (c .remainder8 .ensures))))

@@ -22,7 +22,8 @@ compare-spec =
     (λ c κs. search needs)
     (λ c.
     let g = c .before .before .pair .given in
-    rw (g .1) (c .compare-wholes .ensures ∙ ap₂ (ordered (c .before .before .before .before .args .operator)) (widened w8 w16 tt (g .0 .0) (search needs))
+    rw (g .1) (c .compare-wholes .ensures
+    ∙ ap₂ (ordered (c .before .before .before .before .args .operator)) (widened w8 w16 tt (g .0 .0) (search needs))
     (widened w8 w16 tt (g .0 .1 .0) (search needs))))
     (λ c.
     let g = c .before .before .pair2 .given in

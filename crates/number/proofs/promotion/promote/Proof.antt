@@ -35,15 +35,19 @@ promote-spec =
     let g = c .before .before .before .before .a .given in
     rw (g .1, c .before .b2 .given .1) (ap₂ Ints (widened w8 w16 tt (g .0 .0) (search needs)) (search needs)))
     (λ c.
-    rw (c .before .before .before .before .before .a .given .1, c .before .before .b3 .given .1) (ap₂ Floats (ap (ofInt binary32) (search needs)) refl))
+    rw (c .before .before .before .before .before .a .given .1, c .before .before .b3 .given .1)
+    (ap₂ Floats (ap (ofInt binary32) (search needs)) refl))
     (λ c.
     let g = c .before .b4 .given in
     rw (c .before .before .before .before .a2 .given .1, g .1) (ap₂ Ints (search needs) (widened w8 w16 tt (g .0 .0) (search needs))))
     (λ c. rw (c .before .before .before .before .a2 .given .1, c .before .b5 .given .1) (ap₂ Ints (search needs) (search needs)))
     (λ c.
-    rw (c .before .before .before .before .before .a2 .given .1, c .before .before .b6 .given .1) (ap₂ Floats (ap (ofInt binary32) (search needs)) refl))
+    rw (c .before .before .before .before .before .a2 .given .1, c .before .before .b6 .given .1)
+    (ap₂ Floats (ap (ofInt binary32) (search needs)) refl))
     (λ c.
-    rw (c .before .before .before .before .before .a3 .given .1, c .before .before .b7 .given .1) (ap₂ Floats refl (ap (ofInt binary32) (search needs))))
+    rw (c .before .before .before .before .before .a3 .given .1, c .before .before .b7 .given .1)
+    (ap₂ Floats refl (ap (ofInt binary32) (search needs))))
     (λ c.
-    rw (c .before .before .before .before .before .a3 .given .1, c .before .before .b8 .given .1) (ap₂ Floats refl (ap (ofInt binary32) (search needs))))
+    rw (c .before .before .before .before .before .a3 .given .1, c .before .before .b8 .given .1)
+    (ap₂ Floats refl (ap (ofInt binary32) (search needs))))
     (λ c. rw (c .before .before .before .before .a3 .given .1, c .before .b9 .given .1) (ap₂ Floats refl refl)))

@@ -31,11 +31,15 @@ float-text-spec =
           (sym (c .before .negative3 .given .1) ∙ c .before .before .before .to-printed .ensures),
     ))
     (λ c.
-    rw (sym (c .before .before .before .before .before .to-printed .ensures) ∙ c .before .before .before .enum-told .given .1) (c .signed .ensures))
+    rw (sym (c .before .before .before .before .before .to-printed .ensures)
+    ∙ c .before .before .before .enum-told .given .1) (c .signed .ensures))
     (λ c.
-    rw (sym (c .before .before .before .before .before .before .to-printed .ensures) ∙ c .before .before .before .before .negative .given .1)
+    rw (sym (c .before .before .before .before .before .before .to-printed .ensures)
+    ∙ c .before .before .before .before .negative .given .1)
     (c .signed2 .ensures))
     (λ c.
-    rw (sym (c .before .before .before .before .before .before .to-printed .ensures) ∙ c .before .before .before .before .negative2 .given .1)
+    rw (sym (c .before .before .before .before .before .before .to-printed .ensures)
+    ∙ c .before .before .before .before .negative2 .given .1)
     (c .signed3 .ensures))
-    (λ c. rw (sym (c .before .before .before .before .to-printed .ensures) ∙ c .before .before .negative3 .given .1) (c .hundredths-text .ensures)))
+    (λ c. rw (sym (c .before .before .before .before .to-printed .ensures)
+    ∙ c .before .before .negative3 .given .1) (c .hundredths-text .ensures)))

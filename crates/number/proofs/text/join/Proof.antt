@@ -20,5 +20,6 @@ join-spec =
     (λ c.
     let s = c .before .before .before .before .before .before .before .before .before .before .before .before in
     laid-out (s .args .head .now) (s .args .body .now) (s .args .tail .now)
-    (c .before .before .before .before .before .before .before .overwrite-at .ensures) (c .before .before .before .before .overwrite-at2 .ensures)
+    (c .before .before .before .before .before .before .before .overwrite-at .ensures)
+    (c .before .before .before .before .overwrite-at2 .ensures)
     (c .before .overwrite-at3 .ensures)))

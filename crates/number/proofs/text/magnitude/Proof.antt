@@ -16,4 +16,5 @@ magnitude-spec =
     (λ c κs. search needs)
     (λ c. search needs)
     (λ c. size-of-negative w16 Int (c .before .before .args .x) (c .before .before .fits .x) (c .bits16 .ensures) (c .before .if1 .taken))
-    (λ c. size-of-nonnegative w16 Int (c .before .before .args .x) (c .before .before .fits .x) (c .bits162 .ensures) (c .before .if1 .left)))
+    (λ c. size-of-nonnegative w16 Int (c .before .before .args .x) (c .before .before .fits .x) (c .bits162 .ensures)
+    (c .before .if1 .left)))

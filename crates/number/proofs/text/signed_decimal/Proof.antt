@@ -22,5 +22,6 @@ signed-decimal-spec =
     (λ c.
     let d = c .before .before .before .before .digits-of in
     let a = c .before .before .before .before .before .before .args in
-    c .signed .ensures ∙ ap (λ (l : List ℕ). laid (sign (a .negative) ++ (l ++ a .tail .now))) (digits-lent (d .result .bytes) (d .result .start) (a .n)
+    c .signed .ensures ∙ ap (λ (l : List ℕ). laid (sign (a .negative) ++ (l ++ a .tail .now)))
+    (digits-lent (d .result .bytes) (d .result .start) (a .n)
     (search needs) (d .ensures .1))))

@@ -17,7 +17,8 @@ decode-spec =
     (λ c κs. search needs)
     (λ c κs. search needs)
     (λ c κs. search needs)
-    (λ c. simp (eq-eqb _ _ (c .before .if1 .taken)) (ap Char (toZ-ofZ {w = w8} {z = c .signed8 .result} (search needs) ∙ c .signed8 .ensures)))
+    (λ c. simp (eq-eqb _ _ (c .before .if1 .taken))
+    (ap Char (toZ-ofZ {w = w8} {z = c .signed8 .result} (search needs) ∙ c .signed8 .ensures)))
     (λ c.
     simp (ne-eqb _ _ (c .before .before .if1 .left), eq-eqb _ _ (c .before .if2 .taken)) (ap Int
     (toZ-ofZ {w = w16} {z = c .from-bytes .result} (search needs) ∙ c .from-bytes .ensures)))

@@ -19,5 +19,6 @@ encode-spec =
     (λ c. search needs)
     (λ c κs. search needs)
     (λ c. rw (c .before .before .a .given .1) (cc (toZ-ofZ {w = w8} {z = c .before .before .a .given .0 .0} (search needs))))
-    (λ c. rw (c .before .before .before .a2 .given .1) (cc (toZ-ofZ {w = w16} {z = c .before .before .before .a2 .given .0 .0} (search needs))))
+    (λ c. rw (c .before .before .before .a2 .given .1)
+    (cc (toZ-ofZ {w = w16} {z = c .before .before .before .a2 .given .0 .0} (search needs))))
     (λ c. rw (c .before .before .a3 .given .1) (cc)))

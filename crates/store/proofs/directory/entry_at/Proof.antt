@@ -10,7 +10,8 @@ returns : tie.Need-returns
 unfolding entryAt
 returns c =
     let a = c .before .before .before .before .before .before .args in
-    entry-fields (a .disc .now) (a .i * 16) _ _ _ (omega arith) (c .before .before .before .copy-part .ensures) (c .before .word-at .ensures) (c .word-at2 .ensures)
+    entry-fields (a .disc .now) (a .i * 16) _ _ _ (omega arith) (c .before .before .before .copy-part .ensures)
+    (c .before .word-at .ensures) (c .word-at2 .ensures)
 
 pub entry-at-spec : {M : Type 1} → statement M
 entry-at-spec =

@@ -33,8 +33,14 @@ loop-holds : tie.Need-loop-holds Inv-loop μ-loop
 loop-holds c = (omega arith, λ k h. absurd (omega arith))
 
 -- what the test of a turn says of the disc's entry
-tested : (c : tie.After-same-bytes Inv-loop μ-loop) → c .same-bytes .result ≡ named (c .before .before .before .before .before .before .before .before .before .before .before .before .before .args .name .now) (entryAt (c .before .before .before .before .before .before .before .before .before .before .before .before .before .args .disc .now) (c .before .before .before .before .before .before .loop .i))
-tested c = c .same-bytes .ensures ∙ ap₂ same (ap (λ (e : Entry). e .name) (c .before .before .before .before .entry-at .ensures)) (c .before .before .before .before .before .before .before .before .pad .ensures)
+tested : (c : tie.After-same-bytes Inv-loop μ-loop)
+    → c .same-bytes .result ≡ named
+    (c .before .before .before .before .before .before .before .before .before .before .before .before .before .args .name .now)
+    (entryAt (c .before .before .before .before .before .before .before .before .before .before .before .before .before .args .disc .now)
+    (c .before .before .before .before .before .before .loop .i))
+tested c = c .same-bytes .ensures
+    ∙ ap₂ same (ap (λ (e : Entry). e .name) (c .before .before .before .before .entry-at .ensures))
+    (c .before .before .before .before .before .before .before .before .pad .ensures)
 
 returns-2 : tie.Need-returns-2 Inv-loop μ-loop
 unfolding lookup
@@ -43,10 +49,14 @@ returns-2 c =
     let g = l .before .before .before in
     let a = g .before .before .before .before .args in
     rw (sym (g .before .is-good-name .ensures) ∙ not-false _ (g .if1 .left))
-    (sym (index-tab-is (entryAt (a .disc .now)) (fileCount (a .disc .now)) (named (a .name .now)) (l .loop .i) (omega (arith, l .before .file-count .ensures)) (sym (tested (c .before)) ∙ c .if2 .taken) (l .loop .inv .1)))
+    (sym (index-tab-is (entryAt (a .disc .now)) (fileCount (a .disc .now)) (named (a .name .now)) (l .loop .i)
+    (omega (arith, l .before .file-count .ensures)) (sym (tested (c .before)) ∙ c .if2 .taken) (l .loop .inv .1)))
 
 loop-again : tie.Need-loop-again Inv-loop μ-loop
-loop-again c = (omega arith, below-more _ _ (c .before .before .before .before .before .before .before .loop .inv .1) (sym (tested (c .before)) ∙ c .if2 .left))
+loop-again c = (
+  omega arith,
+  below-more _ _ (c .before .before .before .before .before .before .before .loop .inv .1) (sym (tested (c .before)) ∙ c .if2 .left),
+)
 
 returns-3 : tie.Need-returns-3 Inv-loop μ-loop
 unfolding lookup
@@ -55,7 +65,8 @@ returns-3 c =
     let g = l .before .before .before in
     let a = g .before .before .before .before .args in
     rw (sym (g .before .is-good-name .ensures) ∙ not-false _ (g .if1 .left))
-    (sym (index-tab-miss (entryAt (a .disc .now)) (fileCount (a .disc .now)) (named (a .name .now)) (λ k h. l .loop .inv .1 k (omega (arith, l .before .file-count .ensures)))))
+    (sym (index-tab-miss (entryAt (a .disc .now)) (fileCount (a .disc .now)) (named (a .name .now))
+    (λ k h. l .loop .inv .1 k (omega (arith, l .before .file-count .ensures)))))
 
 pub find-spec : {M : Type 1} → statement M
 find-spec =

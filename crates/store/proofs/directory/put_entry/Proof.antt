@@ -20,7 +20,8 @@ overwrite-at-requires c κs =
 
 returns : tie.Need-returns
 returns c =
-    let s = c .before .before .before .before .before .before .before .before .before .before .before .before .before .before .before .before in
+    let s = c .before .before .before .before .before .before .before .before .before .before .before .before .before .before .before
+    .before in
     let a = s .args in
     let h = sizes s in
     let d = a .disc .now in
@@ -31,9 +32,11 @@ returns c =
     let h2 = c .before .before .before .before .before .before .before .before .before .before .high2 .result in
     let f : l1 ∷ h1 ∷ l2 ∷ h2 ∷ [] ≡ wordBytes (e .start) ++ wordBytes (e .len) = cc in
     c .before .before .overwrite-at2 .ensures
-    ∙ ap (λ (l : List ℕ). overwrite l (a .i * 16 + 12) (l1 ∷ h1 ∷ l2 ∷ h2 ∷ [])) (c .before .before .before .before .before .before .before .overwrite-at .ensures)
+    ∙ ap (λ (l : List ℕ). overwrite l (a .i * 16 + 12) (l1 ∷ h1 ∷ l2 ∷ h2 ∷ []))
+    (c .before .before .before .before .before .before .before .overwrite-at .ensures)
     ∙ overwrite-joined d (e .name) (l1 ∷ h1 ∷ l2 ∷ h2 ∷ []) (a .i * 16) (a .i * 16 + 12) (omega arith) (omega arith)
-    ∙ ap (λ (l : List ℕ). overwrite d (a .i * 16) l) (ap (λ (l : List ℕ). e .name ++ l) f ∙ sym (append-assoc (e .name) (wordBytes (e .start)) (wordBytes (e .len))))
+    ∙ ap (λ (l : List ℕ). overwrite d (a .i * 16) l) (ap (λ (l : List ℕ). e .name ++ l) f
+    ∙ sym (append-assoc (e .name) (wordBytes (e .start)) (wordBytes (e .len))))
 
 pub put-entry-spec : {M : Type 1} → statement M
 put-entry-spec =

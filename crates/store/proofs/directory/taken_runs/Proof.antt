@@ -26,8 +26,12 @@ loop-holds c = (omega arith, sizes c, refl)
 loop-again : tie.Need-loop-again Inv-loop μ-loop
 loop-again c =
     let l = c .before .before .before in
-    let d = l .before .before .before .before .args .disc .now in
-    (omega arith, simp length-set (l .loop .inv .1), tab-next (λ k. runOf (entryAt d k)) (l .loop .runs) (l .loop .i) (c .run-of .result) (omega arith) (l .loop .inv .2) (c .run-of .ensures ∙ ap runOf (c .before .entry-at .ensures)))
+    let d = l .before .before .before .before .args .disc .now in (
+      omega arith,
+      simp length-set (l .loop .inv .1),
+      tab-next (λ k. runOf (entryAt d k)) (l .loop .runs) (l .loop .i) (c .run-of .result) (omega arith) (l .loop .inv .2)
+          (c .run-of .ensures ∙ ap runOf (c .before .entry-at .ensures)),
+    )
 
 returns : tie.Need-returns Inv-loop μ-loop
 returns c =

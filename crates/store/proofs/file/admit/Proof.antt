@@ -20,18 +20,29 @@ use Rattle.store.proofs.file.admit.Tie as tie
 named : (c : tie.Else1) → goodName (c .before .before .before .before .args .name .now) ≡ true
 named c = sym (c .before .is-good-name .ensures) ∙ not-false _ (c .if1 .left)
 
-sized : (c : tie.Else3) → goodSize (c .before .before .before .before .before .before .args .disc .now) (c .before .before .before .before .before .before .args .n) ≡ true
+sized : (c : tie.Else3)
+    → goodSize (c .before .before .before .before .before .before .args .disc .now)
+    (c .before .before .before .before .before .before .args .n) ≡ true
 sized c = rw (le-leb _ _ (c .before .if2 .left)) (le-leb _ _ (c .if3 .left))
 
 few : (c : tie.Else4) → ltb (fileCount (c .before .before .before .before .before .before .before .before .args .disc .now)) 10 ≡ true
-few c = lt-ltb (fileCount (c .before .before .before .before .before .before .before .before .args .disc .now)) 10 (omega (arith, c .if4 .left, c .before .file-count .ensures))
+few c = lt-ltb (fileCount (c .before .before .before .before .before .before .before .before .args .disc .now)) 10
+    (omega (arith, c .if4 .left, c .before .file-count .ensures))
 
-placed : (c : tie.After-find-place) → c .find-place .result ≡ placeOf (c .before .before .before .before .before .before .before .before .before .before .before .before .before .args .disc .now) (c .before .before .before .before .before .before .before .before .before .before .before .before .before .args .n)
+placed : (c : tie.After-find-place)
+    → c .find-place .result ≡ placeOf
+    (c .before .before .before .before .before .before .before .before .before .before .before .before .before .args .disc .now)
+    (c .before .before .before .before .before .before .before .before .before .before .before .before .before .args .n)
 unfolding placeOf
 placed c =
     let d = c .before .before .before .before .before .before .before .before .before .before .before .before .before .args .disc .now in
-    let e : take (c .before .before .before .before .before .before .file-count .result) (c .before .taken-runs .result) ≡ taken d = ap (λ (k : ℕ). take k (c .before .taken-runs .result)) (c .before .before .before .before .before .before .file-count .ensures) ∙ c .before .taken-runs .ensures in
-    c .find-place .ensures ∙ ap (λ (l : List Run). place l 161 (length d) (c .before .before .before .before .before .before .before .before .before .before .before .before .before .args .n)) e
+    let e : take (c .before .before .before .before .before .before .file-count .result) (c .before .taken-runs .result) ≡ taken d =
+    ap (λ (k : ℕ). take k (c .before .taken-runs .result)) (c .before .before .before .before .before .before .file-count .ensures)
+    ∙ c .before .taken-runs .ensures in
+    c .find-place .ensures
+    ∙ ap (λ (l : List Run).
+    place l 161 (length d)
+    (c .before .before .before .before .before .before .before .before .before .before .before .before .before .args .n)) e
 
 returns : tie.Need-returns
 unfolding admission
@@ -49,14 +60,20 @@ returns-4 : tie.Need-returns-4
 unfolding admission
 returns-4 c =
     let d = c .before .before .before .before .before .before .before .before .args .disc .now in
-    rw (named (c .before .before .before .before), sized (c .before .before), le-ltb (fileCount d) 10 (omega (arith, c .if4 .taken, c .before .file-count .ensures)))
+    rw (
+      named (c .before .before .before .before),
+      sized (c .before .before),
+      le-ltb (fileCount d) 10 (omega (arith, c .if4 .taken, c .before .file-count .ensures)),
+    )
 
 returns-5 : tie.Need-returns-5
 unfolding admission
 returns-5 c =
     let f = c .before .before .before in
     let a = f .before .before .before .before .before .before .before .before .args in
-    rw (named (f .before .before .before .before), sized (f .before .before), few f) (ap (λ (g : Found). denyIfFound g (startOr (placeOf (a .disc .now) (a .n)))) (sym (c .enum-told .given .1) ∙ c .before .before .find .ensures))
+    rw (named (f .before .before .before .before), sized (f .before .before), few f)
+    (ap (λ (g : Found). denyIfFound g (startOr (placeOf (a .disc .now) (a .n)))) (sym (c .enum-told .given .1)
+    ∙ c .before .before .find .ensures))
 
 find-place-requires : tie.Need-find-place-requires
 find-place-requires c κs =
@@ -69,7 +86,10 @@ returns-6 c =
     let f = c .before .before .before .before .before .before .before .before in
     let a = f .before .before .before .before .before .before .before .before .args in
     rw (named (f .before .before .before .before), sized (f .before .before), few f)
-    (ap startOr (sym (c .before .start .given .1) ∙ placed (c .before .before .before)) ∙ ap (λ (g : Found). denyIfFound g (startOr (placeOf (a .disc .now) (a .n)))) (sym (c .before .before .before .before .before .enum-told2 .given .1) ∙ c .before .before .before .before .before .before .before .find .ensures))
+    (ap startOr (sym (c .before .start .given .1) ∙ placed (c .before .before .before))
+    ∙ ap (λ (g : Found). denyIfFound g (startOr (placeOf (a .disc .now) (a .n))))
+    (sym (c .before .before .before .before .before .enum-told2 .given .1)
+    ∙ c .before .before .before .before .before .before .before .find .ensures))
 
 returns-7 : tie.Need-returns-7
 unfolding admission
@@ -77,7 +97,9 @@ returns-7 c =
     let f = c .before .before .before .before .before .before .before in
     let a = f .before .before .before .before .before .before .before .before .args in
     rw (named (f .before .before .before .before), sized (f .before .before), few f)
-    (ap startOr (sym (c .enum-told3 .given .1) ∙ placed (c .before .before)) ∙ ap (λ (g : Found). denyIfFound g (startOr (placeOf (a .disc .now) (a .n)))) (sym (c .before .before .before .before .enum-told2 .given .1) ∙ c .before .before .before .before .before .before .find .ensures))
+    (ap startOr (sym (c .enum-told3 .given .1) ∙ placed (c .before .before))
+    ∙ ap (λ (g : Found). denyIfFound g (startOr (placeOf (a .disc .now) (a .n))))
+    (sym (c .before .before .before .before .enum-told2 .given .1) ∙ c .before .before .before .before .before .before .find .ensures))
 
 pub admit-spec : {M : Type 1} → statement M
 admit-spec =

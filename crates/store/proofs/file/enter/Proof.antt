@@ -14,7 +14,9 @@ returns c =
     let a = c .before .before .before .before .before .before .before .before .before .args in
     let n = c .before .before .before .before .before .file-count in
     entered-steps (a .disc .now) (omega arith) _ (a .name .now) (a .n) (a .start) (n .result) (n .ensures) (omega arith)
-    (c .before .before .put-entry .ensures ∙ ap (λ (l : List ℕ). overwrite (a .disc .now) (n .result * 16) (entryBytes (record { name = l; start = a .start; len = a .n }))) (c .before .before .before .before .pad .ensures))
+    (c .before .before .put-entry .ensures
+    ∙ ap (λ (l : List ℕ). overwrite (a .disc .now) (n .result * 16) (entryBytes (record { name = l; start = a .start; len = a .n })))
+    (c .before .before .before .before .pad .ensures))
 
 pub enter-spec : {M : Type 1} → statement M
 enter-spec =

@@ -13,7 +13,9 @@ returns : tie.Need-returns
 returns c =
     let a = c .before .before .before .before .before .before .before .before .before .before .before .before .args in
     let n = c .before .before .before .before .before .before .before .before .before .file-count in
-    erased-steps (a .disc .now) (omega arith) _ _ (a .i) (n .result - 1) (omega (arith, n .ensures)) (omega (arith, n .ensures)) (omega (arith, n .ensures)) (omega arith) (c .before .before .before .before .before .before .before .move-up .ensures) (c .before .before .overwrite-at .ensures)
+    erased-steps (a .disc .now) (omega arith) _ _ (a .i) (n .result - 1) (omega (arith, n .ensures)) (omega (arith, n .ensures))
+    (omega (arith, n .ensures)) (omega arith) (c .before .before .before .before .before .before .before .move-up .ensures)
+    (c .before .before .overwrite-at .ensures)
 
 pub erase-entry-spec : {M : Type 1} → statement M
 erase-entry-spec =

@@ -19,7 +19,11 @@ abbrev μ-loop : tie.MeasureT-loop
 μ-loop disc₀ at n i₀ disc i = n - i
 
 loop-holds : tie.Need-loop-holds Inv-loop μ-loop
-loop-holds c = (omega arith, refl, paste-zero (c .args .disc .now) (c .args .at) (part (c .args .disc .now) (c .args .at + 16) (c .args .n)))
+loop-holds c = (
+  omega arith,
+  refl,
+  paste-zero (c .args .disc .now) (c .args .at) (part (c .args .disc .now) (c .args .at + 16) (c .args .n)),
+)
 
 loop-again : tie.Need-loop-again Inv-loop μ-loop
 loop-again c =
@@ -28,8 +32,14 @@ loop-again c =
     let d = a .disc .now in
     let s = part d (a .at + 16) (a .n) in
     let z : length s ≡ a .n = part-length d (a .at + 16) (a .n) (omega arith) in
-    let r : getD (l .loop .disc) (a .at + 16 + l .loop .i) 0 ≡ getD s (l .loop .i) 0 = ap (λ (x : List ℕ). getD x (a .at + 16 + l .loop .i) 0) (l .loop .inv .2) ∙ moved-next d (a .at) 16 (a .n) (l .loop .i) (omega arith) (omega arith) in
-    (omega arith, simp length-set (l .loop .inv .1), ap (λ (x : ℕ). set (l .loop .disc) (a .at + l .loop .i) x) r ∙ overwrite-next d s (l .loop .disc) (a .at) (l .loop .i) (omega arith) (omega arith) (l .loop .inv .2))
+    let r : getD (l .loop .disc) (a .at + 16 + l .loop .i) 0 ≡ getD s (l .loop .i) 0 =
+    ap (λ (x : List ℕ). getD x (a .at + 16 + l .loop .i) 0) (l .loop .inv .2)
+    ∙ moved-next d (a .at) 16 (a .n) (l .loop .i) (omega arith) (omega arith) in (
+      omega arith,
+      simp length-set (l .loop .inv .1),
+      ap (λ (x : ℕ). set (l .loop .disc) (a .at + l .loop .i) x) r
+          ∙ overwrite-next d s (l .loop .disc) (a .at) (l .loop .i) (omega arith) (omega arith) (l .loop .inv .2),
+    )
 
 returns : tie.Need-returns Inv-loop μ-loop
 returns c =

@@ -11,7 +11,8 @@ returns : tie.Need-returns
 unfolding readAt
 returns c =
     let a = c .before .before .before .before .before .before .before .args in
-    c .before .before .copy-part .ensures ∙ sym (part-of-part (a .disc .now) (a .run .start) (a .run .len) (a .offset) (length (a .out .now)) (omega arith))
+    c .before .before .copy-part .ensures
+    ∙ sym (part-of-part (a .disc .now) (a .run .start) (a .run .len) (a .offset) (length (a .out .now)) (omega arith))
 
 pub read-at-spec : {M : Type 1} → statement M
 read-at-spec = tie.close (tie.spec (λ c. search needs) (λ c. search needs) (λ c κs. search needs) (λ c. search needs) returns)

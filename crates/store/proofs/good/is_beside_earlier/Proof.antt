@@ -22,27 +22,36 @@ unfolding all tab
 loop-holds c = (omega arith, refl)
 
 -- what the test of a turn says of the two entries of the disc
-tested : (c : tie.After-is-beside Inv-loop μ-loop) → c .is-beside .result ≡ beside (entryAt (c .before .before .before .before .before .before .args .disc .now) (c .before .before .before .loop .j)) (entryAt (c .before .before .before .before .before .before .args .disc .now) (c .before .before .before .before .before .before .args .i))
+tested : (c : tie.After-is-beside Inv-loop μ-loop)
+    → c .is-beside .result ≡ beside
+    (entryAt (c .before .before .before .before .before .before .args .disc .now) (c .before .before .before .loop .j))
+    (entryAt (c .before .before .before .before .before .before .args .disc .now)
+    (c .before .before .before .before .before .before .args .i))
 tested c = c .is-beside .ensures ∙ ap₂ beside (c .before .entry-at2 .ensures) (c .before .before .before .before .entry-at .ensures)
 
 returns : tie.Need-returns Inv-loop μ-loop
 returns c =
     let l = c .before .before .before .before in
     let a = l .before .before .before .args in
-    sym (all-tab-stop (entryAt (a .disc .now)) (λ e. beside e (entryAt (a .disc .now) (a .i))) (l .loop .j) (a .i) (omega arith) (sym (tested (c .before)) ∙ not-true _ (c .if1 .taken)))
+    sym (all-tab-stop (entryAt (a .disc .now)) (λ e. beside e (entryAt (a .disc .now) (a .i))) (l .loop .j) (a .i) (omega arith)
+    (sym (tested (c .before)) ∙ not-true _ (c .if1 .taken)))
 
 loop-again : tie.Need-loop-again Inv-loop μ-loop
 loop-again c =
     let l = c .before .before .before .before in
-    let a = l .before .before .before .args in
-    (omega arith, all-tab-next (entryAt (a .disc .now)) (λ e. beside e (entryAt (a .disc .now) (a .i))) (l .loop .j) (l .loop .inv .1) (sym (tested (c .before)) ∙ not-false _ (c .if1 .left)))
+    let a = l .before .before .before .args in (
+      omega arith,
+      all-tab-next (entryAt (a .disc .now)) (λ e. beside e (entryAt (a .disc .now) (a .i))) (l .loop .j) (l .loop .inv .1)
+          (sym (tested (c .before)) ∙ not-false _ (c .if1 .left)),
+    )
 
 returns-2 : tie.Need-returns-2 Inv-loop μ-loop
 returns-2 c =
     let l = c .before in
     let a = l .before .before .before .args in
     let q : l .loop .j ≡ a .i = omega arith in
-    sym (subst (λ (k : Prim.Native.Nat.ℕ). all (λ e. beside e (entryAt (a .disc .now) (a .i))) (tab (entryAt (a .disc .now)) k) ≡ true) q (l .loop .inv .1))
+    sym (subst (λ (k : Prim.Native.Nat.ℕ). all (λ e. beside e (entryAt (a .disc .now) (a .i))) (tab (entryAt (a .disc .now)) k) ≡ true) q
+    (l .loop .inv .1))
 
 pub is-beside-earlier-spec : {M : Type 1} → statement M
 is-beside-earlier-spec =

@@ -14,7 +14,8 @@ use Rattle.store.proofs.good.is_good_disc.Statement.{statement}
 use Rattle.store.proofs.good.is_good_disc.Tie as tie
 
 abbrev Inv-loop : tie.InvT-loop
-Inv-loop disc count i₀ i = (i ≤ count) × (all (goodEntry (length disc)) (tab (entryAt disc) i) ≡ true) × (pairs beside (tab (entryAt disc) i) ≡ true)
+Inv-loop disc count i₀ i = (i ≤ count) × (all (goodEntry (length disc)) (tab (entryAt disc) i) ≡ true)
+    × (pairs beside (tab (entryAt disc) i) ≡ true)
 
 abbrev μ-loop : tie.MeasureT-loop
 μ-loop disc count i₀ i = count - i
@@ -34,8 +35,10 @@ unfolding goodDisc goodFiles
 returns-2 c =
     let l = c .before .before .before .before in
     let d = l .before .before .before .before .args .disc .now in
-    let e : goodEntry (length d) (entryAt d (l .loop .i)) ≡ false = ap (goodEntry (length d)) (sym (c .before .before .entry-at .ensures)) ∙ sym (c .before .is-good-entry .ensures) ∙ not-true _ (c .if2 .taken) in
-    rw (all-tab-stop (entryAt d) (goodEntry (length d)) (l .loop .i) (fileCount d) (omega (arith, l .before .before .file-count .ensures)) e) (sym (and-false (leb (fileCount d) 10)))
+    let e : goodEntry (length d) (entryAt d (l .loop .i)) ≡ false = ap (goodEntry (length d)) (sym (c .before .before .entry-at .ensures))
+    ∙ sym (c .before .is-good-entry .ensures) ∙ not-true _ (c .if2 .taken) in
+    rw (all-tab-stop (entryAt d) (goodEntry (length d)) (l .loop .i) (fileCount d)
+    (omega (arith, l .before .before .file-count .ensures)) e) (sym (and-false (leb (fileCount d) 10)))
 
 returns-3 : tie.Need-returns-3 Inv-loop μ-loop
 unfolding goodDisc goodFiles
@@ -43,14 +46,21 @@ returns-3 c =
     let l = c .before .before .before .before .before .before in
     let d = l .before .before .before .before .args .disc .now in
     let e = sym (c .before .is-beside-earlier .ensures) ∙ not-true _ (c .if3 .taken) in
-    rw (pairs-tab-stop (entryAt d) beside (l .loop .i) (fileCount d) (omega (arith, l .before .before .file-count .ensures)) e, and-false) (sym (and-false (leb (fileCount d) 10)))
+    rw (pairs-tab-stop (entryAt d) beside (l .loop .i) (fileCount d) (omega (arith, l .before .before .file-count .ensures)) e, and-false)
+    (sym (and-false (leb (fileCount d) 10)))
 
 loop-again : tie.Need-loop-again Inv-loop μ-loop
 loop-again c =
     let l = c .before .before .before .before .before .before in
     let d = l .before .before .before .before .args .disc .now in
-    let e : goodEntry (length d) (entryAt d (l .loop .i)) ≡ true = ap (goodEntry (length d)) (sym (c .before .before .before .before .entry-at .ensures)) ∙ sym (c .before .before .before .is-good-entry .ensures) ∙ not-false _ (c .before .before .if2 .left) in
-    (omega arith, all-tab-next (entryAt d) (goodEntry (length d)) (l .loop .i) (l .loop .inv .1) e, pairs-tab-next (entryAt d) beside (l .loop .i) (l .loop .inv .2) (sym (c .before .is-beside-earlier .ensures) ∙ not-false _ (c .if3 .left)))
+    let e : goodEntry (length d) (entryAt d (l .loop .i)) ≡ true =
+    ap (goodEntry (length d)) (sym (c .before .before .before .before .entry-at .ensures))
+    ∙ sym (c .before .before .before .is-good-entry .ensures) ∙ not-false _ (c .before .before .if2 .left) in (
+      omega arith,
+      all-tab-next (entryAt d) (goodEntry (length d)) (l .loop .i) (l .loop .inv .1) e,
+      pairs-tab-next (entryAt d) beside (l .loop .i) (l .loop .inv .2) (sym (c .before .is-beside-earlier .ensures)
+          ∙ not-false _ (c .if3 .left)),
+    )
 
 returns-4 : tie.Need-returns-4 Inv-loop μ-loop
 unfolding goodDisc goodFiles

@@ -13,7 +13,8 @@ sizes : (s : tie.Start) → length (s .args .t2) ≡ 12
 sizes s = search needs
 
 named : (c : tie.After-trimmed-length) → length (take (c .trimmed-length .result) (c .before .args .t2)) ≡ c .trimmed-length .result
-named c = let z = sizes (c .before) in length-take-le (c .trimmed-length .result) (c .before .args .t2) (omega (arith, c .trimmed-length .ensures .0))
+named c = let z = sizes (c .before) in
+    length-take-le (c .trimmed-length .result) (c .before .args .t2) (omega (arith, c .trimmed-length .ensures .0))
 
 array-share-prefix-field : tie.Need-array-share-prefix-field
 array-share-prefix-field c =
@@ -31,8 +32,11 @@ append-requires c κs =
 returns : tie.Need-returns
 returns c =
     let t = c .before .before in
-    let m = named t in
-    (omega (arith, c .append .ensures .0, t .trimmed-length .ensures .0), c .append .ensures .1 ∙ ap (λ (l : List ℕ). written (t .before .args .text) ++ l) (t .trimmed-length .ensures .1))
+    let m = named t in (
+      omega (arith, c .append .ensures .0, t .trimmed-length .ensures .0),
+      c .append .ensures .1
+          ∙ ap (λ (l : List ℕ). written (t .before .args .text) ++ l) (t .trimmed-length .ensures .1),
+    )
 
 pub append-name-spec : {M : Type 1} → statement M
 append-name-spec =

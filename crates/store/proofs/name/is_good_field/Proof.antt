@@ -44,7 +44,9 @@ returns-2 c =
     let j = c .before .before .before .before .before in
     let f = j .before .before .before .args .t1 in
     rw (sym (judged j) ∙ not-false _ (c .before .before .before .before .if1 .left))
-    (c .same-bytes .ensures ∙ ap (λ (l : List ℕ). same f l) (c .before .before .before .pad .ensures ∙ ap padded (j .before .before .trimmed-length .ensures .1)))
+    (c .same-bytes .ensures
+    ∙ ap (λ (l : List ℕ). same f l) (c .before .before .before .pad .ensures
+    ∙ ap padded (j .before .before .trimmed-length .ensures .1)))
 
 pub is-good-field-spec : {M : Type 1} → statement M
 is-good-field-spec =

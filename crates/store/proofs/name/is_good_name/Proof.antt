@@ -43,15 +43,19 @@ returns-3 c =
 loop-again : tie.Need-loop-again Inv-loop μ-loop
 loop-again c =
     let l = c .before .before .before .before in
-    let n = l .before .before .before .before .args .name .now in
-    (omega arith, all-take-next isNameByte n (l .loop .i) 0 (omega arith) (l .loop .inv .1) (sym (c .before .is-name-byte .ensures) ∙ not-false _ (c .if3 .left)))
+    let n = l .before .before .before .before .args .name .now in (
+      omega arith,
+      all-take-next isNameByte n (l .loop .i) 0 (omega arith) (l .loop .inv .1) (sym (c .before .is-name-byte .ensures)
+          ∙ not-false _ (c .if3 .left)),
+    )
 
 returns-4 : tie.Need-returns-4 Inv-loop μ-loop
 unfolding goodName
 returns-4 c =
     let l = c .before in
     let n = l .before .before .before .before .args .name .now in
-    rw (le-leb _ _ (l .before .before .if1 .left), le-leb _ _ (l .before .if2 .left)) (sym (ap (all isNameByte) (sym (take-all (l .loop .i) n (omega arith))) ∙ l .loop .inv .1))
+    rw (le-leb _ _ (l .before .before .if1 .left), le-leb _ _ (l .before .if2 .left))
+    (sym (ap (all isNameByte) (sym (take-all (l .loop .i) n (omega arith))) ∙ l .loop .inv .1))
 
 pub is-good-name-spec : {M : Type 1} → statement M
 is-good-name-spec =

@@ -8,7 +8,8 @@ use Rattle.store.proofs.numbers.number.Statement.{statement}
 use Rattle.store.proofs.numbers.number.Tie as tie
 
 returns : tie.Need-returns
-returns c = toZ-pos w32 {n = c .before .answer .given .0 .0} (omega (arith, c .known-told .given)) ∙ ap answerNumber (sym (c .before .answer .given .1))
+returns c = toZ-pos w32 {n = c .before .answer .given .0 .0} (omega (arith, c .known-told .given))
+    ∙ ap answerNumber (sym (c .before .answer .given .1))
 
 returns-2 : tie.Need-returns-2
 returns-2 c = toZ-ofZ (search needs) ∙ c .refusal-number .ensures ∙ ap answerNumber (sym (c .before .before .answer2 .given .1))

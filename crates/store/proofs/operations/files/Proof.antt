@@ -28,9 +28,11 @@ sizes c = search needs
 
 -- the text put together has the length noted
 text-length : (c : tie.After-files-text) → length (written (c .files-text .result)) ≡ c .files-text .result .len
-text-length c = let z = sizes c in length-take-le (c .files-text .result .len) (c .files-text .result .bytes) (omega (arith, c .files-text .ensures .0))
+text-length c = let z = sizes c in
+    length-take-le (c .files-text .result .len) (c .files-text .result .bytes) (omega (arith, c .files-text .ensures .0))
 
-listed-length : (c : tie.After-files-text) → length (flat fileLine (files (c .before .before .before .before .before .before .args .disc .now))) ≡ c .files-text .result .len
+listed-length : (c : tie.After-files-text)
+    → length (flat fileLine (files (c .before .before .before .before .before .before .args .disc .now))) ≡ c .files-text .result .len
 listed-length c = ap length (sym (c .files-text .ensures .1)) ∙ text-length c
 
 returns : tie.Need-returns
@@ -45,7 +47,8 @@ unfolding filesAnswer
 returns-2 c =
     let t = c .before in
     let a = t .before .before .before .before .before .before .args in
-    rw (passed (t .before)) (text-short (flat fileLine (files (a .disc .now))) (a .out .now) (t .files-text .result .len) (listed-length t) (c .if1 .taken))
+    rw (passed (t .before))
+    (text-short (flat fileLine (files (a .disc .now))) (a .out .now) (t .files-text .result .len) (listed-length t) (c .if1 .taken))
 
 array-share-prefix-bytes : tie.Need-array-share-prefix-bytes
 array-share-prefix-bytes c =
@@ -71,7 +74,9 @@ returns-3 c =
     let t = c .before .before .before .before .before .before .before in
     let a = t .before .before .before .before .before .before .args in
     rw (passed (t .before))
-    (text-done (flat fileLine (files (a .disc .now))) (a .out .now) _ (t .files-text .result .len) (listed-length t) (c .before .before .before .before .before .before .if1 .left) (c .before .before .overwrite-at .ensures ∙ ap (λ (l : List ℕ). overwrite (a .out .now) 0 l) (t .files-text .ensures .1)))
+    (text-done (flat fileLine (files (a .disc .now))) (a .out .now) _ (t .files-text .result .len) (listed-length t)
+    (c .before .before .before .before .before .before .if1 .left) (c .before .before .overwrite-at .ensures
+    ∙ ap (λ (l : List ℕ). overwrite (a .out .now) 0 l) (t .files-text .ensures .1)))
 
 pub files-spec : {M : Type 1} → statement M
 files-spec =

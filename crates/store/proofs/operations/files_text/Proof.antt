@@ -25,8 +25,13 @@ loop-holds c = (omega arith, omega arith, c .empty-text .ensures .1)
 loop-again : tie.Need-loop-again Inv-loop μ-loop
 loop-again c =
     let l = c .before .before .before in
-    let d = l .before .before .before .before .args .disc .now in
-    (omega arith, omega (arith, c .with-line .ensures .0), c .with-line .ensures .1 ∙ ap₂ (λ (a b : List ℕ). a ++ b) (l .loop .inv .2) (ap fileLine (c .before .entry-at .ensures)) ∙ sym (flat-tab-next fileLine (entryAt d) (l .loop .i)))
+    let d = l .before .before .before .before .args .disc .now in (
+      omega arith,
+      omega (arith, c .with-line .ensures .0),
+      c .with-line .ensures .1
+          ∙ ap₂ (λ (a b : List ℕ). a ++ b) (l .loop .inv .2) (ap fileLine (c .before .entry-at .ensures))
+          ∙ sym (flat-tab-next fileLine (entryAt d) (l .loop .i)),
+    )
 
 returns : tie.Need-returns Inv-loop μ-loop
 returns c =

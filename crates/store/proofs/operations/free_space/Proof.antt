@@ -39,10 +39,13 @@ longest-run-requires c κs =
     omega (arith, r .low, r .high, r .few, c .before .file-count .ensures)
 
 -- the length found is the longest run that the definition has
-found : (c : tie.After-longest-run) → c .longest-run .result ≡ longest (taken (c .before .before .before .before .before .before .before .args .disc .now)) 161 (length (c .before .before .before .before .before .before .before .args .disc .now))
+found : (c : tie.After-longest-run)
+    → c .longest-run .result ≡ longest (taken (c .before .before .before .before .before .before .before .args .disc .now)) 161
+    (length (c .before .before .before .before .before .before .before .args .disc .now))
 found c =
     let d = c .before .before .before .before .before .before .before .args .disc .now in
-    let e : take (c .before .before .file-count .result) (c .before .taken-runs .result) ≡ taken d = ap (λ (n : ℕ). take n (c .before .taken-runs .result)) (c .before .before .file-count .ensures) ∙ c .before .taken-runs .ensures in
+    let e : take (c .before .before .file-count .result) (c .before .taken-runs .result) ≡ taken d =
+    ap (λ (n : ℕ). take n (c .before .taken-runs .result)) (c .before .before .file-count .ensures) ∙ c .before .taken-runs .ensures in
     c .longest-run .ensures ∙ ap (λ (l : List Run). longest l 161 (length d)) e
 
 cast-t8 : tie.Need-cast-t8

@@ -25,18 +25,34 @@ fit : (c : tie.After-enum-told) → Fit (c .before .before .before .before .befo
 fit c = usable (c .before .before .before .before .before .before .args .disc .now) (passed c)
 
 -- the file found, and that it lies inside the disc
-located : (c : tie.After-known-told2) → Located (c .before .before .before .before .before .before .before .before .before .before .args .disc .now) (c .before .before .before .before .before .before .before .before .before .before .args .name .now) (c .before .i .given .0 .0)
+located : (c : tie.After-known-told2)
+    → Located (c .before .before .before .before .before .before .before .before .before .before .args .disc .now)
+    (c .before .before .before .before .before .before .before .before .before .before .args .name .now) (c .before .i .given .0 .0)
 located c = lookup-at _ _ _ (sym (c .before .before .before .find .ensures) ∙ c .before .i .given .1)
 
-inside : (c : tie.After-entry-at) → GoodEntry (length (c .before .before .before .before .before .before .before .before .before .before .before .args .disc .now)) (c .entry-at .result)
-inside c = subst (GoodEntry (length (c .before .before .before .before .before .before .before .before .before .before .before .args .disc .now))) (sym (c .entry-at .ensures)) (good-entry-at (c .before .before .before .before .before .before .before .before .before .before .before .args .disc .now) (fit (c .before .before .before .before .before) .sound) (c .before .before .i .given .0 .0) (located (c .before) .inside))
+inside : (c : tie.After-entry-at)
+    → GoodEntry (length (c .before .before .before .before .before .before .before .before .before .before .before .args .disc .now))
+    (c .entry-at .result)
+inside c = subst (GoodEntry
+    (length (c .before .before .before .before .before .before .before .before .before .before .before .args .disc .now)))
+    (sym (c .entry-at .ensures))
+    (good-entry-at (c .before .before .before .before .before .before .before .before .before .before .before .args .disc .now)
+    (fit (c .before .before .before .before .before) .sound) (c .before .before .i .given .0 .0) (located (c .before) .inside))
 
 -- the entry that was read is the one that the definition finds
-chosen : (c : tie.After-entry-at) → retrieveFile (c .entry-at .result) (c .before .before .before .before .before .before .before .before .before .before .before .args .disc .now) (c .before .before .before .before .before .before .before .before .before .before .before .args .out .now) ≡ retrieveAt (lookup (c .before .before .before .before .before .before .before .before .before .before .before .args .disc .now) (c .before .before .before .before .before .before .before .before .before .before .before .args .name .now)) (c .before .before .before .before .before .before .before .before .before .before .before .args .disc .now) (c .before .before .before .before .before .before .before .before .before .before .before .args .out .now)
+chosen : (c : tie.After-entry-at)
+    → retrieveFile (c .entry-at .result)
+    (c .before .before .before .before .before .before .before .before .before .before .before .args .disc .now)
+    (c .before .before .before .before .before .before .before .before .before .before .before .args .out .now) ≡ retrieveAt
+    (lookup (c .before .before .before .before .before .before .before .before .before .before .before .args .disc .now)
+    (c .before .before .before .before .before .before .before .before .before .before .before .args .name .now))
+    (c .before .before .before .before .before .before .before .before .before .before .before .args .disc .now)
+    (c .before .before .before .before .before .before .before .before .before .before .before .args .out .now)
 chosen c =
     let a = c .before .before .before .before .before .before .before .before .before .before .before .args in
     ap (λ (e : Entry). retrieveFile e (a .disc .now) (a .out .now)) (c .entry-at .ensures)
-    ∙ ap (λ (f : Found). retrieveAt f (a .disc .now) (a .out .now)) (sym (c .before .before .i .given .1) ∙ c .before .before .before .before .find .ensures)
+    ∙ ap (λ (f : Found). retrieveAt f (a .disc .now) (a .out .now)) (sym (c .before .before .i .given .1)
+    ∙ c .before .before .before .before .find .ensures)
 
 returns : tie.Need-returns
 unfolding retrieveAnswer
@@ -55,7 +71,8 @@ unfolding retrieveAnswer
 returns-2 c =
     let t = c .before .before .before in
     let a = t .before .before .before .before .before .before .before .before .before .before .before .args in
-    rw (passed (t .before .before .before .before .before)) (file-short (t .entry-at .result) (a .disc .now) (a .out .now) (c .if1 .taken) ∙ chosen t)
+    rw (passed (t .before .before .before .before .before)) (file-short (t .entry-at .result) (a .disc .now) (a .out .now) (c .if1 .taken)
+    ∙ chosen t)
 
 part-overwrite-at-end : tie.Need-part-overwrite-at-end
 part-overwrite-at-end c = omega (arith, inside (c .before .before .before .before) .high)
@@ -70,7 +87,8 @@ unfolding retrieveAnswer
 returns-3 c =
     let s = c .before .before .before in
     let a = s .before .before .before .before .before .before .args in
-    rw (passed s) (ap (λ (f : Found). retrieveAt f (a .disc .now) (a .out .now)) (sym (c .enum-told2 .given .1) ∙ c .before .before .find .ensures))
+    rw (passed s) (ap (λ (f : Found). retrieveAt f (a .disc .now) (a .out .now)) (sym (c .enum-told2 .given .1)
+    ∙ c .before .before .find .ensures))
 
 returns-4 : tie.Need-returns-4
 unfolding retrieveAnswer
@@ -80,7 +98,9 @@ returns-4 c =
     let e = t .entry-at .result in
     let z : e .start + e .len - e .start ≡ e .len = omega arith in
     rw (passed (t .before .before .before .before .before))
-    (file-done e (a .disc .now) (a .out .now) _ (c .before .before .before .before .before .if1 .left) (c .before .before .overwrite-at .ensures ∙ ap (λ (n : ℕ). overwrite (a .out .now) 0 (part (a .disc .now) (e .start) n)) z) ∙ chosen t)
+    (file-done e (a .disc .now) (a .out .now) _ (c .before .before .before .before .before .if1 .left)
+    (c .before .before .overwrite-at .ensures ∙ ap (λ (n : ℕ). overwrite (a .out .now) 0 (part (a .disc .now) (e .start) n)) z)
+    ∙ chosen t)
 
 pub retrieve-spec : {M : Type 1} → statement M
 retrieve-spec =

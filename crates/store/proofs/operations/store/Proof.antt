@@ -24,11 +24,17 @@ fit : (c : tie.After-enum-told) → Fit (c .before .before .before .before .befo
 fit c = usable (c .before .before .before .before .before .before .before .args .disc .now) (passed c)
 
 -- what the admission of a start says
-let-in : (c : tie.After-known-told3) → Admitted (c .before .before .before .before .before .before .before .before .before .before .before .before .args .disc .now) (c .before .before .before .before .before .before .before .before .before .before .before .before .args .name .now) (length (c .before .before .before .before .before .before .before .before .before .before .before .before .args .«data» .now)) (c .before .start .given .0 .0)
+let-in : (c : tie.After-known-told3)
+    → Admitted (c .before .before .before .before .before .before .before .before .before .before .before .before .args .disc .now)
+    (c .before .before .before .before .before .before .before .before .before .before .before .before .args .name .now)
+    (length (c .before .before .before .before .before .before .before .before .before .before .before .before .args .«data» .now))
+    (c .before .start .given .0 .0)
 let-in c = admitted _ _ _ _ (sym (c .before .before .before .admit .ensures) ∙ c .before .start .given .1)
 
 -- place and length fit 16 bits
-short : (c : tie.After-known-told3) → c .before .start .given .0 .0 + length (c .before .before .before .before .before .before .before .before .before .before .before .before .args .«data» .now) < 65536
+short : (c : tie.After-known-told3)
+    → c .before .start .given .0 .0 + length
+    (c .before .before .before .before .before .before .before .before .before .before .before .before .args .«data» .now) < 65536
 short c = let a = let-in c in let r = fit (c .before .before .before .before .before) .ready in omega (arith, a .placed .high, r .high)
 
 returns : tie.Need-returns
@@ -61,7 +67,8 @@ unfolding storeAnswer
 returns-2 c =
     let s = c .before .before .before .before .before in
     let a = s .before .before .before .before .before .before .before .args in
-    rw (passed s) (ap (λ (m : Admission). storeAt m (a .disc .now) (a .name .now) (a .«data» .now)) (sym (c .before .refusal2 .given .1) ∙ c .before .before .before .admit .ensures))
+    rw (passed s) (ap (λ (m : Admission). storeAt m (a .disc .now) (a .name .now) (a .«data» .now)) (sym (c .before .refusal2 .given .1)
+    ∙ c .before .before .before .admit .ensures))
 
 returns-3 : tie.Need-returns-3
 unfolding storeAnswer
@@ -70,8 +77,11 @@ returns-3 c =
     let s = t .before .before .before .before .before in
     let a = s .before .before .before .before .before .before .before .args in
     rw (passed s)
-    (ap (λ (l : List ℕ). updated (Done 0) l) (c .before .before .write-at .ensures ∙ ap (λ (l : List ℕ). writtenAt l (runFrom (t .before .start .given .0 .0) (length (a .«data» .now))) 0 (a .«data» .now)) (c .before .before .before .before .before .before .enter .ensures))
-    ∙ ap (λ (m : Admission). storeAt m (a .disc .now) (a .name .now) (a .«data» .now)) (sym (t .before .start .given .1) ∙ t .before .before .before .admit .ensures))
+    (ap (λ (l : List ℕ). updated (Done 0) l) (c .before .before .write-at .ensures
+    ∙ ap (λ (l : List ℕ). writtenAt l (runFrom (t .before .start .given .0 .0) (length (a .«data» .now))) 0 (a .«data» .now))
+    (c .before .before .before .before .before .before .enter .ensures))
+    ∙ ap (λ (m : Admission). storeAt m (a .disc .now) (a .name .now) (a .«data» .now)) (sym (t .before .start .given .1)
+    ∙ t .before .before .before .admit .ensures))
 
 pub store-spec : {M : Type 1} → statement M
 store-spec =

@@ -20,7 +20,8 @@ returns c =
     let d = c .before .before .append-decimal .ensures in (
       omega (arith, c .append2 .ensures .0, d .0, s .0, n .0),
       c .append2 .ensures .1
-          ∙ ap (λ (l : List ℕ). l ++ (10 ∷ [])) (d .1 ∙ ap (λ (l : List ℕ). l ++ decimal (a .entry .len)) (s .1 ∙ ap (λ (l : List ℕ). l ++ (32 ∷ [])) (n .1)))
+          ∙ ap (λ (l : List ℕ). l ++ (10 ∷ [])) (d .1
+          ∙ ap (λ (l : List ℕ). l ++ decimal (a .entry .len)) (s .1 ∙ ap (λ (l : List ℕ). l ++ (32 ∷ [])) (n .1)))
           ∙ line-joined (written (a .text)) (trimmed (a .entry .name)) (32 ∷ []) (decimal (a .entry .len)) (10 ∷ []),
     )
 

@@ -49,7 +49,10 @@ cast-result : tie.Need-cast-result
 unfolding Castable
 cast-result c =
     let f = c .before .fits .n in
-    subst⁻¹ Castable (toZ-ofZ f) (from-zero (c .before .args .n) (subst (λ (y : ℤ). leZ (pos 0) y ≡ true) (toZ-ofZ f) (c .if1 .taken)), fits-natAbs tt f)
+    subst⁻¹ Castable (toZ-ofZ f) (
+      from-zero (c .before .args .n) (subst (λ (y : ℤ). leZ (pos 0) y ≡ true) (toZ-ofZ f) (c .if1 .taken)),
+      fits-natAbs tt f,
+    )
 
 sub-result : tie.Need-sub-result
 sub-result c = subst⁻¹ (SFits w32) (less-one _ (c .before .fits .n) (c .if1 .left)) (size-fits _ (c .before .fits .n) (c .if1 .left))

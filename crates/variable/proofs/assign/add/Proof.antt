@@ -35,7 +35,12 @@ unfolding added
 returns c =
     let w = c .before .before .before .before .before .overwrite-at .ensures in
     let e = c .before .with-entry .ensures in
-    λ t. record { memory = w t; entries = e t; count = c .before .before .before .before .before .before .before .before .before .before .before .before .args .v .count + 1 }
+    λ t. record {
+      memory = w t;
+      entries = e t;
+      count =
+          c .before .before .before .before .before .before .before .before .before .before .before .before .args .v .count + 1;
+    }
 
 pub add-spec : {M : Type 1} → statement M
 add-spec =

@@ -20,16 +20,27 @@ few c =
     omega (arith, freed-count (a .v) (isOf (a .name) (a .owner)))
 
 -- where the search puts the value among the variables that are left
-placed : (c : tie.After-place-for) → c .place-for .result ≡ placeFor (c .before .before .before .before .before .free-variable .result) (c .before .before .before .before .before .before .args .x .size)
+placed : (c : tie.After-place-for)
+    → c .place-for .result ≡ placeFor (c .before .before .before .before .before .free-variable .result)
+    (c .before .before .before .before .before .before .args .x .size)
 unfolding placeFor
 placed c = rw (c .before .before .taken-runs .ensures) at (c .place-for .ensures)
 
-judged : (c : tie.After-place-for) → placeFor (freed (c .before .before .before .before .before .before .args .v) (isOf (c .before .before .before .before .before .before .args .name) (c .before .before .before .before .before .before .args .owner))) (c .before .before .before .before .before .before .args .x .size) ≡ c .place-for .result
-judged c = sym (placed c ∙ ap (λ (w : Variables). placeFor w (c .before .before .before .before .before .before .args .x .size)) (c .before .before .before .before .before .free-variable .ensures))
+judged : (c : tie.After-place-for)
+    → placeFor (freed (c .before .before .before .before .before .before .args .v)
+    (isOf (c .before .before .before .before .before .before .args .name) (c .before .before .before .before .before .before .args .owner)))
+    (c .before .before .before .before .before .before .args .x .size) ≡ c .place-for .result
+judged c = sym (placed c
+    ∙ ap (λ (w : Variables). placeFor w (c .before .before .before .before .before .before .args .x .size))
+    (c .before .before .before .before .before .free-variable .ensures))
 
 -- there is an entry and a run for it
-room : (c : tie.After-placing) → (c .before .before .before .before .before .before .before .free-variable .result .count < entryLimit) × Fits (takenRuns (c .before .before .before .before .before .before .before .free-variable .result)) lowEnd highEnd (c .before .before .before .before .before .before .before .before .args .x .size) (c .placing .given .0 .0)
-room c = place-address (c .before .before .before .before .before .before .before .free-variable .result) (c .before .before .before .before .before .before .before .before .args .x .size) (c .placing .given .0 .0) (sym (placed (c .before .before)) ∙ c .placing .given .1)
+room : (c : tie.After-placing) → (c .before .before .before .before .before .before .before .free-variable .result .count < entryLimit)
+    × Fits (takenRuns (c .before .before .before .before .before .before .before .free-variable .result)) lowEnd highEnd
+    (c .before .before .before .before .before .before .before .before .args .x .size) (c .placing .given .0 .0)
+room c = place-address (c .before .before .before .before .before .before .before .free-variable .result)
+    (c .before .before .before .before .before .before .before .before .args .x .size) (c .placing .given .0 .0)
+    (sym (placed (c .before .before)) ∙ c .placing .given .1)
 
 taken-runs-requires : tie.Need-taken-runs-requires
 taken-runs-requires c κs = few (c .before .before)
@@ -57,13 +68,15 @@ returns-2 : tie.Need-returns-2
 unfolding assigned
 returns-2 c =
     let p = c .enum-told .given .1 in
-    rw (judged (c .before .before) ∙ p) (λ t. record { placing = p t; variables = c .before .before .before .before .before .before .before .before .args .v })
+    rw (judged (c .before .before)
+    ∙ p) (λ t. record { placing = p t; variables = c .before .before .before .before .before .before .before .before .args .v })
 
 returns-3 : tie.Need-returns-3
 unfolding assigned
 returns-3 c =
     let p = c .enum-told2 .given .1 in
-    rw (judged (c .before .before) ∙ p) (λ t. record { placing = p t; variables = c .before .before .before .before .before .before .before .before .args .v })
+    rw (judged (c .before .before)
+    ∙ p) (λ t. record { placing = p t; variables = c .before .before .before .before .before .before .before .before .args .v })
 
 pub assign-spec : {M : Type 1} → statement M
 assign-spec =

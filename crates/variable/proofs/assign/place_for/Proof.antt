@@ -12,11 +12,13 @@ returns c = rw (le-ltb (c .before .args .used) entryLimit (omega arith))
 
 returns-2 : tie.Need-returns-2
 unfolding placing
-returns-2 c = rw (lt-ltb (c .before .before .before .before .before .args .used) entryLimit (omega arith)) (ap addressOr (sym (c .before .a .given .1) ∙ c .before .before .before .find-place .ensures))
+returns-2 c = rw (lt-ltb (c .before .before .before .before .before .args .used) entryLimit (omega arith))
+    (ap addressOr (sym (c .before .a .given .1) ∙ c .before .before .before .find-place .ensures))
 
 returns-3 : tie.Need-returns-3
 unfolding placing
-returns-3 c = rw (lt-ltb (c .before .before .before .before .args .used) entryLimit (omega arith)) (ap addressOr (sym (c .enum-told .given .1) ∙ c .before .before .find-place .ensures))
+returns-3 c = rw (lt-ltb (c .before .before .before .before .args .used) entryLimit (omega arith))
+    (ap addressOr (sym (c .enum-told .given .1) ∙ c .before .before .find-place .ensures))
 
 pub place-for-spec : {M : Type 1} → statement M
 place-for-spec =

@@ -32,8 +32,12 @@ loop-holds c = (omega arith, room c, refl)
 loop-again : tie.Need-loop-again Inv-loop μ-loop
 loop-again c =
     let l = c .before .before .before in
-    let a = l .before .before .args in
-    (omega arith, simp length-set (l .loop .inv .1), tab-next (λ k. runOf (getD (a .t1) k noVariable)) (l .loop .runs) (l .loop .i) (c .run-of .result) (omega arith) (l .loop .inv .2) (c .run-of .ensures))
+    let a = l .before .before .args in (
+      omega arith,
+      simp length-set (l .loop .inv .1),
+      tab-next (λ k. runOf (getD (a .t1) k noVariable)) (l .loop .runs) (l .loop .i) (c .run-of .result) (omega arith) (l .loop .inv .2)
+          (c .run-of .ensures),
+    )
 
 returns : tie.Need-returns Inv-loop μ-loop
 returns c =
@@ -42,7 +46,8 @@ returns c =
     let a = s .args in
     let n = sizes s in
     let q : l .loop .i ≡ a .count = omega arith in
-    rw (← q) (l .loop .inv .2 ∙ sym (map-tab runOf (λ k. getD (a .t1) k noVariable) (l .loop .i)) ∙ ap (λ (r : List Variable). map runOf r) (sym (take-tab (a .t1) noVariable (l .loop .i) (omega arith))))
+    rw (← q) (l .loop .inv .2 ∙ sym (map-tab runOf (λ k. getD (a .t1) k noVariable) (l .loop .i))
+    ∙ ap (λ (r : List Variable). map runOf r) (sym (take-tab (a .t1) noVariable (l .loop .i) (omega arith))))
 
 pub taken-runs-spec : {M : Type 1} → statement M
 taken-runs-spec =

@@ -9,8 +9,10 @@ use borrow.Author.Needs.{needs}
 use Rattle.variable.proofs.good.is_beside.Statement.{statement}
 use Rattle.variable.proofs.good.is_beside.Tie as tie
 
-tested : (c : tie.After-is-apart) → c .is-apart .result ≡ apart (runOf (c .before .before .before .before .args .d)) (runOf (c .before .before .before .before .args .e))
-tested c = c .is-apart .ensures ∙ ap (λ (r : Run). apart (runOf (c .before .before .before .before .args .d)) r) (c .before .run-of .ensures)
+tested : (c : tie.After-is-apart)
+    → c .is-apart .result ≡ apart (runOf (c .before .before .before .before .args .d)) (runOf (c .before .before .before .before .args .e))
+tested c = c .is-apart .ensures
+    ∙ ap (λ (r : Run). apart (runOf (c .before .before .before .before .args .d)) r) (c .before .run-of .ensures)
 
 returns : tie.Need-returns
 unfolding beside

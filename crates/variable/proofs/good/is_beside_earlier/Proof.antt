@@ -34,13 +34,17 @@ returns c =
     let a = s .args in
     let n = sizes s in
     rw (take-tab (a .t1) noVariable (a .i) (omega arith))
-    (sym (all-tab-stop (λ k. getD (a .t1) k noVariable) (λ d. beside d (getD (a .t1) (a .i) noVariable)) (l .loop .j) (a .i) (omega arith) (sym (c .before .is-beside .ensures) ∙ not-true _ (c .if1 .taken))))
+    (sym (all-tab-stop (λ k. getD (a .t1) k noVariable) (λ d. beside d (getD (a .t1) (a .i) noVariable)) (l .loop .j) (a .i) (omega arith)
+    (sym (c .before .is-beside .ensures) ∙ not-true _ (c .if1 .taken))))
 
 loop-again : tie.Need-loop-again Inv-loop μ-loop
 loop-again c =
     let l = c .before .before .before .before in
-    let a = l .before .before .args in
-    (omega arith, all-tab-next (λ k. getD (a .t1) k noVariable) (λ d. beside d (getD (a .t1) (a .i) noVariable)) (l .loop .j) (l .loop .inv .1) (sym (c .before .is-beside .ensures) ∙ not-false _ (c .if1 .left)))
+    let a = l .before .before .args in (
+      omega arith,
+      all-tab-next (λ k. getD (a .t1) k noVariable) (λ d. beside d (getD (a .t1) (a .i) noVariable)) (l .loop .j)
+          (l .loop .inv .1) (sym (c .before .is-beside .ensures) ∙ not-false _ (c .if1 .left)),
+    )
 
 returns-2 : tie.Need-returns-2 Inv-loop μ-loop
 returns-2 c =
@@ -50,7 +54,8 @@ returns-2 c =
     let n = sizes s in
     let q : l .loop .j ≡ a .i = omega arith in
     rw (take-tab (a .t1) noVariable (a .i) (omega arith))
-    (sym (subst (λ (k : ℕ). all (λ d. beside d (getD (a .t1) (a .i) noVariable)) (tab (λ k. getD (a .t1) k noVariable) k) ≡ true) q (l .loop .inv .1)))
+    (sym (subst (λ (k : ℕ). all (λ d. beside d (getD (a .t1) (a .i) noVariable)) (tab (λ k. getD (a .t1) k noVariable) k) ≡ true) q
+    (l .loop .inv .1)))
 
 pub is-beside-earlier-spec : {M : Type 1} → statement M
 is-beside-earlier-spec =

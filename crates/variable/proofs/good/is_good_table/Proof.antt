@@ -15,7 +15,8 @@ use Rattle.variable.proofs.good.is_good_table.Statement.{statement}
 use Rattle.variable.proofs.good.is_good_table.Tie as tie
 
 abbrev Inv-loop : tie.InvT-loop
-Inv-loop live count entries i₀ i = (i ≤ count) × (all (goodVariable live) (tab (λ k. getD entries k noVariable) i) ≡ true) × (pairs beside (tab (λ k. getD entries k noVariable) i) ≡ true)
+Inv-loop live count entries i₀ i = (i ≤ count) × (all (goodVariable live) (tab (λ k. getD entries k noVariable) i) ≡ true)
+    × (pairs beside (tab (λ k. getD entries k noVariable) i) ≡ true)
 
 abbrev μ-loop : tie.MeasureT-loop
 μ-loop live count entries i₀ i = count - i
@@ -33,23 +34,36 @@ returns c =
     let a = l .before .before .args in
     let n = sizes (l .before .before) in
     let e = sym (c .before .is-good-variable .ensures) ∙ not-true _ (c .if1 .taken) in
-    rw (take-tab (a .t2) noVariable (a .count) (omega arith), all-tab-stop (λ k. getD (a .t2) k noVariable) (goodVariable (a .live .now)) (l .loop .i) (a .count) (omega arith) e)
+    rw (
+      take-tab (a .t2) noVariable (a .count) (omega arith),
+      all-tab-stop (λ k. getD (a .t2) k noVariable) (goodVariable (a .live .now)) (l .loop .i) (a .count) (omega arith) e,
+    )
 
 returns-2 : tie.Need-returns-2 Inv-loop μ-loop
 returns-2 c =
     let l = c .before .before .before .before .before .before in
     let a = l .before .before .args in
     let n = sizes (l .before .before) in
-    let e = rw (take-tab (a .t2) noVariable (l .loop .i) (omega arith)) at (sym (c .before .is-beside-earlier .ensures) ∙ not-true _ (c .if2 .taken)) in
-    rw (take-tab (a .t2) noVariable (a .count) (omega arith), pairs-tab-stop (λ k. getD (a .t2) k noVariable) beside (l .loop .i) (a .count) (omega arith) e) (sym (and-false (all (goodVariable (a .live .now)) (tab (λ k. getD (a .t2) k noVariable) (a .count)))))
+    let e = rw (take-tab (a .t2) noVariable (l .loop .i) (omega arith)) at (sym (c .before .is-beside-earlier .ensures)
+    ∙ not-true _ (c .if2 .taken)) in
+    rw (
+      take-tab (a .t2) noVariable (a .count) (omega arith),
+      pairs-tab-stop (λ k. getD (a .t2) k noVariable) beside (l .loop .i) (a .count) (omega arith) e,
+    )
+    (sym (and-false (all (goodVariable (a .live .now)) (tab (λ k. getD (a .t2) k noVariable) (a .count)))))
 
 loop-again : tie.Need-loop-again Inv-loop μ-loop
 loop-again c =
     let l = c .before .before .before .before .before .before in
     let a = l .before .before .args in
     let n = sizes (l .before .before) in
-    let e = rw (take-tab (a .t2) noVariable (l .loop .i) (omega arith)) at (sym (c .before .is-beside-earlier .ensures) ∙ not-false _ (c .if2 .left)) in
-    (omega arith, all-tab-next (λ k. getD (a .t2) k noVariable) (goodVariable (a .live .now)) (l .loop .i) (l .loop .inv .1) (sym (c .before .before .before .is-good-variable .ensures) ∙ not-false _ (c .before .before .if1 .left)), pairs-tab-next (λ k. getD (a .t2) k noVariable) beside (l .loop .i) (l .loop .inv .2) e)
+    let e = rw (take-tab (a .t2) noVariable (l .loop .i) (omega arith)) at (sym (c .before .is-beside-earlier .ensures)
+    ∙ not-false _ (c .if2 .left)) in (
+      omega arith,
+      all-tab-next (λ k. getD (a .t2) k noVariable) (goodVariable (a .live .now)) (l .loop .i) (l .loop .inv .1)
+          (sym (c .before .before .before .is-good-variable .ensures) ∙ not-false _ (c .before .before .if1 .left)),
+      pairs-tab-next (λ k. getD (a .t2) k noVariable) beside (l .loop .i) (l .loop .inv .2) e,
+    )
 
 returns-3 : tie.Need-returns-3 Inv-loop μ-loop
 returns-3 c =

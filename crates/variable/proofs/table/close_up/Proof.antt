@@ -12,7 +12,8 @@ use Rattle.variable.proofs.table.close_up.Statement.{statement}
 use Rattle.variable.proofs.table.close_up.Tie as tie
 
 abbrev Inv-loop : tie.InvT-loop
-Inv-loop memory count every name owner old end entries₀ kept₀ i₀ entries kept i = (i ≤ end) × Closed (stays every name owner) noVariable i old entries kept
+Inv-loop memory count every name owner old end entries₀ kept₀ i₀ entries kept i = (i ≤ end)
+    × Closed (stays every name owner) noVariable i old entries kept
 
 abbrev μ-loop : tie.MeasureT-loop
 μ-loop memory count every name owner old end entries₀ kept₀ i₀ entries kept i = end - i
@@ -28,16 +29,22 @@ loop-again c =
     let l = c .before .before .before .before .before in
     let a = l .before .args in
     let n = sizes (l .before) in
-    let z = c .before .before .no-variable in
-    (omega arith, closed-more (stays (a .every) (a .name) (a .owner)) noVariable (a .t2) (l .loop .i) (l .loop .kept) (l .loop .entries) (z .result) (omega arith) (l .loop .inv .1) (z .ensures) (ap not (sym (c .before .is-gone .ensures) ∙ not-true _ (c .if1 .taken))))
+    let z = c .before .before .no-variable in (
+      omega arith,
+      closed-more (stays (a .every) (a .name) (a .owner)) noVariable (a .t2) (l .loop .i) (l .loop .kept) (l .loop .entries)
+          (z .result) (omega arith) (l .loop .inv .1) (z .ensures) (ap not (sym (c .before .is-gone .ensures) ∙ not-true _ (c .if1 .taken))),
+    )
 
 loop-again-2 : tie.Need-loop-again-2 Inv-loop μ-loop
 loop-again-2 c =
     let l = c .before .before .before .before .before in
     let a = l .before .args in
     let n = sizes (l .before) in
-    let z = c .before .before .no-variable in
-    (omega arith, closed-gone (stays (a .every) (a .name) (a .owner)) noVariable (a .t2) (l .loop .i) (l .loop .kept) (l .loop .entries) (z .result) (omega arith) (l .loop .inv .1) (z .ensures) (ap not (sym (c .before .is-gone .ensures) ∙ not-false _ (c .if1 .left))))
+    let z = c .before .before .no-variable in (
+      omega arith,
+      closed-gone (stays (a .every) (a .name) (a .owner)) noVariable (a .t2) (l .loop .i) (l .loop .kept) (l .loop .entries)
+          (z .result) (omega arith) (l .loop .inv .1) (z .ensures) (ap not (sym (c .before .is-gone .ensures) ∙ not-false _ (c .if1 .left))),
+    )
 
 returns : tie.Need-returns Inv-loop μ-loop
 unfolding freed
@@ -45,7 +52,8 @@ returns c =
     let l = c .before in
     let a = l .before .args in
     let q : l .loop .i ≡ a .count = omega arith in
-    let f : Closed (stays (a .every) (a .name) (a .owner)) noVariable (a .count) (a .t2) (l .loop .entries) (l .loop .kept) = rw q at (l .loop .inv .1) in
+    let f : Closed (stays (a .every) (a .name) (a .owner)) noVariable (a .count) (a .t2) (l .loop .entries) (l .loop .kept) =
+    rw q at (l .loop .inv .1) in
     λ t. record { memory = a .memory; entries = f .list t; count = f .count t }
 
 pub close-up-spec : {M : Type 1} → statement M

@@ -29,17 +29,25 @@ returns c =
     let l = c .before .before .before .before in
     let a = l .before .args in
     let n = sizes (l .before) in
-    rw (take-tab (a .t1) noVariable (a .count) (omega arith)) (sym (index-tab-is (λ k. getD (a .t1) k noVariable) (a .count) (isOf (a .name) (a .owner)) (l .loop .i) (omega arith) (sym (c .before .is-of .ensures) ∙ c .if1 .taken) (l .loop .inv .1)))
+    rw (take-tab (a .t1) noVariable (a .count) (omega arith))
+    (sym (index-tab-is (λ k. getD (a .t1) k noVariable) (a .count) (isOf (a .name) (a .owner)) (l .loop .i) (omega arith)
+    (sym (c .before .is-of .ensures) ∙ c .if1 .taken) (l .loop .inv .1)))
 
 loop-again : tie.Need-loop-again Inv-loop μ-loop
-loop-again c = (omega arith, below-more _ _ (c .before .before .before .before .loop .inv .1) (sym (c .before .is-of .ensures) ∙ c .if1 .left))
+loop-again c = (
+  omega arith,
+  below-more _ _ (c .before .before .before .before .loop .inv .1) (sym (c .before .is-of .ensures)
+      ∙ c .if1 .left),
+)
 
 returns-2 : tie.Need-returns-2 Inv-loop μ-loop
 returns-2 c =
     let l = c .before in
     let a = l .before .args in
     let n = sizes (l .before) in
-    rw (take-tab (a .t1) noVariable (a .count) (omega arith)) (sym (index-tab-miss (λ k. getD (a .t1) k noVariable) (a .count) (isOf (a .name) (a .owner)) (λ k h. l .loop .inv .1 k (omega arith))))
+    rw (take-tab (a .t1) noVariable (a .count) (omega arith))
+    (sym (index-tab-miss (λ k. getD (a .t1) k noVariable) (a .count) (isOf (a .name) (a .owner))
+    (λ k h. l .loop .inv .1 k (omega arith))))
 
 pub find-entry-spec : {M : Type 1} → statement M
 find-entry-spec =
