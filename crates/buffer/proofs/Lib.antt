@@ -5,3 +5,4 @@ pub mod Kept
 pub mod Lists
 pub mod Parts
 pub mod Tables
+pub mod Texts

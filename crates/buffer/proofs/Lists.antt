@@ -1,5 +1,5 @@
 -- Laws of the tests on lists, and of the lists made from others.
-use Prim.Native.Nat.{ℕ, zero, suc, _+_, _-_, _<_}
+use Prim.Native.Nat.{ℕ, zero, suc, _+_, _-_, _<_, _≤_}
 use mathlib.Core.Path.{_≡_, refl, sym, ap, _∙_, subst}
 use mathlib.Core.Bool.{Bool, true, false, _&&_, and-false, and-assoc, and-true}
 use mathlib.Core.List.{List, [], _∷_, _++_, map, map-append, append-assoc, append-nil}
@@ -186,10 +186,16 @@ unfolding tab
 map-tab {A} {B} g f zero = refl
 map-tab {A} {B} g f (suc n) = map-append g (tab f n) (f n ∷ []) ∙ ap (λ (l : List B). l ++ (g (f n) ∷ [])) (map-tab g f n)
 
-pub drop-replicate : (n m a : ℕ) → drop m (replicate n a) ≡ replicate (n - m) a
-drop-replicate n zero a = let e : n - 0 ≡ n = omega arith in rw e
-drop-replicate zero (suc m) a = let e : 0 - suc m ≡ 0 = omega arith in rw e
-drop-replicate (suc n) (suc m) a = let e : suc n - suc m ≡ n - m = omega arith in rw e (drop-replicate n m a)
+module _ {A : Type 0} (a : A) where
+  pub drop-replicate : (n m : ℕ) → drop m (replicate n a) ≡ replicate (n - m) a
+  drop-replicate n zero = let e : n - 0 ≡ n = omega arith in rw e
+  drop-replicate zero (suc m) = let e : 0 - suc m ≡ 0 = omega arith in rw e
+  drop-replicate (suc n) (suc m) = let e : suc n - suc m ≡ n - m = omega arith in rw e (drop-replicate n m)
+
+  pub take-replicate : (n m : ℕ) → m ≤ n → take m (replicate n a) ≡ replicate m a
+  take-replicate n zero h = refl
+  take-replicate zero (suc m) h = absurd (not-suc-le-zero h)
+  take-replicate (suc n) (suc m) h = ap (λ (l : List A). a ∷ l) (take-replicate n m (le-of-suc-le-suc h))
 
 pub flat-snoc : {A : Type 0} (f : A → List ℕ) (l : List A) (x : A) → flat f (l ++ (x ∷ [])) ≡ flat f l ++ f x
 unfolding flat

@@ -7,6 +7,8 @@ ghost use Rattle.decimal.specs.Decimal.{decimal, digitsOf, maxDigits};
 
 pub const MAX_DIGITS: usize = 10;
 
+const LAST_DIGIT: usize = MAX_DIGITS - 1;
+
 // The digits stand at the end of bytes, from start on.
 pub struct Digits {
     pub bytes: [u8; MAX_DIGITS],
@@ -24,7 +26,7 @@ pub fn digits_of(n: u32) -> Digits
     ensures { λ r. ⌜ (r ≡ digitsOf n) × (r .start < maxDigits) ⌝ }
 {
     let mut bytes = [0u8; MAX_DIGITS];
-    let mut start: usize = MAX_DIGITS - 1;
+    let mut start: usize = LAST_DIGIT;
     let mut rest = n;
     bytes[start] = digit(rest % 10);
     while 10 <= rest {

@@ -2,19 +2,20 @@
 use Prim.Native.Nat.{ℕ, zero, suc, _+_, _-_, _≤_, _<_}
 use mathlib.Core.Path.{_≡_, refl, sym, ap, subst}
 use mathlib.Core.Bool.{Bool, true, false, _&&_, _||_, and-false}
-use mathlib.Core.List.{List}
+use mathlib.Core.List.{List, append-assoc}
 use mathlib.Core.Logic.{_⊎_, inl, inr, ⊎-elim}
 use native.Mathlib.Nat.{not-suc-le-zero, le-of-suc-le-suc, eq-or-lt-of-le}
 use native.Mathlib.Omega.{arith}
 use lib.Dec.{leb}
-use lib.ListN.{length, getD}
+use lib.ListN.{length, getD, replicate, set, take}
+use lib.Seq.{set-at, take-append-seam}
 use borrow.Author.Tests.{le-leb, lt-leb, leb-true, leb-false}
-use Rattle.buffer.specs.Lists.{all}
+use Rattle.buffer.specs.Lists.{all, tab}
 use Rattle.buffer.specs.declared.Found.{Found}
 use Rattle.buffer.specs.declared.Found.the-variants.{At, Nowhere}
 use Rattle.buffer.proofs.Bools.{and-left, and-right, true-not-false, not-true-is-false}
-use Rattle.buffer.proofs.Lists.{all-stop, all-weaker}
-use Rattle.place.specs.Place.{runFrom, apart, fits, atOr, lowest, place, isAt, greaterOf, greatest, longest}
+use Rattle.buffer.proofs.Lists.{all-stop, all-weaker, tab-length, tab-more}
+use Rattle.place.specs.Place.{runFrom, noRun, maxRuns, filled, apart, fits, atOr, lowest, place, isAt, greaterOf, greatest, longest}
 use Rattle.place.specs.declared.Run.{Run}
 
 -- ---- apart
@@ -295,3 +296,14 @@ module _ (runs : List Run) (lo hi : ℕ) where
           let x = place-fits runs lo hi n s e in
           absurd (true-not-false (ap isAt e)
           (greatest-most (λ k. isAt (place runs lo hi k)) (hi - lo) n h (omega (arith, x .low, x .high))))
+
+-- ---- runs in an array
+-- one more turn of a loop that puts the runs f 0, f 1, .. into it
+module _ (f : ℕ → Run) (i : ℕ) (h : i < maxRuns) where
+  pub filled-next : set (filled (tab f i)) i (f i) ≡ filled (tab f (i + 1))
+  filled-next =
+      let m : maxRuns - length (tab f i) ≡ suc (maxRuns - length (tab f (i + 1))) = omega (arith, tab-length f i, tab-length f (i + 1)) in
+      rw (m, set-at (tab f i) noRun _ (f i) i (tab-length f i)) (rw (tab-more f i, append-assoc))
+
+pub filled-take : (runs : List Run) → length runs ≤ maxRuns → take (length runs) (filled runs) ≡ runs
+filled-take runs h = take-append-seam runs (replicate (maxRuns - length runs) noRun)

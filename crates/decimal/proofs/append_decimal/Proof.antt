@@ -1,49 +1,41 @@
-use Prim.Native.Nat.{ℕ, _-_, _≤_}
+-- `decimal::append_decimal` meets its contract: the part of the bytes from start on is all the digits.
+use Prim.Native.Nat.{ℕ, _-_}
 use mathlib.Core.Path.{_≡_, ap, _∙_}
-use mathlib.Core.List.{List, _++_}
-use lib.ListN.{length, take, drop, length-take, length-drop}
-use lib.Seq.{take-all}
-use Rattle.buffer.specs.Text.{written}
+use mathlib.Core.List.{List}
+use lib.ListN.{length, take, drop}
+use Rattle.buffer.specs.Text.{appended}
 use native.Mathlib.Omega.{arith}
 use borrow.Author.Needs.{needs}
+use Rattle.decimal.specs.Decimal.{decimal, maxDigits}
+use Rattle.decimal.proofs.Laws.{digits-few, digits-part}
 use Rattle.decimal.proofs.append_decimal.Statement.{statement}
 use Rattle.decimal.proofs.append_decimal.Tie as tie
 
-sizes : (c : tie.After-digits-of) → length (c .digits-of .result .bytes) ≡ 10
+sizes : (c : tie.After-digits-of) → length (c .digits-of .result .bytes) ≡ maxDigits
 sizes c = search needs
 
-whole : (c : tie.After-digits-of)
-    → take (10 - c .digits-of .result .start) (drop (c .digits-of .result .start) (c .digits-of .result .bytes)) ≡ drop
-    (c .digits-of .result .start) (c .digits-of .result .bytes)
-whole c = let z = sizes c in
-    take-all (10 - c .digits-of .result .start) (drop (c .digits-of .result .start) (c .digits-of .result .bytes))
-    (simp length-drop (omega arith))
+-- what is appended
+tail : tie.After-digits-of → List ℕ
+tail c = take (maxDigits - c .digits-of .result .start) (drop (c .digits-of .result .start) (c .digits-of .result .bytes))
 
-long : (c : tie.After-digits-of)
-    → length (take (10 - c .digits-of .result .start) (drop (c .digits-of .result .start) (c .digits-of .result .bytes))) ≤ 10
-long c = let z = sizes c in simp (length-take, length-drop) (omega arith)
-
-part-append-start : tie.Need-part-append-start
-part-append-start c = omega (arith, c .before .before .digits-of .ensures .0)
-
-part-append-end : tie.Need-part-append-end
-part-append-end c =
-    let z = sizes (c .before .before) in
-    omega arith
+shown : (c : tie.After-digits-of) → tail c ≡ decimal (c .before .args .n)
+unfolding tail
+shown c = digits-part (c .before .args .n) (c .digits-of .result) (c .digits-of .ensures .0)
 
 append-requires : tie.Need-append-requires
+unfolding tail
 append-requires c κs =
-    let m = long (c .before .before .before) in
-    omega arith
+    let d = c .before .before .before in
+    let few = digits-few maxDigits (d .before .args .n) in
+    omega (arith, ap length (shown d))
 
 returns : tie.Need-returns
+unfolding tail
 returns c =
     let d = c .before .before .before .before in
-    let m = long d in (
-      omega (arith, c .append .ensures .0),
-      c .append .ensures .1
-          ∙ ap (λ (l : List ℕ). written (d .before .args .text) ++ l) (whole d ∙ d .digits-of .ensures .1),
-    )
+    let few = digits-few maxDigits (d .before .args .n) in
+    let e = c .append .ensures ∙ ap (appended (d .before .args .text)) (shown d) in
+    (e, omega (arith, ap (λ (t : _). t .len) e))
 
 pub append-decimal-spec : {M : Type 1} → statement M
 append-decimal-spec =
@@ -51,7 +43,7 @@ append-decimal-spec =
     (tie.spec
     (λ c κs. search needs)
     (λ c. search needs)
-    part-append-start
-    part-append-end
+    (λ c. omega (arith, c .before .before .digits-of .ensures .1))
+    (λ c. let z = sizes (c .before .before) in omega arith)
     append-requires
     returns)

@@ -1,26 +1,26 @@
--- The loop: the digits of n are those of rest less its last, and then those written.
+-- The loop: the digits of n are those of rest less its last, and then those written; before these are zeros.
 use Prim.Native.Nat.{_+_, _/_, _^_, _≤_, _<_}
-use mathlib.Core.Path.{_≡_, refl, _∙_}
+use mathlib.Core.Path.{_≡_, refl, sym, _∙_}
 use mathlib.Core.List.{_++_}
 use native.Mathlib.Omega.{arith}
 use lib.Dec.{leb}
-use lib.ListN.{length, drop, length-set}
+use lib.ListN.{length, drop, replicate, take, length-set}
 use borrow.Author.Tests.{lt-leb}
-use Rattle.decimal.specs.Decimal.{decimal, ifMore, lastDigits}
-use Rattle.decimal.proofs.Laws.{digit-next, room, shorter}
+use Rattle.decimal.specs.Decimal.{decimal, ifMore, lastDigits, maxDigits}
+use Rattle.decimal.proofs.Laws.{as-digits, digit-next, room, shorter, zeros-shorter}
 use Rattle.decimal.proofs.digits_of.Statement.{statement}
 use Rattle.decimal.proofs.digits_of.Tie as tie
 
 abbrev Inv-loop : tie.InvT-loop
-Inv-loop n bytes₀ start₀ rest₀ bytes start rest = (start ≤ 9) × (length bytes ≡ 10) × (rest < 10 ^ (start + 1))
-    × (decimal n ≡ ifMore (leb 10 rest) (lastDigits start (rest / 10)) ++ drop start bytes)
+Inv-loop n bytes₀ start₀ rest₀ bytes start rest = (start < maxDigits) × (length bytes ≡ maxDigits) × (rest < 10 ^ (start + 1))
+    × (take start bytes ≡ replicate start 0) × (decimal n ≡ ifMore (leb 10 rest) (lastDigits start (rest / 10)) ++ drop start bytes)
 
 abbrev μ-loop : tie.MeasureT-loop
 μ-loop n bytes₀ start₀ rest₀ bytes start rest = rest
 
 loop-holds : tie.Need-loop-holds Inv-loop μ-loop
 unfolding lastDigits
-loop-holds c = (omega arith, refl, omega arith, rw (c .digit .ensures))
+loop-holds c = (omega arith, refl, omega arith, refl, rw (c .digit .ensures))
 
 -- a turn finds room for one more digit
 more : (c : tie.In-loop Inv-loop μ-loop) → 0 < c .before .loop .start
@@ -39,12 +39,16 @@ loop-again c =
       omega arith,
       simp length-set (l .loop .inv .1),
       shorter (l .loop .start) (l .loop .rest) h (l .loop .inv .2),
-      l .loop .inv .3 ∙ digit-next (l .loop .start) (l .loop .rest) (c .digit2 .result) (l .loop .bytes) (omega arith) h (omega arith)
+      zeros-shorter (l .loop .bytes) (l .loop .start) (c .digit2 .result) h (l .loop .inv .3),
+      l .loop .inv .4 ∙ digit-next (l .loop .start) (l .loop .rest) (c .digit2 .result) (l .loop .bytes) (omega arith) h (omega arith)
           (c .digit2 .ensures),
     )
 
 returns : tie.Need-returns Inv-loop μ-loop
-returns c = (omega arith, rw (c .before .loop .inv .3, lt-leb _ _ (c .loop-test .left)))
+returns c =
+    let l = c .before .loop in
+    let digits : decimal (c .before .before .before .args .n) ≡ drop (l .start) (l .bytes) = rw (l .inv .4, lt-leb _ _ (c .loop-test .left)) in
+    (sym (as-digits _ (l .bytes) (l .start) (l .inv .1) (omega arith) (l .inv .3) digits), omega arith)
 
 pub digits-of-spec : {M : Type 1} → statement M
 digits-of-spec =

@@ -11,7 +11,7 @@ use Rattle.store.proofs.name.pad.Tie as tie
 returns : tie.Need-returns
 returns c =
     let n = c .before .before .before .before .args .name .now in
-    c .before .overwrite-at .ensures ∙ rw zero-add (ap (λ (l : List ℕ). n ++ l) (drop-replicate 12 (length n) 0))
+    c .before .overwrite-at .ensures ∙ rw zero-add (ap (λ (l : List ℕ). n ++ l) (drop-replicate 0 nameSize (length n)))
 
 pub pad-spec : {M : Type 1} → statement M
 pad-spec = tie.close (tie.spec (λ c. search needs) (λ c κs. search needs) returns)
