@@ -13,6 +13,7 @@ use Rattle.store.specs.Directory.{entryAt, files as entries, goodDisc, isDiscLe
 use Rattle.store.specs.File.{erased, unless}
 use Rattle.machine.specs.Area.{isAreaLength, kernelBytes, kernelOf}
 use Rattle.machine.specs.GoodArea.{goodKernel}
+use Rattle.machine.specs.Limits.{areaLength, nextAt, roundRoom, slotCount, turnRoom}
 use Rattle.machine.specs.Operations.{Command, Commanded, becomes, refused as declined, commanded, inUse, listText}
 use Rattle.machine.specs.Operations.{slots, turnsOf}
 use Rattle.machine.specs.Start.{Starting, starts, refuses, started, starting}
@@ -32,14 +33,19 @@ pub record Answer : Type 0 where
   pub area : List ℕ
   pub out : List ℕ
 
--- Document 01: the twelve operations of demand 3
+-- Document 01: the twelve operations of demand 3, by what they are to processes: a turn, the turns of all, a command of
+-- an ID, a start, or none of these
+pub data Other : Type 0 where
+  store : (name bytes : List ℕ) → Other
+  retrieve erase : (name : List ℕ) → Other
+  files freeSpace list : Other
+
 pub data Call : Type 0 where
-  store : (name bytes : List ℕ) → Call
-  retrieve erase run : (name : List ℕ) → Call
-  files freeSpace list : Call
-  command : Command → (id : ℕ) → Call
   turn : (slot clock : ℕ) → Call
   round : (clock : ℕ) → Call
+  command : Command → (id : ℕ) → Call
+  run : (name : List ℕ) → Call
+  other : Other → Call
 
 -- Document 01: "−n is refusal n with both buffers and the output unchanged"
 abbrev pub refused : ℕ → Buffers → Answer
@@ -98,30 +104,34 @@ turnedAnswer t b = done (length (t .out)) (t .kernel) (t .disc) (t .out) b
 -- Document 01, Turn: "16 slot above 9 or not running. Returns the bytes printed; the rest of the output is untouched."
 abbrev pub turnAnswer : ℕ → ℕ → Kernel → Buffers → Answer
 turnAnswer slot clock k b =
-    withRoom 32 b
-    (unless (ltb slot 10 && isRunning (processAt k slot)) (refused 16 b)
+    withRoom turnRoom b
+    (unless (ltb slot slotCount && isRunning (processAt k slot)) (refused 16 b)
     (turnedAnswer (turned k slot clock (b .disc)) b))
 
 -- Document 01, Round: "needs 320 bytes"
 abbrev pub roundAnswer : ℕ → Kernel → Buffers → Answer
-roundAnswer clock k b = withRoom 320 b (turnedAnswer (turnsOf slots k clock (b .disc)) b)
+roundAnswer clock k b = withRoom roundRoom b (turnedAnswer (turnsOf slots k clock (b .disc)) b)
+
+unfoldable pub otherAnswer : Other → Buffers → Answer
+otherAnswer (store name bytes) b = onDisc (storeAnswer (b .disc) name bytes) b
+otherAnswer (retrieve name) b = onOutput (retrieveAnswer (b .disc) name (b .out)) b
+otherAnswer files b = onOutput (filesAnswer (b .disc) (b .out)) b
+otherAnswer freeSpace b = record { number = freeSpaceAnswer (b .disc); disc = b .disc; area = b .area; out = b .out }
+otherAnswer (erase name) b = onGood b (eraseAt (lookup (b .disc) name) (kernelOf (b .area)) b)
+otherAnswer list b = onGood b (listAnswer (listText (kernelOf (b .area))) b)
 
 unfoldable pub answer : Call → Buffers → Answer
-answer (store name bytes) b = onDisc (storeAnswer (b .disc) name bytes) b
-answer (retrieve name) b = onOutput (retrieveAnswer (b .disc) name (b .out)) b
-answer files b = onOutput (filesAnswer (b .disc) (b .out)) b
-answer freeSpace b = record { number = freeSpaceAnswer (b .disc); disc = b .disc; area = b .area; out = b .out }
-answer (erase name) b = onGood b (eraseAt (lookup (b .disc) name) (kernelOf (b .area)) b)
-answer (run name) b = onGood b (runAt (starting (kernelOf (b .area)) (b .disc) name) (kernelOf (b .area)) b)
-answer (command c id) b = onGood b (commandAnswer (commanded c id (kernelOf (b .area))) b)
-answer list b = onGood b (listAnswer (listText (kernelOf (b .area))) b)
+unfolding otherAnswer
 answer (turn slot clock) b = onGood b (turnAnswer slot clock (kernelOf (b .area)) b)
 answer (round clock) b = onGood b (roundAnswer clock (kernelOf (b .area)) b)
+answer (command c id) b = onGood b (commandAnswer (commanded c id (kernelOf (b .area))) b)
+answer (run name) b = onGood b (runAt (starting (kernelOf (b .area)) (b .disc) name) (kernelOf (b .area)) b)
+answer (other o) b = otherAnswer o b
 
 -- ---- format and boot, which are no Call: they take any bytes of the right length
 -- Document 01: "Boot zeroes the work area and sets next ID to 1."
 abbrev pub booted : List ℕ
-booted = set (replicate 1056 0) 407 1
+booted = set (replicate areaLength 0) nextAt 1
 
 unfoldable pub bootAnswer : Buffers → Answer
 bootAnswer b = unless (isAreaLength (length (b .area))) (refused 1 b)

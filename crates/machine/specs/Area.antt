@@ -1,12 +1,4 @@
 -- The work area's bytes and the kernel's state, one made from the other.
---
---     0    variable memory, 256
---     256  25 variable entries: name 1, type 1, address 1, size 1, process ID 2
---     406  variable count
---     407  next ID, 2
---     409  seven zeros
---     416  ten process records of 64: name 12, ID 2, state 1, fault 1, code start 2, code length 2, PC 2, loop 2,
---          file start 2, file length 2, file offset 2, SP 1, spare 1, stack 32
 use Prim.Native.Nat.{ℕ, _+_, _*_, _<_}
 use mathlib.Core.Path.{_≡_}
 use mathlib.Core.Bool.{Bool}
@@ -17,34 +9,36 @@ use Rattle.buffer.specs.Buffer.{part, wordAt, wordBytes}
 use Rattle.buffer.specs.Lists.{flat, tab}
 use Rattle.variable.specs.declared.Variable.{Variable}
 use Rattle.variable.specs.declared.Variables.{Variables}
+use Rattle.store.specs.Layout.{nameSize}
+use Rattle.variable.specs.Limits.{maxVariables, memorySize}
+use Rattle.machine.specs.Limits.{areaLength, countAt, entriesAt, entrySize, nextAt, recordSize, recordsAt}
+use Rattle.machine.specs.Limits.{slotCount, stackSize, zerosAt, zerosSize}
 use Rattle.machine.specs.declared.Kernel.{Kernel}
 use Rattle.machine.specs.declared.Process.{Process}
 
 -- Document 01: "Work area, 1,056 bytes."
 abbrev pub isAreaLength : ℕ → Bool
-isAreaLength n = eqb n 1056
+isAreaLength n = eqb n areaLength
 
 -- every element is a byte
 abbrev pub AreBytes : List ℕ → Type 0
 AreBytes l = (i : ℕ) → getD l i 0 < 256
 
 abbrev pub variableOf : List ℕ → Variable
-variableOf b = record {
-  name = getD b 0 0;
-  kind = getD b 1 0;
-  address = getD b 2 0;
-  size = getD b 3 0;
-  owner =
-      wordAt b 4;
-}
+variableOf b =
+    record { name = getD b 0 0; kind = getD b 1 0; address = getD b 2 0; size = getD b 3 0; owner = wordAt b 4 }
 
 abbrev pub variableBytes : Variable → List ℕ
 variableBytes e = e .name ∷ e .kind ∷ e .address ∷ e .size ∷ wordBytes (e .owner)
 
+-- where a record's stack begins
+abbrev pub stackAt : ℕ
+stackAt = 32
+
 abbrev pub processOf : List ℕ → Process
 processOf b =
     record {
-      name = take 12 b;
+      name = take nameSize b;
       id = wordAt b 12;
       state = getD b 14 0;
       fault = getD b 15 0;
@@ -54,7 +48,7 @@ processOf b =
       file = record { start = wordAt b 24; len = wordAt b 26; offset = wordAt b 28 };
       sp = getD b 30 0;
       spare = getD b 31 0;
-      stack = part b 32 32;
+      stack = part b stackAt stackSize;
     }
 
 -- the twenty bytes between name and stack
@@ -69,9 +63,9 @@ processBytes p = p .name ++ registerBytes p ++ p .stack
 
 unfoldable pub variablesOf : List ℕ → Variables
 variablesOf area = record {
-  memory = take 256 area;
-  entries = tab (λ i. variableOf (part area (256 + i * 6) 6)) 25;
-  count = getD area 406 0;
+  memory = take memorySize area;
+  entries = tab (λ i. variableOf (part area (entriesAt + i * entrySize) entrySize)) maxVariables;
+  count = getD area countAt 0;
 }
 
 unfoldable pub kernelOf : List ℕ → Kernel
@@ -79,9 +73,9 @@ unfolding variablesOf
 kernelOf area =
     record {
       variables = variablesOf area;
-      next = wordAt area 407;
-      zeros = part area 409 7;
-      processes = tab (λ i. processOf (part area (416 + i * 64) 64)) 10;
+      next = wordAt area nextAt;
+      zeros = part area zerosAt zerosSize;
+      processes = tab (λ i. processOf (part area (recordsAt + i * recordSize) recordSize)) slotCount;
     }
 
 unfoldable pub kernelBytes : Kernel → List ℕ

@@ -8,10 +8,12 @@ use lib.ListN.{length, replicate}
 use Rattle.buffer.specs.declared.Found.{Found}
 use Rattle.buffer.specs.declared.Found.the-variants.{At, Nowhere}
 use Rattle.store.specs.Directory.{entryAt, lookup}
+use Rattle.store.specs.Layout.{dataStart, discLength}
 use Rattle.store.specs.Name.{padded}
 use Rattle.store.specs.declared.Entry.{Entry}
-use Rattle.machine.specs.Answer.{Answer, Buffers, Call, answer, booted, formatAnswer, store}
+use Rattle.machine.specs.Answer.{Answer, Buffers, Call, other, store, answer, booted, formatAnswer}
 use Rattle.machine.specs.Area.{kernelOf}
+use Rattle.machine.specs.Limits.{areaLength}
 use Rattle.machine.specs.Single.{Single, Response, refusedBy, did, fresh, single, tick}
 use Rattle.machine.specs.Start.{started}
 use Rattle.machine.specs.State.{isRunning, localOf, processAt}
@@ -54,12 +56,12 @@ seenAlone stopped = refused
 abbrev pub alone : List ℕ → ℕ → Result
 alone program n = seenAlone (turns (λ s. responded (single program s (tick 0))) fresh n)
 
--- ---- of the kernel: started in slot 0, on a list of 161 zeros and then the program. It is no good disc; `turned`
+-- ---- of the kernel: started in slot 0, on a list of as many zeros as stand before the data and then the program. It is no good disc; `turned`
 -- reads only the program's part of it.
 abbrev pub loaded : List ℕ → Turned
 loaded program =
-    let file : Entry = record { name = padded (110 ∷ []); start = 161; len = length program } in
-    record { kernel = started (kernelOf booted) 0 file; disc = replicate 161 0 ++ program; out = [] }
+    let file : Entry = record { name = padded (110 ∷ []); start = dataStart; len = length program } in
+    record { kernel = started (kernelOf booted) 0 file; disc = replicate dataStart 0 ++ program; out = [] }
 
 abbrev pub turnOfFirst : Turned → Progress Turned
 turnOfFirst t = let u = turned (t .kernel) 0 0 (t .disc) in
@@ -84,11 +86,11 @@ after [] b = b
 after (c ∷ cs) b = after cs (buffersOf (answer c b))
 
 abbrev pub formatted : Buffers
-formatted = buffersOf (formatAnswer (record { disc = replicate 1024 0; area = replicate 1056 0; out = [] }))
+formatted = buffersOf (formatAnswer (record { disc = replicate discLength 0; area = replicate areaLength 0; out = [] }))
 
 -- n bytes under a name of one letter
 abbrev pub storing : ℕ → ℕ → Call
-storing letter n = store (letter ∷ []) (replicate n 0)
+storing letter n = other (store (letter ∷ []) (replicate n 0))
 
 -- ---- where a file goes
 abbrev pub startAt : List ℕ → Found → Found

@@ -15,10 +15,12 @@ use Rattle.number.specs.declared.Number.{Number}
 use Rattle.place.specs.declared.Run.{Run}
 use Rattle.store.specs.Directory.{contents, entryAt, lookup}
 use Rattle.store.specs.File.{admission, entered, readAt, writtenAt}
+use Rattle.store.specs.Layout.{dataStart}
 use Rattle.store.specs.Name.{trimmed}
 use Rattle.store.specs.declared.Admission.{Admission}
 use Rattle.store.specs.declared.Admission.the-variants.{Start, Denied}
 use Rattle.machine.specs.Effect.{Request, opens, closes, writes, reads, readsString, forks, awaits}
+use Rattle.machine.specs.Limits.{stackSize}
 use Rattle.machine.specs.Stack.{push, pushString}
 use Rattle.machine.specs.Start.{Starting, starts, refuses, starting, started}
 use Rattle.machine.specs.State.{Local, isLive, processAt, withFile, withLocal, withProcess}
@@ -51,9 +53,9 @@ pushed l stack = record { stack = stack; pc = l .pc; loopstart = l .loopstart }
 abbrev pub pushId : Local → ℕ → Local
 pushId l id = pushed l (push (l .stack) 2 (id / 256 ∷ id % 256 ∷ []))
 
--- the size that OPEN's new file may have: what fits between byte 161 and the disc's end
+-- the size that OPEN's new file may have: what fits between the data's start and the disc's end
 abbrev pub newFileSize : List ℕ → Number → Size
-newFileSize disc size = sizeWithin (length disc - 161) size
+newFileSize disc size = sizeWithin (length disc - dataStart) size
 
 module _ (k : Kernel) (slot : ℕ) (disc : List ℕ) where
   abbrev pub ownFile : OpenFile
@@ -94,7 +96,7 @@ module _ (k : Kernel) (slot : ℕ) (disc : List ℕ) where
 
   -- fault 4 comes after 11 and 12
   abbrev pub received : List ℕ → ℕ → Local → Answered
-  received stack n l = unlessBreaks (leb (length stack) 32) 4 (continues (pushed l stack) (advanced ownFile n) disc)
+  received stack n l = unlessBreaks (leb (length stack) stackSize) 4 (continues (pushed l stack) (advanced ownFile n) disc)
 
   abbrev pub readNumberOf : ℕ → Local → Answered
   readNumberOf kind l =

@@ -3,7 +3,7 @@ use Prim.Native.Nat.{ℕ}
 use mathlib.Core.List.{List, [], _∷_, _++_}
 use lib.ListN.{replicate}
 use Rattle.buffer.specs.Lists.{flat, tab}
-use Rattle.machine.specs.Answer.{Call, erase}
+use Rattle.machine.specs.Answer.{Call, other, erase}
 use Rattle.machine.specs.Bench.{Every, Row, runs, runsInKernel, shows, stores, storing}
 
 abbrev pub letters : ℕ → List ℕ
@@ -11,7 +11,7 @@ letters n = replicate n 97
 
 -- "files of 100, 100, 100, the second erased"
 abbrev pub gap : List Call
-gap = storing 97 100 ∷ storing 98 100 ∷ storing 99 100 ∷ erase (98 ∷ []) ∷ []
+gap = storing 97 100 ∷ storing 98 100 ∷ storing 99 100 ∷ other (erase (98 ∷ [])) ∷ []
 
 -- Document 01, 'Bench cases': "Proved together, in one table with one statement (stack bottom first)"
 abbrev pub cases : List Row

@@ -13,12 +13,13 @@ use Rattle.number.specs.declared.Number.{Number}
 use Rattle.store.specs.Directory.{fileCount, goodDisc, isDiscLength, taken, lookup}
 use Rattle.variable.specs.Table.{freed, isOf}
 use Rattle.buffer.specs.declared.Found.the-variants.{Nowhere}
-use Rattle.machine.specs.Answer.{Answer, Buffers, Call, store, turn, round, answer, bootAnswer, formatAnswer}
+use Rattle.machine.specs.Answer.{Answer, Buffers, Call, turn, round, other, store, answer, bootAnswer, formatAnswer}
 use Rattle.machine.specs.Answer.{refused}
 use Rattle.machine.specs.Area.{AreBytes, Whole, isAreaLength, kernelOf}
 use Rattle.machine.specs.Beyond.{newFileSize}
 use Rattle.machine.specs.Effect.{asks, assigns, opens}
 use Rattle.machine.specs.Ending.{Ends, Touched}
+use Rattle.machine.specs.Limits.{areaLength, roundRoom, turnRoom}
 use Rattle.machine.specs.Turn.{effectAt}
 use Rattle.machine.specs.NoPlace.{Lacking, NewFileRefused, NoneFits}
 use Rattle.machine.specs.Refusals.{stateOf, MayTurn, Names, Passes}
@@ -26,6 +27,7 @@ use Rattle.machine.specs.Trace.{Invocation, IsItsEvents, Storage, afterC
 use Rattle.machine.specs.Trace.{outputText, tenSlots, turnEvents}
 use Rattle.machine.specs.State.{Local, isRunning, processAt}
 use Rattle.machine.specs.declared.Kernel.{Kernel}
+use Rattle.store.specs.Layout.{dataStart, maxFiles}
 
 -- ---- refusals
 abbrev pub Unchanged : Answer → Buffers → Type 0
@@ -61,13 +63,13 @@ FaultTouchesOwn =
 -- ---- places
 -- Document 01, store: "8 ten files already"
 abbrev pub StoreFull : Type 0
-StoreFull = (b : Buffers) (name bytes : List ℕ) → answer (store name bytes) b .number ≡ negℤ (pos 8)
-    → fileCount (b .disc) ≡ 10
+StoreFull = (b : Buffers) (name bytes : List ℕ) → answer (other (store name bytes)) b .number ≡ negℤ (pos 8)
+    → fileCount (b .disc) ≡ maxFiles
 
 -- Document 01, store: "9 no free run long enough"
 abbrev pub StoreNoRun : Type 0
-StoreNoRun = (b : Buffers) (name bytes : List ℕ) → answer (store name bytes) b .number ≡ negℤ (pos 9)
-    → NoneFits (taken (b .disc)) 161 (length (b .disc)) (length bytes)
+StoreNoRun = (b : Buffers) (name bytes : List ℕ) → answer (other (store name bytes)) b .number ≡ negℤ (pos 9)
+    → NoneFits (taken (b .disc)) dataStart (length (b .disc)) (length bytes)
 
 -- after its turn the process runs no more, and its record has that fault
 abbrev pub EndsWith : Buffers → ℕ → ℕ → ℕ → Type 0
@@ -122,7 +124,7 @@ GoodKept =
 -- ---- rounds
 -- Document 01, Round: "needs 320 bytes"; lent them on good buffers it is done
 unfoldable pub RoundNeverRefused : Type 0
-RoundNeverRefused = (b : Buffers) (clock : ℕ) → Passes (b .disc) (b .area) → leb 320 (length (b .out)) ≡ true → (n : ℕ)
+RoundNeverRefused = (b : Buffers) (clock : ℕ) → Passes (b .disc) (b .area) → leb roundRoom (length (b .out)) ≡ true → (n : ℕ)
     × (answer (round clock) b .number ≡ pos n)
 
 -- Document 01: "a turn for slots 0 to 9, each if running when reached, under one clock reading, outputs joined". 1,056
@@ -132,7 +134,7 @@ RoundIsTurns =
     ((s : Storage) (out : List ℕ) (clock n : ℕ) → Whole (s .area) → answer (round clock) (lending s out) .number ≡ pos n
     → IsItsEvents s out (answer (round clock) (lending s out))
     (turnEvents tenSlots clock s (outputText (answer (round clock) (lending s out)))))
-    × ((area : List ℕ) → AreBytes area → length area ≡ 1056 → Whole area)
+    × ((area : List ℕ) → AreBytes area → length area ≡ areaLength → Whole area)
     × ((s : Storage) (out : List ℕ) (c : Call) → Whole (s .area) → Whole (answer c (lending s out) .area))
 
 -- the events of a run lead where its calls lead, from any disc and any area of bytes, good or not, of any length
@@ -142,4 +144,4 @@ EventsAreCalls = (calls : List Invocation) (s : Storage) → AreBytes (s .area)
 
 -- Document 01, Turn: "at least 32 output bytes" are enough. "Returns the bytes printed"
 unfoldable pub TurnOutputBound : Type 0
-TurnOutputBound = (b : Buffers) (slot clock n : ℕ) → answer (turn slot clock) b .number ≡ pos n → n ≤ 32
+TurnOutputBound = (b : Buffers) (slot clock n : ℕ) → answer (turn slot clock) b .number ≡ pos n → n ≤ turnRoom

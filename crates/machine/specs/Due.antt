@@ -10,14 +10,16 @@ use Rattle.place.specs.Place.{fits}
 use Rattle.store.specs.Directory.{contents, entryAt, fileCount, goodDisc, isDiscLength, lookup, runOf, taken}
 use Rattle.store.specs.Directory.{files as entries}
 use Rattle.store.specs.File.{goodSize}
+use Rattle.store.specs.Layout.{dataStart, maxFiles}
 use Rattle.store.specs.Name.{goodName}
 use Rattle.buffer.specs.Buffer.{overwrite}
 use Rattle.buffer.specs.Lists.{flat}
 use Rattle.store.specs.Answer.{fileLine}
+use Rattle.machine.specs.Limits.{idLimit}
 use Rattle.machine.specs.Turn.{effectAt}
 use Rattle.machine.specs.Effect.{asks, forks}
-use Rattle.machine.specs.Answer.{Buffers, store, erase, run, freeSpace, command, turn, answer, Answer, retrieve}
-use Rattle.machine.specs.Answer.{files, list}
+use Rattle.machine.specs.Answer.{Answer, Buffers, turn, command, run, other, store, retrieve, erase, files}
+use Rattle.machine.specs.Answer.{freeSpace, list, answer}
 use Rattle.machine.specs.NoPlace.{NoneFits}
 use Rattle.machine.specs.Area.{kernelOf}
 use Rattle.machine.specs.Operations.{Command, inUse, listText}
@@ -46,33 +48,33 @@ TurnDue = (b : Buffers) (slot clock : ℕ) → MayTurn b slot → (n : ℕ) × (
 abbrev pub StoreDue : Type 0
 StoreDue =
     (b : Buffers) (name bytes : List ℕ) (start : ℕ) → Usable (b .disc)
-    → goodName name ≡ true → goodSize (b .disc) (length bytes) ≡ true → fileCount (b .disc) < 10
+    → goodName name ≡ true → goodSize (b .disc) (length bytes) ≡ true → fileCount (b .disc) < maxFiles
     → lookup (b .disc) name ≡ Nowhere
-    → fits (taken (b .disc)) 161 (length (b .disc)) (length bytes) start ≡ true
-    → (answer (store name bytes) b .number ≡ pos 0) × Holds (answer (store name bytes) b .disc) name bytes
+    → fits (taken (b .disc)) dataStart (length (b .disc)) (length bytes) start ≡ true
+    → (answer (other (store name bytes)) b .number ≡ pos 0) × Holds (answer (other (store name bytes)) b .disc) name bytes
 
 -- Document 01, retrieve: "Returns the length, its bytes written."
 abbrev pub RetrieveDue : Type 0
 RetrieveDue =
     (b : Buffers) (name : List ℕ) (i : ℕ) → Usable (b .disc) → lookup (b .disc) name ≡ At i
     → entryAt (b .disc) i .len ≤ length (b .out)
-    → Writes (entryAt (b .disc) i .len) (contents (b .disc) (runOf (entryAt (b .disc) i))) b (answer (retrieve name) b)
+    → Writes (entryAt (b .disc) i .len) (contents (b .disc) (runOf (entryAt (b .disc) i))) b (answer (other (retrieve name)) b)
 
 -- files and list: an output that holds their text
 abbrev pub FilesDue : Type 0
 FilesDue = (b : Buffers) → Usable (b .disc) → length (filesText b) ≤ length (b .out)
-    → Writes (length (filesText b)) (filesText b) b (answer files b)
+    → Writes (length (filesText b)) (filesText b) b (answer (other files) b)
 
 abbrev pub ListDue : Type 0
 ListDue =
     (b : Buffers) → Passes (b .disc) (b .area) → length (listText (stateOf b)) ≤ length (b .out)
-    → Writes (length (listText (stateOf b))) (listText (stateOf b)) b (answer list b)
+    → Writes (length (listText (stateOf b))) (listText (stateOf b)) b (answer (other list) b)
 
 -- an ended slot, a file of that name, an ID left: the number is next ID, and a live process in that slot has it
 abbrev pub RunDue : Type 0
 RunDue =
     (b : Buffers) (name : List ℕ) (slot i : ℕ) → Passes (b .disc) (b .area)
-    → endedSlot (stateOf b) ≡ At slot → lookup (b .disc) name ≡ At i → (stateOf b .next ≡ 32768 → ⊥)
+    → endedSlot (stateOf b) ≡ At slot → lookup (b .disc) name ≡ At i → (stateOf b .next ≡ idLimit → ⊥)
     → (answer (run name) b .number ≡ pos (stateOf b .next))
     × (slotOf (kernelOf (answer (run name) b .area)) (stateOf b .next) ≡ At slot)
 
@@ -81,7 +83,7 @@ abbrev pub ForkDue : Type 0
 ForkDue =
     (b : Buffers) (slot clock : ℕ) (name : List ℕ) (l : Local) (child i : ℕ) → MayTurn b slot
     → effectAt (stateOf b) slot clock (b .disc) ≡ asks (forks name l)
-    → endedSlot (stateOf b) ≡ At child → lookup (b .disc) name ≡ At i → (stateOf b .next ≡ 32768 → ⊥)
+    → endedSlot (stateOf b) ≡ At child → lookup (b .disc) name ≡ At i → (stateOf b .next ≡ idLimit → ⊥)
     → slotOf (kernelOf (answer (turn slot clock) b .area)) (stateOf b .next) ≡ At child
 
 -- a file of that name that no live process uses
@@ -89,15 +91,15 @@ abbrev pub EraseDue : Type 0
 EraseDue =
     (b : Buffers) (name : List ℕ) (i : ℕ) → Passes (b .disc) (b .area) → lookup (b .disc) name ≡ At i
     → inUse (stateOf b) (entryAt (b .disc) i) ≡ false
-    → (answer (erase name) b .number ≡ pos 0) × (lookup (answer (erase name) b .disc) name ≡ Nowhere)
+    → (answer (other (erase name)) b .number ≡ pos 0) × (lookup (answer (other (erase name)) b .disc) name ≡ Nowhere)
 
 -- a run that long has a place, no longer one has
 abbrev pub FreeSpaceDue : Type 0
 FreeSpaceDue =
     (b : Buffers) → Usable (b .disc)
-    → (n : ℕ) × (answer freeSpace b .number ≡ pos n)
-    × (0 < n → (start : ℕ) × (fits (taken (b .disc)) 161 (length (b .disc)) n start ≡ true))
-    × ((m : ℕ) → n < m → NoneFits (taken (b .disc)) 161 (length (b .disc)) m)
+    → (n : ℕ) × (answer (other freeSpace) b .number ≡ pos n)
+    × (0 < n → (start : ℕ) × (fits (taken (b .disc)) dataStart (length (b .disc)) n start ≡ true))
+    × ((m : ℕ) → n < m → NoneFits (taken (b .disc)) dataStart (length (b .disc)) m)
 
 -- a live process of that ID, which is not "already in that state"
 abbrev pub CommandDue : Type 0

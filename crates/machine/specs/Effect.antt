@@ -10,7 +10,7 @@ use mir.Val.{toZ}
 use Rattle.buffer.specs.declared.Found.{Found}
 use Rattle.buffer.specs.declared.Found.the-variants.{At, Nowhere}
 use Rattle.number.specs.Binary.{binary}
-use Rattle.number.specs.Instruction.{takenBy}
+use Rattle.number.specs.Instruction.{typesOf}
 use Rattle.number.specs.Outcome.{faultOf}
 use Rattle.number.specs.Text.{textOf}
 use Rattle.number.specs.Unary.{unary}
@@ -22,6 +22,7 @@ use Rattle.number.specs.declared.operators.Operator.{Operator}
 use Rattle.number.specs.declared.operators.Operator.the-variants.{OfOne, OfTwo, NotAnOperator}
 use Rattle.store.specs.Name.{trimmed}
 use Rattle.variable.specs.Table.{Cell}
+use Rattle.machine.specs.Limits.{stackSize}
 use Rattle.machine.specs.Stack.{Item, Popped, popped, cannot, pop, push, stringKind}
 use Rattle.machine.specs.State.{Local}
 
@@ -55,7 +56,7 @@ land prog (At pc) stack loopstart out =
     unlessFaults (leb pc (length prog)) 3 (goes (record { stack = stack; pc = pc; loopstart = loopstart }) out)
 
 unfoldable pub settle : List ℕ → Found → List ℕ → ℕ → List ℕ → Effect
-settle prog target stack loopstart out = unlessFaults (leb (length stack) 32) 4 (land prog target stack loopstart out)
+settle prog target stack loopstart out = unlessFaults (leb (length stack) stackSize) 4 (land prog target stack loopstart out)
 
 -- ---- popping
 abbrev pub withPopped : Popped → (Item → List ℕ → Effect) → Effect
@@ -65,6 +66,11 @@ withPopped (cannot fault) next = faults fault
 abbrev pub number : Item → Number
 number item = numberOf (item .kind) (item .bytes)
 
+-- where the number is all that is read of the value
+abbrev pub withNumber : Popped → (Number → List ℕ → Effect) → Effect
+withNumber (popped item rest) next = next (number item) rest
+withNumber (cannot fault) next = faults fault
+
 -- ---- operators
 abbrev pub withOutcome : Outcome → (Number → Effect) → Effect
 withOutcome (Value a) next = next a
@@ -73,12 +79,12 @@ withOutcome OutOfRange next = faults (faultOf OutOfRange)
 
 unfoldable pub operates : Operator → List ℕ → (List ℕ → Effect) → Effect
 operates (OfOne o) stack next =
-    withPopped (pop (takenBy (OfOne o)) stack) λ x rest.
-    withOutcome (unary o (number x)) λ a. next (push rest (typeOf a) (valueBytes a))
+    withNumber (pop (typesOf (OfOne o)) stack) λ x rest.
+    withOutcome (unary o x) λ a. next (push rest (typeOf a) (valueBytes a))
 operates (OfTwo o) stack next =
-    withPopped (pop (takenBy (OfTwo o)) stack) λ y rest.
-    withPopped (pop (takenBy (OfTwo o)) rest) λ x rest.
-    withOutcome (binary o (number x) (number y)) λ a. next (push rest (typeOf a) (valueBytes a))
+    withNumber (pop (typesOf (OfTwo o)) stack) λ y rest.
+    withNumber (pop (typesOf (OfTwo o)) rest) λ x rest.
+    withOutcome (binary o x y) λ a. next (push rest (typeOf a) (valueBytes a))
 operates NotAnOperator stack next = faults 1
 
 -- ---- printing
@@ -96,9 +102,10 @@ abbrev pub clockInt : ℕ → ℤ
 clockInt clock = toZ w16 (clock % 65536)
 
 -- ---- variables
-abbrev pub withCell : Found → List Cell → (Cell → Effect) → Effect
-withCell Nowhere own next = faults 9
-withCell (At i) own next = next (getD own i (record { name = 0; kind = 0; bytes = [] }))
+-- Document 01, fault 9: "no such variable"
+abbrev pub withVariable : Found → List Cell → (Cell → Effect) → Effect
+withVariable Nowhere own next = faults 9
+withVariable (At i) own next = next (getD own i (record { name = 0; kind = 0; bytes = [] }))
 
 -- ---- jumps
 abbrev pub back : Bool → ℕ → ℕ → Found

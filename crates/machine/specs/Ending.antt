@@ -5,7 +5,7 @@ use mathlib.Core.Bool.{not}
 use mathlib.Core.List.{List, []}
 use mathlib.Core.Logic.{_⊎_}
 use Rattle.buffer.specs.Lists.{keep}
-use Rattle.variable.specs.Assign.{assigned}
+use Rattle.variable.specs.Assign.{assigned, valueOf}
 use Rattle.variable.specs.Table.{counted, owned, ownedBy}
 use Rattle.variable.specs.declared.Variable.{Variable}
 use Rattle.variable.specs.declared.Variables.{Variables}
@@ -14,7 +14,7 @@ use Rattle.variable.specs.declared.Placing.the-variants.{NoEntry, NoRun}
 use Rattle.machine.specs.Beyond.{breaks, answered}
 use Rattle.machine.specs.Effect.{assigns, stops, faults, asks, Request}
 use Rattle.machine.specs.State.{Local, endedProcess, processAt}
-use Rattle.machine.specs.Turn.{effectAt, valueOf}
+use Rattle.machine.specs.Turn.{effectAt}
 use Rattle.machine.specs.declared.Kernel.{Kernel}
 
 -- the place that a SET finds

@@ -10,148 +10,162 @@ use Rattle.buffer.specs.Lists.{index}
 use Rattle.buffer.specs.declared.Found.the-variants.{At}
 use Rattle.number.specs.Compare.{exceeds}
 use Rattle.number.specs.Value.{isZero}
+use Rattle.number.specs.declared.instruction.Types.the-variants.{AnyNumber, AnyString, AnyValue}
 use Rattle.store.specs.Name.{trimmed}
 use Rattle.variable.specs.Table.{Cell}
 use Rattle.machine.specs.Effect.{opens, closes, writes, reads, readsString, forks, awaits, Effect, goes, assigns}
-use Rattle.machine.specs.Effect.{stops, faults, asks, unlessFaults, settle, withPopped, number, operates, printed}
-use Rattle.machine.specs.Effect.{newline, clockInt, withCell, back, loopTarget}
-use Rattle.machine.specs.Instruction.{Instruction, Reach, literal, stringLiteral, setVariable, getVariable}
-use Rattle.machine.specs.Instruction.{operate, delayUntil, millis, print, jumpIf, endIf, while, endWhile, loop}
-use Rattle.machine.specs.Instruction.{endLoop, stop, reach, unknown, openFile, closeFile, writeFile, readString}
-use Rattle.machine.specs.Instruction.{fork, waitUntilDone, readNumber, instructionOf}
-use Rattle.machine.specs.Stack.{aNumber, aString, aValue, pop, push, pushItem, pushString}
+use Rattle.machine.specs.Effect.{stops, faults, asks, unlessFaults, settle, withPopped, withNumber, operates}
+use Rattle.machine.specs.Effect.{printed, newline, clockInt, withVariable, back, loopTarget}
+use Rattle.machine.specs.Instruction.{instructionOf}
+use Rattle.machine.specs.Stack.{pop, push, pushItem, pushString}
 use Rattle.machine.specs.State.{Local, noLoop}
+use Rattle.machine.specs.declared.instruction.Instruction.{Instruction}
+use Rattle.machine.specs.declared.instruction.Instruction.the-variants.{Literal, StringLiteral, SetVariable}
+use Rattle.machine.specs.declared.instruction.Instruction.the-variants.{GetVariable, Operate, DelayUntil, Millis}
+use Rattle.machine.specs.declared.instruction.Instruction.the-variants.{Print, JumpIf, EndIf, While, EndWhile}
+use Rattle.machine.specs.declared.instruction.Instruction.the-variants.{Loop, EndLoop, Stop, Beyond, Unknown}
+use Rattle.machine.specs.declared.instruction.Reach.{Reach}
+use Rattle.machine.specs.declared.instruction.Reach.the-variants.{OpenFile, CloseFile, WriteFile, ReadNumber}
+use Rattle.machine.specs.declared.instruction.Reach.the-variants.{ReadString, Fork, WaitUntilDone}
 
-module _ (prog : List ℕ) (clock : ℕ) where
-  -- Document 01, fault 2: "code ended", before anything is popped. n argument bytes from pc on.
-  abbrev pub withArguments : ℕ → ℕ → Effect → Effect
-  withArguments pc n rest = unlessFaults (leb (pc + n) (length prog)) 2 rest
+-- the program's bytes, the stack below SP, the loop's start, and the place of the instruction byte
+module _ (prog stack : List ℕ) (loopstart at : ℕ) where
+  -- the place behind the instruction byte: its arguments stand there
+  abbrev pub behind : ℕ
+  behind = at + 1
 
-  -- the argument byte at pc
-  abbrev pub argument : ℕ → ℕ
-  argument pc = getD prog pc 0
+  abbrev pub firstArgument : ℕ
+  firstArgument = getD prog behind 0
 
-  -- on to pc with this stack
-  abbrev pub onward : Local → ℕ → List ℕ → List ℕ → Effect
-  onward l pc stack out = settle prog (At pc) stack (l .loopstart) out
+  abbrev pub secondArgument : ℕ
+  secondArgument = getD prog (behind + 1) 0
+
+  -- Document 01, fault 2: "code ended", before anything is popped. n argument bytes.
+  abbrev pub withArguments : ℕ → Effect → Effect
+  withArguments n rest = unlessFaults (leb (behind + n) (length prog)) 2 rest
+
+  -- the process at a place, with these bytes on its stack
+  abbrev pub here : ℕ → List ℕ → Local
+  here pc below = record { stack = below; pc = pc; loopstart = loopstart }
+
+  -- on to a place with these bytes on the stack
+  abbrev pub onward : ℕ → List ℕ → List ℕ → Effect
+  onward pc below out = settle prog (At pc) below loopstart out
 
   -- ---- values
-  abbrev pub pushLiteral : Local → ℕ → ℕ → Effect
-  pushLiteral l pc kind = withArguments pc kind (onward l (pc + kind) (push (l .stack) kind (part prog pc kind)) [])
+  abbrev pub pushLiteral : ℕ → Effect
+  pushLiteral kind = withArguments kind (onward (behind + kind) (push stack kind (part prog behind kind)) [])
 
   -- fault 2 also where no zero follows inside the code
-  abbrev pub pushText : Local → ℕ → Effect
-  pushText l pc =
-      let text = trimmed (drop pc prog) in
-      withArguments pc (length text + 1)
-      (onward l (pc + (length text + 1)) (pushString (l .stack) (text ++ (0 ∷ []))) [])
+  abbrev pub pushText : Effect
+  pushText =
+      let text = trimmed (drop behind prog) in
+      withArguments (length text + 1)
+      (onward (behind + (length text + 1)) (pushString stack (text ++ (0 ∷ []))) [])
 
   -- ---- variables
-  abbrev pub sets : Local → ℕ → Effect
-  sets l pc =
-      withArguments pc 1
-      (withPopped (pop aValue (l .stack)) λ x rest.
-      assigns (argument pc) (x .kind) (x .bytes) (record { stack = rest; pc = pc + 1; loopstart = l .loopstart }))
+  abbrev pub sets : Effect
+  sets =
+      withArguments 1
+      (withPopped (pop AnyValue stack) λ x rest.
+      assigns firstArgument (x .kind) (x .bytes) (here (behind + 1) rest))
 
-  -- Document 01: "9 no such variable"
-  abbrev pub gets : Local → ℕ → List Cell → Effect
-  gets l pc own =
-      withArguments pc 1
-      (withCell (index (λ c. eqb (c .name) (argument pc)) own) own λ c.
-      onward l (pc + 1) (pushItem (l .stack) (c .kind) (c .bytes)) [])
+  abbrev pub gets : List Cell → Effect
+  gets own =
+      withArguments 1
+      (withVariable (index (λ c. eqb (c .name) firstArgument) own) own λ c.
+      onward (behind + 1) (pushItem stack (c .kind) (c .bytes)) [])
 
   -- ---- time
   -- Document 01: "DELAYUNTIL stays while x exceeds the clock's low 16 bits taken as INT."
-  abbrev pub delays : Local → ℕ → Effect
-  delays l pc =
-      withPopped (pop aNumber (l .stack)) λ x rest.
-      cond (exceeds (number x) (clockInt clock)) (goes l []) (onward l pc rest [])
+  abbrev pub delays : ℕ → Effect
+  delays clock =
+      withNumber (pop AnyNumber stack) λ x rest.
+      cond (exceeds x (clockInt clock)) (goes (here at stack) []) (onward behind rest [])
 
   -- MILLIS pushes the milliseconds counter as an INT (guide 9.5) of 16 bits (A.4): document 01's "the clock's low 16
   -- bits taken as INT"
-  abbrev pub pushClock : Local → ℕ → Effect
-  pushClock l pc = onward l pc (push (l .stack) 2 (clock % 65536 / 256 ∷ clock % 256 ∷ [])) []
+  abbrev pub pushClock : ℕ → Effect
+  pushClock clock = onward behind (push stack 2 (clock % 65536 / 256 ∷ clock % 256 ∷ [])) []
 
   -- ---- output
-  abbrev pub prints : Local → ℕ → Bool → Effect
-  prints l pc ends = withPopped (pop aValue (l .stack)) λ x rest. onward l pc rest (printed x ++ newline ends)
+  abbrev pub prints : Bool → Effect
+  prints ends = withPopped (pop AnyValue stack) λ x rest. onward behind rest (printed x ++ newline ends)
 
   -- ---- flow. Jumps count from past the arguments.
   -- IF and ELSE look at a number and leave it as it lies.
-  abbrev pub jumpsIf : Local → ℕ → Bool → Effect
-  jumpsIf l pc zero =
-      withArguments pc 1
-      (withPopped (pop aNumber (l .stack)) λ x rest.
-      onward l (cond (Bool·beq (isZero (number x)) zero) (pc + 1 + argument pc) (pc + 1)) (l .stack) [])
+  abbrev pub jumpsIf : Bool → Effect
+  jumpsIf zero =
+      withArguments 1
+      (withNumber (pop AnyNumber stack) λ x rest.
+      onward (cond (Bool·beq (isZero x) zero) (behind + 1 + firstArgument) (behind + 1)) stack [])
 
-  abbrev pub drops : Local → ℕ → Effect
-  drops l pc = withPopped (pop aNumber (l .stack)) λ x rest. onward l pc rest []
+  abbrev pub drops : Effect
+  drops = withNumber (pop AnyNumber stack) λ x rest. onward behind rest []
 
   -- Document 01: "WHILE c b pops; zero skips b + 1; otherwise the raw byte c + b + 4 is pushed."; fault 8: "c + b above
   -- 251 on a value not zero"
-  abbrev pub whiles : Local → ℕ → Effect
-  whiles l pc =
-      let c = argument pc in
-      let b = argument (pc + 1) in
-      withArguments pc 2
-      (withPopped (pop aNumber (l .stack)) λ x rest.
-      cond (isZero (number x))
-      (onward l (pc + 2 + (b + 1)) rest [])
-      (unlessFaults (leb (c + b) 251) 8 (onward l (pc + 2) (rest ++ ((c + b + 4) ∷ [])) [])))
+  abbrev pub whiles : Effect
+  whiles =
+      let c = firstArgument in
+      let b = secondArgument in
+      withArguments 2
+      (withNumber (pop AnyNumber stack) λ x rest.
+      cond (isZero x)
+      (onward (behind + 2 + (b + 1)) rest [])
+      (unlessFaults (leb (c + b) 251) 8 (onward (behind + 2) (rest ++ ((c + b + 4) ∷ [])) [])))
 
   -- ENDWHILE takes one raw byte: only fault 5
-  abbrev pub endsWhile : Local → ℕ → Effect
-  endsWhile l pc =
-      let n = length (l .stack) in
-      let distance = getD (l .stack) (n - 1) 0 in
+  abbrev pub endsWhile : Effect
+  endsWhile =
+      let n = length stack in
+      let distance = getD stack (n - 1) 0 in
       unlessFaults (leb 1 n) 5
-      (settle prog (back (leb distance pc) pc distance) (take (n - 1) (l .stack)) (l .loopstart) [])
+      (settle prog (back (leb distance behind) behind distance) (take (n - 1) stack) loopstart [])
 
-  abbrev pub marksLoop : Local → ℕ → Effect
-  marksLoop l pc = settle prog (At pc) (l .stack) pc []
+  abbrev pub marksLoop : Effect
+  marksLoop = settle prog (At behind) stack behind []
 
-  abbrev pub loopsBack : Local → Effect
-  loopsBack l = settle prog (loopTarget (eqb (l .loopstart) noLoop) (l .loopstart)) (l .stack) (l .loopstart) []
+  abbrev pub loopsBack : Effect
+  loopsBack = settle prog (loopTarget (eqb loopstart noLoop) loopstart) stack loopstart []
 
   -- ---- beyond the process: the operands are popped here, the answer comes from disc and process table
   -- Document 01: "OPEN pops the size, then the name (as for FORK, the string less its zero)"
-  abbrev pub reaches : Local → ℕ → Reach → Effect
-  reaches l pc openFile =
-      withPopped (pop aNumber (l .stack)) λ size rest.
-      withPopped (pop aString rest) λ name rest.
-      asks (opens (trimmed (name .bytes)) (number size) (record { stack = rest; pc = pc; loopstart = l .loopstart }))
-  reaches l pc closeFile = asks (closes (record { stack = l .stack; pc = pc; loopstart = l .loopstart }))
-  reaches l pc writeFile = withPopped (pop aValue (l .stack)) λ x rest.
-      asks (writes (x .bytes) (record { stack = rest; pc = pc; loopstart = l .loopstart }))
-  reaches l pc (readNumber kind) = asks (reads kind (record { stack = l .stack; pc = pc; loopstart = l .loopstart }))
-  reaches l pc readString = asks (readsString (record { stack = l .stack; pc = pc; loopstart = l .loopstart }))
-  reaches l pc fork = withPopped (pop aString (l .stack)) λ name rest.
-      asks (forks (trimmed (name .bytes)) (record { stack = rest; pc = pc; loopstart = l .loopstart }))
-  reaches l pc waitUntilDone = withPopped (pop aNumber (l .stack)) λ x rest.
-      asks (awaits (number x) l (record { stack = rest; pc = pc; loopstart = l .loopstart }))
+  abbrev pub reaches : Reach → Effect
+  reaches OpenFile =
+      withNumber (pop AnyNumber stack) λ size rest.
+      withPopped (pop AnyString rest) λ name rest.
+      asks (opens (trimmed (name .bytes)) size (here behind rest))
+  reaches CloseFile = asks (closes (here behind stack))
+  reaches WriteFile = withPopped (pop AnyValue stack) λ x rest. asks (writes (x .bytes) (here behind rest))
+  reaches (ReadNumber kind) = asks (reads kind (here behind stack))
+  reaches ReadString = asks (readsString (here behind stack))
+  reaches Fork = withPopped (pop AnyString stack) λ name rest. asks (forks (trimmed (name .bytes)) (here behind rest))
+  reaches WaitUntilDone =
+      withNumber (pop AnyNumber stack) λ x rest. asks (awaits x (here at stack) (here behind rest))
 
-  -- pc is the place behind the instruction byte
-  unfoldable pub performs : Instruction → Local → ℕ → List Cell → Effect
-  performs (literal kind) l pc own = pushLiteral l pc kind
-  performs stringLiteral l pc own = pushText l pc
-  performs setVariable l pc own = sets l pc
-  performs getVariable l pc own = gets l pc own
-  performs (operate o) l pc own = operates o (l .stack) λ stack. onward l pc stack []
-  performs delayUntil l pc own = delays l pc
-  performs millis l pc own = pushClock l pc
-  performs (print ends) l pc own = prints l pc ends
-  performs (jumpIf zero) l pc own = jumpsIf l pc zero
-  performs endIf l pc own = drops l pc
-  performs while l pc own = whiles l pc
-  performs endWhile l pc own = endsWhile l pc
-  performs loop l pc own = marksLoop l pc
-  performs endLoop l pc own = loopsBack l
-  performs stop l pc own = stops
-  performs (reach r) l pc own = reaches l pc r
-  performs unknown l pc own = faults 1
+  unfoldable pub performs : ℕ → Instruction → List Cell → Effect
+  performs clock (Literal kind) own = pushLiteral kind
+  performs clock StringLiteral own = pushText
+  performs clock SetVariable own = sets
+  performs clock GetVariable own = gets own
+  performs clock (Operate o) own = operates o stack λ below. onward behind below []
+  performs clock DelayUntil own = delays clock
+  performs clock Millis own = pushClock clock
+  performs clock (Print ends) own = prints ends
+  performs clock (JumpIf zero) own = jumpsIf zero
+  performs clock EndIf own = drops
+  performs clock While own = whiles
+  performs clock EndWhile own = endsWhile
+  performs clock Loop own = marksLoop
+  performs clock EndLoop own = loopsBack
+  performs clock Stop own = stops
+  performs clock (Beyond r) own = reaches r
+  performs clock Unknown own = faults 1
 
-  -- Document 01: "1 no such instruction; 2 code ended": past the last byte there is no instruction byte to judge
-  unfoldable pub exec : Local → List Cell → Effect
-  unfolding performs
-  exec l own = unlessFaults (ltb (l .pc) (length prog)) 2
-      (performs (instructionOf (getD prog (l .pc) 0)) l (l .pc + 1) own)
+-- Document 01: "1 no such instruction; 2 code ended": past the last byte there is no instruction byte to judge
+unfoldable pub exec : List ℕ → ℕ → Local → List Cell → Effect
+unfolding performs
+exec prog clock l own =
+    unlessFaults (ltb (l .pc) (length prog)) 2
+    (performs prog (l .stack) (l .loopstart) (l .pc) clock (instructionOf (getD prog (l .pc) 0)) own)

@@ -6,6 +6,7 @@ use lib.Dec.{eqb, leb, ltb}
 use Rattle.buffer.specs.Lists.{all, any, pairs, same}
 use Rattle.store.specs.declared.Entry.{Entry}
 use Rattle.variable.specs.Good.{goodVariables}
+use Rattle.machine.specs.Limits.{idLimit, stackSize}
 use Rattle.machine.specs.State.{isLive, liveIds, noLoop}
 use Rattle.machine.specs.declared.Kernel.{Kernel}
 use Rattle.machine.specs.declared.OpenFile.{OpenFile}
@@ -13,12 +14,12 @@ use Rattle.machine.specs.declared.Process.{Process}
 
 -- "its seven zeros [..] next ID 1 to 32768"
 unfoldable pub goodHeader : Kernel → Bool
-goodHeader k = all (eqb 0) (k .zeros) && (leb 1 (k .next) && leb (k .next) 32768)
+goodHeader k = all (eqb 0) (k .zeros) && (leb 1 (k .next) && leb (k .next) idLimit)
 
 -- "zero spare bytes in live records [..] SP at most 32, PC, loop (unless none) [..] at most their lengths"
 unfoldable pub goodRegisters : Process → Bool
 goodRegisters p = eqb (p .spare) 0
-    && (leb (p .sp) 32 && (leb (p .pc) (p .code .len)
+    && (leb (p .sp) stackSize && (leb (p .pc) (p .code .len)
     && (eqb (p .loopstart) noLoop || leb (p .loopstart) (p .code .len))))
 
 -- "code equal to the directory's file of that name"

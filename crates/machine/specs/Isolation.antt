@@ -6,7 +6,7 @@ use mathlib.Core.List.{List, [], _∷_, _++_}
 use Rattle.buffer.specs.declared.Found.{Found}
 use Rattle.buffer.specs.declared.Found.the-variants.{At, Nowhere}
 use Rattle.store.specs.Directory.{contents, entryAt, lookup, runOf}
-use Rattle.machine.specs.Answer.{Call, store, retrieve, erase, run, files, freeSpace, list, command, turn, round}
+use Rattle.machine.specs.Answer.{Call, turn, round, command, run, other}
 use Rattle.machine.specs.Observation.{Watched, inputs, notRefused, observations, placeIn, singleRun, watch}
 use Rattle.machine.specs.Single.{fresh}
 use Rattle.machine.specs.Stack.{topString}
@@ -25,16 +25,11 @@ givesOut i e = not (isLiveIn (placeIn (e .before) i)) && isLiveIn (placeIn (e .a
 
 -- the name that is started from: run's, or the string on the stack of the process that does FORK
 abbrev pub startName : Call → Storage → List ℕ
-startName (run name) s = name
 startName (turn slot clock) s = topString (localOf (processIn s slot) .stack)
-startName (store name bytes) s = []
-startName (retrieve name) s = []
-startName (erase name) s = []
-startName files s = []
-startName freeSpace s = []
-startName list s = []
-startName (command c id) s = []
 startName (round clock) s = []
+startName (command c id) s = []
+startName (run name) s = name
+startName (other o) s = []
 
 abbrev pub contentsAt : Found → List ℕ → List ℕ
 contentsAt (At i) disc = contents disc (runOf (entryAt disc i))

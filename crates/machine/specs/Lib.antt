@@ -1,4 +1,5 @@
 -- the kernel's state, its bytes, and when they are good
+pub mod Limits
 pub mod State
 pub mod Area
 pub mod GoodArea

@@ -10,6 +10,7 @@ use Rattle.float.specs.declared.whole.Size.the-variants.{Is, Refused}
 use Rattle.place.specs.Place.{fits}
 use Rattle.place.specs.declared.Run.{Run}
 use Rattle.store.specs.Directory.{fileCount, taken}
+use Rattle.store.specs.Layout.{dataStart, maxFiles}
 use Rattle.store.specs.Name.{goodName}
 use Rattle.variable.specs.Assign.{entryLimit, highEnd, lowEnd, takenRuns}
 use Rattle.variable.specs.declared.Variables.{Variables}
@@ -26,5 +27,5 @@ Lacking v n = (entryLimit ≤ v .count) ⊎ NoneFits (takenRuns v) lowEnd highEn
 pub data NewFileRefused (disc name : List ℕ) (size : Size) : Type 0 where
   by-name : goodName name ≡ false → NewFileRefused disc name size
   by-size : size ≡ Refused → NewFileRefused disc name size
-  by-full : fileCount disc ≡ 10 → NewFileRefused disc name size
-  by-no-run : (n : ℕ) → size ≡ Is n → NoneFits (taken disc) 161 (length disc) n → NewFileRefused disc name size
+  by-full : fileCount disc ≡ maxFiles → NewFileRefused disc name size
+  by-no-run : (n : ℕ) → size ≡ Is n → NoneFits (taken disc) dataStart (length disc) n → NewFileRefused disc name size

@@ -10,8 +10,9 @@ use Rattle.buffer.specs.Lists.{index, keep}
 use Rattle.buffer.specs.declared.Found.{Found}
 use Rattle.buffer.specs.declared.Found.the-variants.{At, Nowhere}
 use Rattle.variable.specs.Table.{Cell, owned}
-use Rattle.machine.specs.Answer.{Call, store, retrieve, erase, run, files, freeSpace, list, command, turn, round}
+use Rattle.machine.specs.Answer.{Call, turn, round, command, run, other}
 use Rattle.machine.specs.Area.{kernelOf}
+use Rattle.machine.specs.Limits.{stackSize}
 use Rattle.machine.specs.Single.{Input, tick, given, Response, refusedBy, did, Single, single}
 use Rattle.machine.specs.State.{isLive, processAt}
 use Rattle.machine.specs.Trace.{Event, Storage}
@@ -35,16 +36,11 @@ inputIf true x = some x
 inputIf false x = none
 
 abbrev pub inputOf : ℕ → Call → Found → Option Input
-inputOf i (store name bytes) place = none
-inputOf i (retrieve name) place = none
-inputOf i (erase name) place = none
-inputOf i (run name) place = none
-inputOf i files place = none
-inputOf i freeSpace place = none
-inputOf i list place = none
-inputOf i (command c id) place = inputIf (eqb id i) (given c)
 inputOf i (turn slot clock) place = inputIf (isAt place slot) (tick clock)
 inputOf i (round clock) place = none
+inputOf i (command c id) place = inputIf (eqb id i) (given c)
+inputOf i (run name) place = none
+inputOf i (other o) place = none
 
 -- ---- what is observed after it: "stack (SP, 32 bytes), variables (those counted under its ID, by name, type and bytes
 -- [..]), place (PC, loop), end (state, fault) and output (a turn's bytes and their number)"
@@ -122,7 +118,7 @@ abbrev pub seenOf : Single → List ℕ → Seen
 seenOf s text =
     record {
       sp = length (s .loc .stack);
-      stack = s .loc .stack ++ replicate (32 - length (s .loc .stack)) 0;
+      stack = s .loc .stack ++ replicate (stackSize - length (s .loc .stack)) 0;
       variables = s .cells;
       pc = s .loc .pc;
       loopstart = s .loc .loopstart;

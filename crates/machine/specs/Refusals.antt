@@ -7,28 +7,32 @@ use lib.Dec.{eqb, leb, ltb}
 use lib.ListN.{length}
 use Rattle.buffer.specs.Lists.{any}
 use Rattle.store.specs.Directory.{goodDisc, isDiscLength}
-use Rattle.machine.specs.Answer.{Buffers, Call, store, retrieve, erase, run, files, freeSpace, list, command}
-use Rattle.machine.specs.Answer.{turn, round, goodArea}
+use Rattle.machine.specs.Answer.{Buffers, Other, store, retrieve, erase, files, freeSpace, list, Call, turn}
+use Rattle.machine.specs.Answer.{round, command, run, other, goodArea}
 use Rattle.machine.specs.Area.{isAreaLength, kernelOf}
+use Rattle.machine.specs.Limits.{slotCount, turnRoom}
 use Rattle.machine.specs.Operations.{Command, suspend, resume, kill}
 use Rattle.machine.specs.State.{isRunning, processAt}
 use Rattle.machine.specs.declared.Process.{Process}
 use Rattle.machine.specs.declared.Kernel.{Kernel}
 
 -- the numbers that document 01 names for each operation in the order they are tried, the buffers' 1 to 4 with them
+abbrev pub otherRefusals : Other → List ℕ
+otherRefusals (store name bytes) = 1 ∷ 2 ∷ 5 ∷ 6 ∷ 8 ∷ 7 ∷ 9 ∷ []
+otherRefusals (retrieve name) = 1 ∷ 2 ∷ 10 ∷ 4 ∷ []
+otherRefusals (erase name) = 1 ∷ 2 ∷ 3 ∷ 10 ∷ 11 ∷ []
+otherRefusals files = 1 ∷ 2 ∷ 4 ∷ []
+otherRefusals freeSpace = 1 ∷ 2 ∷ []
+otherRefusals list = 1 ∷ 2 ∷ 3 ∷ 4 ∷ []
+
 abbrev pub refusals : Call → List ℕ
-refusals (store name bytes) = 1 ∷ 2 ∷ 5 ∷ 6 ∷ 8 ∷ 7 ∷ 9 ∷ []
-refusals (retrieve name) = 1 ∷ 2 ∷ 10 ∷ 4 ∷ []
-refusals (erase name) = 1 ∷ 2 ∷ 3 ∷ 10 ∷ 11 ∷ []
-refusals (run name) = 1 ∷ 2 ∷ 3 ∷ 12 ∷ 10 ∷ 13 ∷ []
-refusals files = 1 ∷ 2 ∷ 4 ∷ []
-refusals freeSpace = 1 ∷ 2 ∷ []
-refusals list = 1 ∷ 2 ∷ 3 ∷ 4 ∷ []
+refusals (turn slot clock) = 1 ∷ 2 ∷ 3 ∷ 4 ∷ 16 ∷ []
+refusals (round clock) = 1 ∷ 2 ∷ 3 ∷ 4 ∷ []
 refusals (command suspend id) = 1 ∷ 2 ∷ 3 ∷ 14 ∷ 15 ∷ []
 refusals (command resume id) = 1 ∷ 2 ∷ 3 ∷ 14 ∷ 15 ∷ []
 refusals (command kill id) = 1 ∷ 2 ∷ 3 ∷ 14 ∷ []
-refusals (turn slot clock) = 1 ∷ 2 ∷ 3 ∷ 4 ∷ 16 ∷ []
-refusals (round clock) = 1 ∷ 2 ∷ 3 ∷ 4 ∷ []
+refusals (run name) = 1 ∷ 2 ∷ 3 ∷ 12 ∷ 10 ∷ 13 ∷ []
+refusals (other o) = otherRefusals o
 
 abbrev pub Names : Call → ℕ → Type 0
 Names c n = any (eqb n) (refusals c) ≡ true
@@ -46,8 +50,8 @@ stateOf b = kernelOf (b .area)
 -- nothing refuses a turn: good buffers, "at least 32 output bytes", and not "16 slot above 9 or not running"
 pub record MayTurn (b : Buffers) (slot : ℕ) : Type 0 where
   pub passes : Passes (b .disc) (b .area)
-  pub room : leb 32 (length (b .out)) ≡ true
-  pub low : ltb slot 10 ≡ true
+  pub room : leb turnRoom (length (b .out)) ≡ true
+  pub low : ltb slot slotCount ≡ true
   pub running : isRunning (processAt (kernelOf (b .area)) slot) ≡ true
 
 -- of a live process: the command is not refused by 15. Kill never is.

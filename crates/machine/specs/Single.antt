@@ -1,10 +1,10 @@
 -- Document 01's single process: fed only its program bytes, turns, clock readings and commands; it has unlimited
 -- variable space.
 use Prim.Native.Nat.{ℕ}
-use mathlib.Core.Bool.{Bool, true, false, cond, not}
-use mathlib.Core.List.{List, [], _∷_, _++_}
+use mathlib.Core.Bool.{Bool, true, false, cond}
+use mathlib.Core.List.{List, []}
 use lib.Dec.{eqb}
-use Rattle.buffer.specs.Lists.{keep}
+use Rattle.variable.specs.Assign.{assignedCells}
 use Rattle.variable.specs.Table.{Cell}
 use Rattle.machine.specs.Effect.{Effect, goes, assigns, stops, faults, asks}
 use Rattle.machine.specs.Exec.{exec}
@@ -30,11 +30,6 @@ over fault = record { state = 0; fault = fault; loc = record { stack = []; pc = 
 abbrev pub advancedTo : Single → Local → List Cell → Single
 advancedTo s l cells = record { state = s .state; fault = s .fault; loc = l; cells = cells }
 
--- "A SET without fault drops the old variable, then adds the new one"
-abbrev pub assignedCells : List Cell → ℕ → ℕ → List ℕ → List Cell
-assignedCells cells name kind bytes = keep (λ c. not (eqb (c .name) name)) cells
-    ++ (record { name = name; kind = kind; bytes = bytes } ∷ [])
-
 -- what it is fed
 pub data Input : Type 0 where
   tick : (clock : ℕ) → Input
@@ -49,7 +44,9 @@ pub data Response : Type 0 where
 -- ends it." What it does at a file, FORK or WAITUNTILDONE instruction is free: here it stays as it is.
 abbrev pub singleEffect : Single → Effect → Response
 singleEffect s (goes l out) = did out (advancedTo s l (s .cells))
-singleEffect s (assigns name kind bytes l) = did [] (advancedTo s l (assignedCells (s .cells) name kind bytes))
+singleEffect s (assigns name kind bytes l) =
+    let cells = assignedCells (s .cells) (record { name = name; kind = kind; bytes = bytes }) in
+    did [] (advancedTo s l cells)
 singleEffect s stops = did [] (over 0)
 singleEffect s (faults n) = did [] (over n)
 singleEffect s (asks r) = did [] s

@@ -1,11 +1,14 @@
 -- Values on the stack: the list of the bytes below SP, bottom first.
 use Prim.Native.Nat.{ℕ, _+_, _-_}
-use mathlib.Core.Bool.{Bool, true, false, _||_, cond}
+use mathlib.Core.Bool.{Bool, true, false, cond}
 use mathlib.Core.List.{List, [], _∷_, _++_}
 use lib.Dec.{eqb, leb}
 use lib.ListN.{length, getD, take}
 use Rattle.buffer.specs.Buffer.{part}
 use Rattle.buffer.specs.Lists.{same}
+use Rattle.number.specs.Instruction.{includes}
+use Rattle.number.specs.declared.instruction.Types.{Types}
+use Rattle.number.specs.declared.instruction.Types.the-variants.{AnyString}
 use Rattle.store.specs.Name.{trimmed}
 
 -- a value as it lies: its type, and its bytes without length and type
@@ -47,24 +50,14 @@ popNumber stack n kind =
 
 -- Document 01: "popping from the top, for each value 5 nothing there, 6 a type not taken here, 5 too few bytes below
 -- it, 6 malformed string"
-unfoldable pub pop : (ℕ → Bool) → List ℕ → Popped
+unfoldable pub pop : Types → List ℕ → Popped
 unfolding popString popNumber
-pop takes stack =
+pop types stack =
     let n = length stack in
     let kind = getD stack (n - 1) 0 in
     unlessFault (leb 1 n) 5
-    (unlessFault (takes kind) 6
+    (unlessFault (includes types kind) 6
     (cond (eqb kind stringKind) (popString stack n) (popNumber stack n kind)))
-
--- ---- which types are taken
-abbrev pub aNumber : ℕ → Bool
-aNumber kind = eqb kind 1 || (eqb kind 2 || eqb kind 4)
-
-abbrev pub aString : ℕ → Bool
-aString kind = eqb kind stringKind
-
-abbrev pub aValue : ℕ → Bool
-aValue kind = aString kind || aNumber kind
 
 -- the string on top, less its zero; nothing where there is none
 abbrev pub stringText : Popped → List ℕ
@@ -72,7 +65,7 @@ stringText (popped item rest) = trimmed (item .bytes)
 stringText (cannot fault) = []
 
 abbrev pub topString : List ℕ → List ℕ
-topString stack = stringText (pop aString stack)
+topString stack = stringText (pop AnyString stack)
 
 -- ---- pushing
 abbrev pub push : List ℕ → ℕ → List ℕ → List ℕ

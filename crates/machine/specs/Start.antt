@@ -8,6 +8,7 @@ use Rattle.buffer.specs.declared.Found.{Found}
 use Rattle.buffer.specs.declared.Found.the-variants.{At, Nowhere}
 use Rattle.store.specs.Directory.{entryAt, lookup}
 use Rattle.store.specs.declared.Entry.{Entry}
+use Rattle.machine.specs.Limits.{idLimit, stackSize}
 use Rattle.machine.specs.State.{endedSlot, noFile, noLoop, running, withProcess}
 use Rattle.machine.specs.declared.Kernel.{Kernel}
 use Rattle.machine.specs.declared.Process.{Process}
@@ -26,7 +27,7 @@ startedProcess e id =
       file = noFile;
       sp = 0;
       spare = 0;
-      stack = replicate 32 0;
+      stack = replicate stackSize 0;
     }
 
 abbrev pub started : Kernel → ℕ → Entry → Kernel
@@ -47,4 +48,4 @@ startIn (At slot) (At i) false disc = starts slot (entryAt disc i)
 
 -- Document 01, Run: "12 no ended slot, 10, 13 next ID is 32768. Takes the lowest ended slot"
 unfoldable pub starting : Kernel → List ℕ → List ℕ → Starting
-starting k disc name = startIn (endedSlot k) (lookup disc name) (eqb (k .next) 32768) disc
+starting k disc name = startIn (endedSlot k) (lookup disc name) (eqb (k .next) idLimit) disc

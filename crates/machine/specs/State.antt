@@ -6,9 +6,10 @@ use lib.Dec.{eqb}
 use lib.ListN.{getD, length, replicate, set, take}
 use Rattle.buffer.specs.Lists.{index, keep}
 use Rattle.buffer.specs.declared.Found.{Found}
-use Rattle.place.specs.declared.Run.{Run}
+use Rattle.place.specs.Place.{noRun}
 use Rattle.variable.specs.Table.{freedAll}
 use Rattle.variable.specs.declared.Variables.{Variables}
+use Rattle.machine.specs.Limits.{stackSize}
 use Rattle.machine.specs.declared.Kernel.{Kernel}
 use Rattle.machine.specs.declared.OpenFile.{OpenFile}
 use Rattle.machine.specs.declared.Process.{Process}
@@ -30,9 +31,6 @@ isRunning p = eqb (p .state) running
 -- Document 01: "Live means running or paused."
 abbrev pub isLive : Process → Bool
 isLive p = eqb (p .state) running || eqb (p .state) paused
-
-abbrev pub noRun : Run
-noRun = record { start = 0; len = 0 }
 
 abbrev pub noFile : OpenFile
 noFile = record { start = 0; len = 0; offset = 0 }
@@ -78,7 +76,10 @@ pub record Local : Type 0 where
 abbrev pub localOf : Process → Local
 localOf p = record { stack = take (p .sp) (p .stack); pc = p .pc; loopstart = p .loopstart }
 
--- Document 01: "After its turn, stack bytes above SP are zero."
+-- the stack as a record holds it. Document 01: "After its turn, stack bytes above SP are zero."
+abbrev pub stackBytes : List ℕ → List ℕ
+stackBytes stack = stack ++ replicate (stackSize - length stack) 0
+
 abbrev pub withLocal : Process → Local → Process
 withLocal p l =
     record {
@@ -92,7 +93,7 @@ withLocal p l =
       file = p .file;
       sp = length (l .stack);
       spare = p .spare;
-      stack = l .stack ++ replicate (32 - length (l .stack)) 0;
+      stack = stackBytes (l .stack);
     }
 
 abbrev pub withFile : Process → OpenFile → Process
@@ -156,7 +157,7 @@ endedProcess p fault =
       file = noFile;
       sp = 0;
       spare = 0;
-      stack = replicate 32 0;
+      stack = replicate stackSize 0;
     }
 
 -- Document 01: "Ending (STOP, kill, fault) frees the process's variables."

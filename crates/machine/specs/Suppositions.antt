@@ -11,9 +11,10 @@ use Rattle.buffer.specs.Lists.{all, any, keep, tab}
 use Rattle.buffer.specs.declared.Found.{Found}
 use Rattle.buffer.specs.declared.Found.the-variants.{At, Nowhere}
 use Rattle.place.specs.Place.{fits}
+use Rattle.variable.specs.Limits.{maxVariables, memorySize}
 use Rattle.variable.specs.Table.{counted, isOf, owned, runOf}
 use Rattle.variable.specs.declared.Variables.{Variables}
-use Rattle.machine.specs.Answer.{Call, store, retrieve, erase, run, files, freeSpace, list, command, turn, round}
+use Rattle.machine.specs.Answer.{Call, turn, round, command, run, other}
 use Rattle.machine.specs.Area.{kernelOf}
 use Rattle.machine.specs.Effect.{Effect, goes, assigns, stops, faults, asks}
 use Rattle.machine.specs.Exec.{exec}
@@ -46,7 +47,8 @@ isBarred byte = (leb 53 byte && leb byte 59) || (eqb byte 68 || eqb byte 69)
 unfoldable pub lacksSpace : Variables → ℕ → ℕ → ℕ → Bool
 lacksSpace v name i n =
     let others = keep (λ e. not (isOf name i e)) (counted v) in
-    leb 25 (length others) || not (any (fits (map runOf others) 0 256 n) (tab (λ a. a) 256))
+    leb maxVariables (length others)
+    || not (any (fits (map runOf others) 0 memorySize n) (tab (λ a. a) memorySize))
 
 -- whether a SET that meets no earlier fault lacks space for its value; any other effect lacks none
 abbrev pub isLacking : Effect → Variables → ℕ → Bool
@@ -87,15 +89,10 @@ turnDisturbsAt i (At own) slot clock e = turnDisturbs i own slot clock e
 
 abbrev pub disturbedBy : ℕ → Call → Event → Bool
 disturbedBy i (turn slot clock) e = isDoneBy (e .number) && turnDisturbsAt i (placeIn (e .before) i) slot clock e
-disturbedBy i (store name bytes) e = false
-disturbedBy i (retrieve name) e = false
-disturbedBy i (erase name) e = false
-disturbedBy i (run name) e = false
-disturbedBy i files e = false
-disturbedBy i freeSpace e = false
-disturbedBy i list e = false
-disturbedBy i (command c id) e = false
 disturbedBy i (round clock) e = false
+disturbedBy i (command c id) e = false
+disturbedBy i (run name) e = false
+disturbedBy i (other o) e = false
 
 abbrev pub Undisturbed : ℕ → List Event → Type 0
 Undisturbed i es = all (λ e. not (disturbedBy i (e .call) e)) es ≡ true

@@ -8,9 +8,9 @@ use lib.IntN.{ℤ, pos, negsuc}
 use lib.ListN.{length, drop, replicate, take}
 use Rattle.buffer.specs.Buffer.{overwrite}
 use Rattle.buffer.specs.Lists.{consIf, flat}
-use Rattle.machine.specs.Answer.{Answer, Buffers, Call, store, retrieve, erase, run, files, freeSpace, list}
-use Rattle.machine.specs.Answer.{command, turn, round, answer}
+use Rattle.machine.specs.Answer.{Answer, Buffers, Call, turn, round, command, run, other, answer}
 use Rattle.machine.specs.Area.{kernelOf}
+use Rattle.machine.specs.Limits.{turnRoom}
 use Rattle.machine.specs.State.{isRunning, processAt}
 
 -- the two buffers between calls
@@ -34,7 +34,7 @@ answerOf i s = answer (i .call) (lending s (i .out))
 
 -- ---- events
 -- one call, or one turn of a round (a round itself is never an event): the two buffers before and after it, the number
--- it returns, and what retrieve, files, list or a turn wrote into the lent output, as it stands there
+-- it returns, and what a turn printed, as it stands in the lent output
 pub record Event : Type 0 where
   pub call : Call
   pub before : Storage
@@ -59,7 +59,7 @@ outputText a = take (counts (a .number)) (a .out)
 unfoldable pub turnEvents : List ℕ → ℕ → Storage → List ℕ → List Event
 turnEvents [] clock s text = []
 turnEvents (slot ∷ slots) clock s text =
-    let a = answer (turn slot clock) (lending s (replicate 32 0)) in
+    let a = answer (turn slot clock) (lending s (replicate turnRoom 0)) in
     let n = counts (a .number) in
     consIf (isRunning (processAt (kernelOf (s .area)) slot)) (event (turn slot clock) s a (take n text))
     (turnEvents slots clock (storageOf a) (drop n text))
@@ -78,16 +78,11 @@ abbrev pub onlyIf : Bool → Event → List Event
 onlyIf enough e = consIf enough e []
 
 abbrev pub eventsBy : Call → List ℕ → Storage → Answer → List Event
-eventsBy (store name bytes) out s a = event (store name bytes) s a [] ∷ []
-eventsBy (retrieve name) out s a = event (retrieve name) s a (outputText a) ∷ []
-eventsBy (erase name) out s a = event (erase name) s a [] ∷ []
-eventsBy (run name) out s a = event (run name) s a [] ∷ []
-eventsBy files out s a = event files s a (outputText a) ∷ []
-eventsBy freeSpace out s a = event freeSpace s a [] ∷ []
-eventsBy list out s a = event list s a (outputText a) ∷ []
-eventsBy (command c id) out s a = event (command c id) s a [] ∷ []
-eventsBy (turn slot clock) out s a = onlyIf (leb 32 (length out)) (event (turn slot clock) s a (outputText a))
+eventsBy (turn slot clock) out s a = onlyIf (leb turnRoom (length out)) (event (turn slot clock) s a (outputText a))
 eventsBy (round clock) out s a = roundEvents (a .number) clock s (outputText a)
+eventsBy (command c id) out s a = event (command c id) s a [] ∷ []
+eventsBy (run name) out s a = event (run name) s a [] ∷ []
+eventsBy (other o) out s a = event (other o) s a [] ∷ []
 
 -- Demand 3: "each any list of the calls [..], refused ones included, from any disc and work area. Each call gets what
 -- it takes of these two as the calls before left it"
@@ -114,7 +109,7 @@ unfoldable pub PrintsItsPart : List Event → Type 0
 PrintsItsPart [] = Unit {0}
 PrintsItsPart (e ∷ es) =
     (e .number ≡ pos (length (e .text)))
-    × (e .text ≡ outputText (answer (e .call) (lending (e .before) (replicate 32 0)))) × PrintsItsPart es
+    × (e .text ≡ outputText (answer (e .call) (lending (e .before) (replicate turnRoom 0)))) × PrintsItsPart es
 
 -- a done round leaves what its last turn leaves, returns the sum of what they return, and writes their bytes one behind
 -- the other and nothing else

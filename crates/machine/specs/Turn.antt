@@ -1,13 +1,11 @@
 -- A turn: the instruction of one process, on the kernel's state and the disc.
-use Prim.Native.Nat.{ℕ, _-_}
-use mathlib.Core.List.{List, [], _++_}
-use lib.ListN.{length, replicate}
+use Prim.Native.Nat.{ℕ}
+use mathlib.Core.List.{List, []}
 use Rattle.store.specs.Directory.{contents}
-use Rattle.variable.specs.Assign.{assigned}
+use Rattle.variable.specs.Assign.{assigned, placingFault, valueOf}
 use Rattle.variable.specs.Table.{owned}
 use Rattle.variable.specs.declared.Placing.{Placing}
 use Rattle.variable.specs.declared.Placing.the-variants.{Address, NoEntry, NoRun}
-use Rattle.variable.specs.declared.Value.{Value}
 use Rattle.variable.specs.declared.Variables.{Variables}
 use Rattle.machine.specs.Beyond.{Answered, carriesOn, breaks, answered}
 use Rattle.machine.specs.Effect.{Effect, goes, assigns, stops, faults, asks}
@@ -22,10 +20,6 @@ pub record Turned : Type 0 where
   pub disc : List ℕ
   pub out : List ℕ
 
--- a value of SET, its bytes zero-filled
-abbrev pub valueOf : ℕ → List ℕ → Value
-valueOf kind bytes = record { kind = kind; size = length bytes; bytes = bytes ++ replicate (32 - length bytes) 0 }
-
 module _ (k : Kernel) (slot : ℕ) (disc : List ℕ) where
   -- Document 01: "A faulting instruction changes nothing but the ending."
   abbrev pub finished : ℕ → Turned
@@ -38,8 +32,8 @@ module _ (k : Kernel) (slot : ℕ) (disc : List ℕ) where
   abbrev pub setting : Placing → Variables → Local → Turned
   setting (Address a) v l =
       record { kernel = withVariables (withProcess k slot (withLocal (processAt k slot) l)) v; disc = disc; out = [] }
-  setting NoEntry v l = finished 10
-  setting NoRun v l = finished 10
+  setting NoEntry v l = finished (placingFault NoEntry)
+  setting NoRun v l = finished (placingFault NoRun)
 
   abbrev pub answering : Answered → Turned
   answering (carriesOn kernel after) = record { kernel = kernel; disc = after; out = [] }

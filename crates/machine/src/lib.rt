@@ -1,6 +1,13 @@
 // What the kernel is: definitions in specs/, their consequences in proofs/. The code of the work area and of the turn
 // comes in crates that use this one.
+pub mod instruction;
+pub mod limits;
+
+use limits::SLOT_COUNT;
+use limits::STACK_SIZE;
+use limits::ZEROS_SIZE;
 use place::Run;
+use store::layout::NAME_SIZE;
 use variable::Variables;
 ghost use Rattle.machine.specs.Cases.{Bench, Misreadings};
 ghost use Rattle.machine.specs.Demands.{EventsAreCalls, FaultTouchesOwn, GoodKept, LengthsKept};
@@ -18,7 +25,7 @@ pub struct OpenFile {
 
 // Document 01: "each process record carries its own 32-byte stack."
 pub struct Process {
-    pub name: [u8; 12],
+    pub name: [u8; NAME_SIZE],
     pub id: u16,
     pub state: u8,
     pub fault: u8,
@@ -28,15 +35,15 @@ pub struct Process {
     pub file: OpenFile,
     pub sp: u8,
     pub spare: u8,
-    pub stack: [u8; 32],
+    pub stack: [u8; STACK_SIZE],
 }
 
 // The work area as a value: every byte of it has its place here.
 pub struct Kernel {
     pub variables: Variables,
     pub next: u16,
-    pub zeros: [u8; 7],
-    pub processes: [Process; 10],
+    pub zeros: [u8; ZEROS_SIZE],
+    pub processes: [Process; SLOT_COUNT],
 }
 
 // Document 01: the bench cases K1 to K12, "Proved together, in one table with one statement".

@@ -1,11 +1,11 @@
--- Which instruction is which operator, and which types an operator takes.
+-- Which instruction is which operator; the sets of types that a pop may take, and which of them an operator takes.
 use Prim.Native.Nat.{ℕ}
 use mathlib.Core.Bool.{Bool, false, cond, _||_}
 use mathlib.Core.List.{List, [], _∷_}
 use lib.Dec.{eqb}
 use Rattle.number.specs.declared.instruction.Types.{Types}
 use Rattle.number.specs.declared.instruction.Types.the-variants.{AnyNumber, CharOrInt, IntOrFloat, CharOrFloat}
-use Rattle.number.specs.declared.instruction.Types.the-variants.{Nothing}
+use Rattle.number.specs.declared.instruction.Types.the-variants.{AnyString, AnyValue, Nothing}
 use Rattle.number.specs.declared.operators.Arithmetic.{Arithmetic}
 use Rattle.number.specs.declared.operators.Arithmetic.the-variants.{Plus, Minus, Times, DividedBy, Modulus}
 use Rattle.number.specs.declared.operators.Binary.{Binary}
@@ -91,14 +91,12 @@ typesOf (OfOne o) = unaryTypes o
 typesOf (OfTwo o) = binaryTypes o
 typesOf NotAnOperator = Nothing
 
--- the type bytes: 1 CHAR, 2 INT, 4 FLOAT; 3, a STRING, is none of them
-abbrev pub includes : Types → ℕ → Bool
+-- the type bytes: 1 CHAR, 2 INT, 3 STRING, 4 FLOAT
+unfoldable pub includes : Types → ℕ → Bool
 includes AnyNumber kind = eqb kind 1 || eqb kind 2 || eqb kind 4
 includes CharOrInt kind = eqb kind 1 || eqb kind 2
 includes IntOrFloat kind = eqb kind 2 || eqb kind 4
 includes CharOrFloat kind = eqb kind 1 || eqb kind 4
+includes AnyString kind = eqb kind 3
+includes AnyValue kind = eqb kind 3 || (eqb kind 1 || eqb kind 2 || eqb kind 4)
 includes Nothing kind = false
-
--- whether the operator takes an operand of that type, first or second
-unfoldable pub takenBy : Operator → ℕ → Bool
-takenBy operator kind = includes (typesOf operator) kind

@@ -1,7 +1,7 @@
 // Which instruction is which operator, and which types an operator takes.
 ghost use mathlib.Core.Path.{_≡_};
 ghost use Rattle.number.specs.Instruction.{lookup, unaryTable, operatorOf, conversionTypes, unaryTypes};
-ghost use Rattle.number.specs.Instruction.{arithmeticTypes, binaryTypes, typesOf, takenBy};
+ghost use Rattle.number.specs.Instruction.{arithmeticTypes, binaryTypes, typesOf, includes};
 use crate::operators::Arithmetic;
 use crate::operators::Binary;
 use crate::operators::Comparison;
@@ -11,11 +11,14 @@ use crate::operators::Extremum;
 use crate::operators::Operator;
 use crate::operators::Unary;
 
+// The sets of types that a pop may take.
 pub enum Types {
     AnyNumber,
     CharOrInt,
     IntOrFloat,
     CharOrFloat,
+    AnyString,
+    AnyValue,
     Nothing,
 }
 
@@ -121,7 +124,8 @@ fn binary_types(operator: Binary) -> Types
     }
 }
 
-fn types_of(operator: Operator) -> Types
+// The types that the operator takes, as first or second operand.
+pub fn types_of(operator: Operator) -> Types
     ensures { λ r. ⌜ r ≡ typesOf operator ⌝ }
 {
     match operator {
@@ -131,15 +135,16 @@ fn types_of(operator: Operator) -> Types
     }
 }
 
-// Whether the operator takes an operand of the type `kind`, first or second.
-pub fn takes(operator: Operator, kind: u8) -> bool
-    ensures { λ r. ⌜ r ≡ takenBy operator kind ⌝ }
+pub fn takes(types: Types, kind: u8) -> bool
+    ensures { λ r. ⌜ r ≡ includes types kind ⌝ }
 {
-    match types_of(operator) {
+    match types {
         Types::AnyNumber => (kind == 1) | (kind == 2) | (kind == 4),
         Types::CharOrInt => (kind == 1) | (kind == 2),
         Types::IntOrFloat => (kind == 2) | (kind == 4),
         Types::CharOrFloat => (kind == 1) | (kind == 4),
+        Types::AnyString => kind == 3,
+        Types::AnyValue => (kind == 3) | ((kind == 1) | (kind == 2) | (kind == 4)),
         Types::Nothing => false,
     }
 }

@@ -2,12 +2,13 @@
 use crate::tally::write_field;
 use number::instruction::operator;
 use number::instruction::takes;
+use number::instruction::types_of;
 
 fn write_line(instruction: u8) {
     io::print_decimal(1, instruction as u64);
     let mut kind: u8 = 0;
     while kind < 6 {
-        if takes(operator(instruction), kind) {
+        if takes(types_of(operator(instruction)), kind) {
             write_field(kind as u32);
         }
         kind += 1;

@@ -14,6 +14,7 @@ use crate::tally::empty;
 use crate::tally::write_field;
 use crate::tally::write_tally;
 use number::instruction::takes;
+use number::instruction::types_of;
 use number::operators::Operator;
 use number::operators::Unary;
 use number::unary::apply;
@@ -50,7 +51,7 @@ fn over_type(o: Unary, kind: u8, grid: &Grid) -> Tally {
 }
 
 fn write_line(instruction: u8, o: Unary, kind: u8, grid: &Grid) {
-    if takes(Operator::OfOne(o), kind) {
+    if takes(types_of(Operator::OfOne(o)), kind) {
         io::print_decimal(1, instruction as u64);
         write_field(kind as u32);
         write_tally(over_type(o, kind, grid));

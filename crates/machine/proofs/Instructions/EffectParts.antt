@@ -11,20 +11,22 @@ use borrow.Author.Tests.{leb-true}
 use Rattle.buffer.specs.declared.Found.{Found}
 use Rattle.buffer.specs.declared.Found.the-variants.{At, Nowhere}
 use Rattle.number.specs.Binary.{binary}
-use Rattle.number.specs.Instruction.{takenBy}
+use Rattle.number.specs.Instruction.{typesOf}
 use Rattle.number.specs.Unary.{unary}
 use Rattle.number.specs.declared.Number.{Number}
+use Rattle.number.specs.declared.instruction.Types.{Types}
 use Rattle.number.specs.declared.Outcome.{Outcome}
 use Rattle.number.specs.declared.Outcome.the-variants.{Value, DivisionByZero, OutOfRange}
 use Rattle.number.specs.declared.operators.Operator.{Operator}
 use Rattle.number.specs.declared.operators.Operator.the-variants.{OfOne, OfTwo, NotAnOperator}
 use Rattle.variable.specs.Good.{goodSize}
 use Rattle.variable.specs.Table.{Cell}
-use Rattle.machine.specs.Effect.{Effect, goes, assigns, stops, faults, asks, unlessFaults, land, settle, withPopped, withOutcome}
-use Rattle.machine.specs.Effect.{withCell, operates, number}
+use Rattle.machine.specs.Effect.{Effect, goes, assigns, stops, faults, asks, unlessFaults, land, settle, withPopped, withNumber}
+use Rattle.machine.specs.Effect.{withOutcome, withVariable, operates, number}
+use Rattle.machine.specs.Limits.{stackSize, turnRoom}
 use Rattle.machine.specs.Stack.{Item, Popped, popped, cannot, pop}
 use Rattle.machine.specs.State.{Local, noLoop}
-use Rattle.machine.proofs.Instructions.InstructionBytes.{reaching}
+use Rattle.machine.specs.Suppositions.{isBarred}
 use Rattle.machine.proofs.Instructions.Popping.{Pops, TakenOff, pop-pops}
 use Rattle.machine.proofs.Instructions.Sound.{Asked, Within}
 
@@ -34,12 +36,12 @@ instructionByte prog l = getD prog (l .pc) 0
 
 -- an effect that is sound where the process fits its record, assigns only by SET's byte, 5, and asks only by a byte that may
 unfoldable pub Does : List ℕ → Local → Effect → Type 0
-Does prog l (goes m out) = Within (length prog) l → Within (length prog) m × (length out ≤ 32)
+Does prog l (goes m out) = Within (length prog) l → Within (length prog) m × (length out ≤ turnRoom)
 Does prog l (assigns name kind bytes m) = (instructionByte prog l ≡ 5)
     × (Within (length prog) l → Within (length prog) m × (goodSize kind (length bytes) ≡ true))
 Does prog l stops = Unit {0}
 Does prog l (faults n) = (1 ≤ n) × (n ≤ 9)
-Does prog l (asks r) = (reaching (instructionByte prog l) ≡ true) × (Within (length prog) l → Asked prog l r)
+Does prog l (asks r) = (isBarred (instructionByte prog l) ≡ true) × (Within (length prog) l → Asked prog l r)
 
 module _ (prog : List ℕ) (l : Local) where
   -- ---- the parts that instructions are made of
@@ -52,15 +54,25 @@ module _ (prog : List ℕ) (l : Local) where
   either-does true d e h k = h
   either-does false d e h k = k
 
-  pub popped-does : (takes : ℕ → Bool) (stack : List ℕ) (next : Item → List ℕ → Effect)
-      → ((item : Item) (rest : List ℕ) → pop takes stack ≡ popped item rest → TakenOff takes stack item rest → Does prog l (next item rest))
-      → Does prog l (withPopped (pop takes stack) next)
+  pub popped-does : (types : Types) (stack : List ℕ) (next : Item → List ℕ → Effect)
+      → ((item : Item) (rest : List ℕ) → pop types stack ≡ popped item rest → TakenOff types stack item rest → Does prog l (next item rest))
+      → Does prog l (withPopped (pop types stack) next)
   unfolding Does Pops
-  popped-does takes stack next h = go (pop takes stack) refl (pop-pops takes stack)
+  popped-does types stack next h = go (pop types stack) refl (pop-pops types stack)
     where
-      go : (p : Popped) → pop takes stack ≡ p → Pops takes stack p → Does prog l (withPopped p next)
+      go : (p : Popped) → pop types stack ≡ p → Pops types stack p → Does prog l (withPopped p next)
       go (popped item rest) e t = h item rest e t
       go (cannot n) e f = ⊎-elim (λ (q : n ≡ 5). (omega arith, omega arith)) (λ (q : n ≡ 6). (omega arith, omega arith)) f
+
+  pub number-does : (types : Types) (stack : List ℕ) (next : Number → List ℕ → Effect)
+      → ((a : Number) (rest : List ℕ) → length rest ≤ length stack → Does prog l (next a rest))
+      → Does prog l (withNumber (pop types stack) next)
+  unfolding Does Pops
+  number-does types stack next h = go (pop types stack) (pop-pops types stack)
+    where
+      go : (p : Popped) → Pops types stack p → Does prog l (withNumber p next)
+      go (popped item rest) t = h (number item) rest (omega (arith, t .lay))
+      go (cannot n) f = ⊎-elim (λ (q : n ≡ 5). (omega arith, omega arith)) (λ (q : n ≡ 6). (omega arith, omega arith)) f
 
   outcome-does : (o : Outcome) (next : Number → Effect) → ((a : Number) → Does prog l (next a)) → Does prog l (withOutcome o next)
   unfolding Does
@@ -68,30 +80,30 @@ module _ (prog : List ℕ) (l : Local) where
   outcome-does DivisionByZero next h = (omega arith, omega arith)
   outcome-does OutOfRange next h = (omega arith, omega arith)
 
-  pub cell-does : (f : Found) (own : List Cell) (next : Cell → Effect) → ((c : Cell) → Does prog l (next c))
-      → Does prog l (withCell f own next)
+  pub variable-does : (f : Found) (own : List Cell) (next : Cell → Effect) → ((c : Cell) → Does prog l (next c))
+      → Does prog l (withVariable f own next)
   unfolding Does
-  cell-does Nowhere own next h = (omega arith, omega arith)
-  cell-does (At i) own next h = h _
+  variable-does Nowhere own next h = (omega arith, omega arith)
+  variable-does (At i) own next h = h _
 
   pub operates-does : (o : Operator) (stack : List ℕ) (next : List ℕ → Effect) → ((s : List ℕ) → Does prog l (next s))
       → Does prog l (operates o stack next)
   unfolding Does operates
-  operates-does (OfOne o) stack next h = popped-does (takenBy (OfOne o)) stack _ λ x rest e t. outcome-does (unary o (number x)) _ λ a. h _
+  operates-does (OfOne o) stack next h = number-does (typesOf (OfOne o)) stack _ λ x rest t. outcome-does (unary o x) _ λ a. h _
   operates-does (OfTwo o) stack next h =
-      popped-does (takenBy (OfTwo o)) stack _ λ y rest e t.
-      popped-does (takenBy (OfTwo o)) rest _ λ x below d u.
-      outcome-does (binary o (number x) (number y)) _ λ a. h _
+      number-does (typesOf (OfTwo o)) stack _ λ y rest t.
+      number-does (typesOf (OfTwo o)) rest _ λ x below u.
+      outcome-does (binary o x y) _ λ a. h _
   operates-does NotAnOperator stack next h = (omega arith, omega arith)
 
   -- the tests at the end of an instruction: stack and PC fit whatever it did
   pub settle-does : (target : Found) (stack : List ℕ) (loopstart : ℕ) (out : List ℕ)
-      → (Within (length prog) l → ((loopstart ≡ noLoop) ⊎ (loopstart ≤ length prog)) × (length out ≤ 32))
+      → (Within (length prog) l → ((loopstart ≡ noLoop) ⊎ (loopstart ≤ length prog)) × (length out ≤ turnRoom))
       → Does prog l (settle prog target stack loopstart out)
   unfolding Does settle
-  settle-does target stack loopstart out h = unless-does (leb (length stack) 32) 4 _ (omega arith, omega arith) (lands target)
+  settle-does target stack loopstart out h = unless-does (leb (length stack) stackSize) 4 _ (omega arith, omega arith) (lands target)
     where
-      lands : (f : Found) → leb (length stack) 32 ≡ true → Does prog l (land prog f stack loopstart out)
+      lands : (f : Found) → leb (length stack) stackSize ≡ true → Does prog l (land prog f stack loopstart out)
       lands Nowhere s = (omega arith, omega arith)
       lands (At pc) s = unless-does (leb pc (length prog)) 3 _ (omega arith, omega arith) λ p. λ w.
           (record { stack = leb-true _ _ s; pc = leb-true _ _ p; loop = h w .0 }, h w .1)

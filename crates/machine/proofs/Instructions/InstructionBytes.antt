@@ -11,24 +11,25 @@ use Rattle.buffer.proofs.Bools.{and-left, and-right}
 use Rattle.number.specs.Instruction.{operatorOf}
 use Rattle.number.specs.declared.operators.Operator.{Operator}
 use Rattle.number.specs.declared.operators.Operator.the-variants.{OfOne, OfTwo, NotAnOperator}
-use Rattle.machine.specs.Instruction.{Instruction, Reach, literal, stringLiteral, setVariable, getVariable, operate, delayUntil}
-use Rattle.machine.specs.Instruction.{millis, print, jumpIf, endIf, while, endWhile, loop, endLoop, stop, reach, unknown, openFile}
-use Rattle.machine.specs.Instruction.{closeFile, writeFile, readString, fork, waitUntilDone, readNumber, find, instructionOf}
-use Rattle.machine.specs.Instruction.{operatorOr, others}
+use Rattle.machine.specs.Instruction.{find, instructionOf, operatorOr, others}
+use Rattle.machine.specs.Suppositions.{isBarred}
+use Rattle.machine.specs.declared.instruction.Instruction.{Instruction}
+use Rattle.machine.specs.declared.instruction.Instruction.the-variants.{Literal, StringLiteral, SetVariable, GetVariable, Operate}
+use Rattle.machine.specs.declared.instruction.Instruction.the-variants.{DelayUntil, Millis, Print, JumpIf, EndIf, While, EndWhile}
+use Rattle.machine.specs.declared.instruction.Instruction.the-variants.{Loop, EndLoop, Stop, Beyond, Unknown}
+use Rattle.machine.specs.declared.instruction.Reach.{Reach}
+use Rattle.machine.specs.declared.instruction.Reach.the-variants.{OpenFile, CloseFile, WriteFile, ReadNumber, ReadString, Fork}
+use Rattle.machine.specs.declared.instruction.Reach.the-variants.{WaitUntilDone}
 use Rattle.buffer.proofs.Disjunctions.{or-cases}
 
--- Document 01, appendix C: 53 OPEN to 59 READSTRING, 68 FORK, 69 WAITUNTILDONE
-abbrev pub reaching : ℕ → Bool
-reaching b = (leb 53 b && leb b 59) || (eqb b 68 || eqb b 69)
-
 abbrev pub isByteOf : ℕ → Reach → Bool
-isByteOf b openFile = eqb b 53
-isByteOf b closeFile = eqb b 54
-isByteOf b writeFile = eqb b 55
-isByteOf b (readNumber kind) = eqb b 56 || (eqb b 57 || eqb b 58)
-isByteOf b readString = eqb b 59
-isByteOf b fork = eqb b 68
-isByteOf b waitUntilDone = eqb b 69
+isByteOf b OpenFile = eqb b 53
+isByteOf b CloseFile = eqb b 54
+isByteOf b WriteFile = eqb b 55
+isByteOf b (ReadNumber kind) = eqb b 56 || (eqb b 57 || eqb b 58)
+isByteOf b ReadString = eqb b 59
+isByteOf b Fork = eqb b 68
+isByteOf b WaitUntilDone = eqb b 69
 
 -- READINT, READCHAR, READFLOAT
 pub reads-by : (b : ℕ) → eqb b 56 || (eqb b 57 || eqb b 58) ≡ true → (b ≡ 56) ⊎ ((b ≡ 57) ⊎ (b ≡ 58))
@@ -39,26 +40,26 @@ reads-by b h =
 
 -- the byte of SET, and of an instruction that asks; every other instruction assigns and asks nothing
 abbrev pub asksBy : ℕ → Instruction → Bool
-asksBy b (literal kind) = true
-asksBy b stringLiteral = true
-asksBy b setVariable = eqb b 5
-asksBy b getVariable = true
-asksBy b (operate o) = true
-asksBy b delayUntil = true
-asksBy b millis = true
-asksBy b (print ends) = true
-asksBy b (jumpIf zero) = true
-asksBy b endIf = true
-asksBy b while = true
-asksBy b endWhile = true
-asksBy b loop = true
-asksBy b endLoop = true
-asksBy b stop = true
-asksBy b (reach r) = reaching b && isByteOf b r
-asksBy b unknown = true
+asksBy b (Literal kind) = true
+asksBy b StringLiteral = true
+asksBy b SetVariable = eqb b 5
+asksBy b GetVariable = true
+asksBy b (Operate o) = true
+asksBy b DelayUntil = true
+asksBy b Millis = true
+asksBy b (Print ends) = true
+asksBy b (JumpIf zero) = true
+asksBy b EndIf = true
+asksBy b While = true
+asksBy b EndWhile = true
+asksBy b Loop = true
+asksBy b EndLoop = true
+asksBy b Stop = true
+asksBy b (Beyond r) = isBarred b && isByteOf b r
+asksBy b Unknown = true
 
 -- what a test says of every row of a table and of no row, it says of what is found there
-find-all : (test : ℕ → Instruction → Bool) (n : ℕ) (table : List (ℕ × Instruction)) → test n unknown ≡ true
+find-all : (test : ℕ → Instruction → Bool) (n : ℕ) (table : List (ℕ × Instruction)) → test n Unknown ≡ true
     → all (λ row. test (row .0) (row .1)) table ≡ true → test n (find n table) ≡ true
 unfolding find all
 find-all test n [] u h = u

@@ -13,12 +13,17 @@ use Rattle.buffer.specs.Buffer.{part}
 use Rattle.buffer.proofs.Bools.{and-both, true-not-false}
 use Rattle.buffer.proofs.Lists.{same-eq}
 use Rattle.buffer.proofs.Parts.{part-length}
+use Rattle.number.specs.Instruction.{includes}
 use Rattle.number.specs.Text.{textOf}
+use Rattle.number.specs.declared.instruction.Types.{Types}
+use Rattle.number.specs.declared.instruction.Types.the-variants.{AnyNumber, AnyString, AnyValue}
 use Rattle.number.proofs.Texts.{text-short}
 use Rattle.store.specs.Name.{trimmed, unlessZero}
 use Rattle.variable.specs.Good.{goodSize}
+use Rattle.variable.specs.Limits.{maxString}
 use Rattle.machine.specs.Effect.{number, printed}
-use Rattle.machine.specs.Stack.{Item, Popped, popped, cannot, aNumber, aString, aValue, pop, popNumber, popString, stringKind}
+use Rattle.machine.specs.Limits.{stackSize}
+use Rattle.machine.specs.Stack.{Item, Popped, popped, cannot, pop, popNumber, popString, stringKind}
 use Rattle.machine.specs.Stack.{unlessFault, wellFormed}
 use Rattle.buffer.proofs.Disjunctions.{or-cases}
 
@@ -36,34 +41,34 @@ pub record IsString (stack : List ℕ) (item : Item) (rest : List ℕ) : Type 0 
   pub zero-last : item .bytes ≡ trimmed (item .bytes) ++ (0 ∷ [])
   pub lay : length rest + length (item .bytes) + 2 ≤ length stack
 
-pub record TakenOff (takes : ℕ → Bool) (stack : List ℕ) (item : Item) (rest : List ℕ) : Type 0 where
-  pub taken : takes (item .kind) ≡ true
+pub record TakenOff (types : Types) (stack : List ℕ) (item : Item) (rest : List ℕ) : Type 0 where
+  pub taken : includes types (item .kind) ≡ true
   pub lay : length rest + length (item .bytes) + 1 ≤ length stack
   pub string : item .kind ≡ stringKind → IsString stack item rest
   pub number : (item .kind ≡ stringKind → ⊥) → length (item .bytes) ≡ item .kind
 
-unfoldable pub Pops : (ℕ → Bool) → List ℕ → Popped → Type 0
-Pops takes stack (popped item rest) = TakenOff takes stack item rest
-Pops takes stack (cannot fault) = (fault ≡ 5) ⊎ (fault ≡ 6)
+unfoldable pub Pops : Types → List ℕ → Popped → Type 0
+Pops types stack (popped item rest) = TakenOff types stack item rest
+Pops types stack (cannot fault) = (fault ≡ 5) ⊎ (fault ≡ 6)
 
-unless-pops : (takes : ℕ → Bool) (stack : List ℕ) (b : Bool) (fault : ℕ) (p : Popped) → (fault ≡ 5) ⊎ (fault ≡ 6)
-    → (b ≡ true → Pops takes stack p) → Pops takes stack (unlessFault b fault p)
+unless-pops : (types : Types) (stack : List ℕ) (b : Bool) (fault : ℕ) (p : Popped) → (fault ≡ 5) ⊎ (fault ≡ 6)
+    → (b ≡ true → Pops types stack p) → Pops types stack (unlessFault b fault p)
 unfolding Pops
-unless-pops takes stack true fault p f h = h refl
-unless-pops takes stack false fault p f h = f
+unless-pops types stack true fault p f h = h refl
+unless-pops types stack false fault p f h = f
 
 -- Document 01: "A popped string must have length 1 or more and its only zero last."
 pub well-formed-is : (bytes : List ℕ) → wellFormed bytes ≡ true → bytes ≡ trimmed bytes ++ (0 ∷ [])
 unfolding wellFormed
 well-formed-is bytes t = same-eq bytes (trimmed bytes ++ (0 ∷ [])) t
 
-module _ (takes : ℕ → Bool) (stack : List ℕ) where
-  string-pops : takes stringKind ≡ true → Pops takes stack (popString stack (length stack))
+module _ (types : Types) (stack : List ℕ) where
+  string-pops : includes types stringKind ≡ true → Pops types stack (popString stack (length stack))
   unfolding Pops popString
   string-pops t =
-      unless-pops takes stack (leb 2 n) 5 _ (inl refl) λ two.
-      unless-pops takes stack (leb (len + 2) n) 5 _ (inl refl) λ enough.
-      unless-pops takes stack (wellFormed (part stack (n - 2 - len) len)) 6 _ (inr refl) λ formed.
+      unless-pops types stack (leb 2 n) 5 _ (inl refl) λ two.
+      unless-pops types stack (leb (len + 2) n) 5 _ (inl refl) λ enough.
+      unless-pops types stack (wellFormed (part stack (n - 2 - len) len)) 6 _ (inr refl) λ formed.
       let k : len + 2 ≤ n = leb-true _ _ enough in
       let bytes : length (part stack (n - 2 - len) len) ≡ len = part-length stack (n - 2 - len) len (omega arith) in
       let rest : length (take (n - 2 - len) stack) ≡ n - 2 - len = length-take-le (n - 2 - len) stack (omega arith) in
@@ -81,10 +86,10 @@ module _ (takes : ℕ → Bool) (stack : List ℕ) where
       len : ℕ
       len = getD stack (n - 2) 0
 
-  number-pops : (kind : ℕ) → takes kind ≡ true → (kind ≡ stringKind → ⊥) → Pops takes stack (popNumber stack (length stack) kind)
+  number-pops : (kind : ℕ) → includes types kind ≡ true → (kind ≡ stringKind → ⊥) → Pops types stack (popNumber stack (length stack) kind)
   unfolding Pops popNumber
   number-pops kind t other =
-      unless-pops takes stack (leb (kind + 1) n) 5 _ (inl refl) λ enough.
+      unless-pops types stack (leb (kind + 1) n) 5 _ (inl refl) λ enough.
       let k : kind + 1 ≤ n = leb-true _ _ enough in
       let bytes : length (part stack (n - 1 - kind) kind) ≡ kind = part-length stack (n - 1 - kind) kind (omega arith) in
       let rest : length (take (n - 1 - kind) stack) ≡ n - 1 - kind = length-take-le (n - 1 - kind) stack (omega arith) in
@@ -93,10 +98,10 @@ module _ (takes : ℕ → Bool) (stack : List ℕ) where
       n : ℕ
       n = length stack
 
-  pub pop-pops : Pops takes stack (pop takes stack)
+  pub pop-pops : Pops types stack (pop types stack)
   unfolding Pops pop
-  pop-pops = unless-pops takes stack (leb 1 n) 5 _ (inl refl)
-      (λ some. unless-pops takes stack (takes kind) 6 _ (inr refl) (λ t. by-kind t (eqb kind stringKind) refl))
+  pop-pops = unless-pops types stack (leb 1 n) 5 _ (inl refl)
+      (λ some. unless-pops types stack (includes types kind) 6 _ (inr refl) (λ t. by-kind t (eqb kind stringKind) refl))
     where
       n : ℕ
       n = length stack
@@ -104,20 +109,21 @@ module _ (takes : ℕ → Bool) (stack : List ℕ) where
       kind : ℕ
       kind = getD stack (n - 1) 0
 
-      by-kind : takes kind ≡ true → (b : Bool) → eqb kind stringKind ≡ b
-          → Pops takes stack (cond b (popString stack n) (popNumber stack n kind))
+      by-kind : includes types kind ≡ true → (b : Bool) → eqb kind stringKind ≡ b
+          → Pops types stack (cond b (popString stack n) (popNumber stack n kind))
       by-kind t true e = string-pops (rw (sym (eqb-true kind stringKind e)) t)
       by-kind t false e = number-pops kind t (eqb-false kind stringKind e)
 
 -- ---- types of numbers
-pub number-no-string : (kind : ℕ) → aNumber kind ≡ true → kind ≡ stringKind → ⊥
-number-no-string kind t e = true-not-false (subst (λ (k : ℕ). aNumber k ≡ true) e t) refl
+pub number-no-string : (kind : ℕ) → includes AnyNumber kind ≡ true → kind ≡ stringKind → ⊥
+unfolding includes
+number-no-string kind t e = true-not-false (subst (λ (k : ℕ). includes AnyNumber k ≡ true) e t) refl
 
-number-good-size : (kind : ℕ) → aNumber kind ≡ true → goodSize kind kind ≡ true
-unfolding goodSize
+number-good-size : (kind : ℕ) → includes AnyNumber kind ≡ true → goodSize kind kind ≡ true
+unfolding goodSize includes
 number-good-size kind t =
-    ⊎-elim (is 1 refl) (λ u. ⊎-elim (is 2 refl) (is 4 refl) (or-cases (eqb kind 2) (eqb kind 4) u))
-    (or-cases (eqb kind 1) (eqb kind 2 || eqb kind 4) t)
+    ⊎-elim (λ u. ⊎-elim (is 1 refl) (is 2 refl) (or-cases (eqb kind 1) (eqb kind 2) u)) (is 4 refl)
+    (or-cases (eqb kind 1 || eqb kind 2) (eqb kind 4) t)
   where
     is : (n : ℕ) → goodSize n n ≡ true → eqb kind n ≡ true → goodSize kind kind ≡ true
     is n h e = subst⁻¹ (λ (k : ℕ). goodSize k k ≡ true) (eqb-true kind n e) h
@@ -126,20 +132,21 @@ pub string-not-empty : (stack : List ℕ) (item : Item) (rest : List ℕ) → Is
 string-not-empty stack item rest s = omega (arith, ap length (s .zero-last), length-append (trimmed (item .bytes)) (0 ∷ []))
 
 -- a popped string lay as three bytes or more: its zero, its length, its type
-pub string-lay : (stack : List ℕ) (item : Item) (rest : List ℕ) → TakenOff aString stack item rest → length rest + 3 ≤ length stack
+pub string-lay : (stack : List ℕ) (item : Item) (rest : List ℕ) → TakenOff AnyString stack item rest → length rest + 3 ≤ length stack
+unfolding includes
 string-lay stack item rest t =
     let s : IsString stack item rest = t .string (eqb-true _ _ (t .taken)) in
     omega (arith, s .lay, string-not-empty stack item rest s)
 
 -- ---- a popped value of a stack that fits
-module _ (stack : List ℕ) (item : Item) (rest : List ℕ) (t : TakenOff aValue stack item rest) (fits : length stack ≤ 32) where
-  string-short : item .kind ≡ stringKind → length (item .bytes) ≤ 30
+module _ (stack : List ℕ) (item : Item) (rest : List ℕ) (t : TakenOff AnyValue stack item rest) (fits : length stack ≤ stackSize) where
+  string-short : item .kind ≡ stringKind → length (item .bytes) ≤ maxString
   string-short e = omega (arith, t .string e .lay)
 
   -- Document 01: "size 1, 2, 4 for types 1, 2, 4, or 1 to 30 for type 3"
   pub value-good-size : goodSize (item .kind) (length (item .bytes)) ≡ true
-  unfolding goodSize
-  value-good-size = ⊎-elim of-string of-number (or-cases (eqb (item .kind) stringKind) (aNumber (item .kind)) (t .taken))
+  unfolding goodSize includes
+  value-good-size = ⊎-elim of-string of-number (or-cases (eqb (item .kind) stringKind) (includes AnyNumber (item .kind)) (t .taken))
     where
       of-string : eqb (item .kind) stringKind ≡ true → goodSize (item .kind) (length (item .bytes)) ≡ true
       of-string e =
@@ -147,13 +154,13 @@ module _ (stack : List ℕ) (item : Item) (rest : List ℕ) (t : TakenOff aValue
           subst⁻¹ (λ (k : ℕ). goodSize k (length (item .bytes)) ≡ true) kind
           (and-both (le-leb _ _ (string-not-empty stack item rest (t .string kind))) (le-leb _ _ (string-short kind)))
 
-      of-number : aNumber (item .kind) ≡ true → goodSize (item .kind) (length (item .bytes)) ≡ true
+      of-number : includes AnyNumber (item .kind) ≡ true → goodSize (item .kind) (length (item .bytes)) ≡ true
       of-number e = subst⁻¹ (λ (n : ℕ). goodSize (item .kind) n ≡ true) (t .number (number-no-string (item .kind) e))
           (number-good-size (item .kind) e)
 
-  pub printed-short : length (printed item) ≤ 30
+  pub printed-short : length (printed item) ≤ maxString
   printed-short = go (eqb (item .kind) stringKind) refl
     where
-      go : (b : Bool) → eqb (item .kind) stringKind ≡ b → length (cond b (trimmed (item .bytes)) (textOf (number item))) ≤ 30
+      go : (b : Bool) → eqb (item .kind) stringKind ≡ b → length (cond b (trimmed (item .bytes)) (textOf (number item))) ≤ maxString
       go true e = omega (arith, trimmed-short (item .bytes), string-short (eqb-true _ _ e))
       go false e = omega (arith, text-short (number item))

@@ -9,12 +9,13 @@ use lib.ListN.{length, getD}
 use Rattle.variable.specs.Good.{goodSize}
 use Rattle.machine.specs.Effect.{Effect, goes, assigns, stops, faults, asks, Request, opens, closes, writes, reads, readsString}
 use Rattle.machine.specs.Effect.{forks, awaits}
+use Rattle.machine.specs.Limits.{stackSize, turnRoom}
 use Rattle.machine.specs.Stack.{topString}
 use Rattle.machine.specs.State.{Local, noLoop}
 
 -- n is the program's length
 pub record Within (n : ℕ) (l : Local) : Type 0 where
-  pub stack : length (l .stack) ≤ 32
+  pub stack : length (l .stack) ≤ stackSize
   pub pc : l .pc ≤ n
   pub loop : (l .loopstart ≡ noLoop) ⊎ (l .loopstart ≤ n)
 
@@ -26,13 +27,13 @@ Asked prog l (writes bytes m) = (getD prog (l .pc) 0 ≡ 55) × Within (length p
 Asked prog l (reads kind m) = ((getD prog (l .pc) 0 ≡ 56) ⊎ ((getD prog (l .pc) 0 ≡ 57) ⊎ (getD prog (l .pc) 0 ≡ 58)))
     × Within (length prog) m
 Asked prog l (readsString m) = (getD prog (l .pc) 0 ≡ 59) × Within (length prog) m
-Asked prog l (forks name m) = (getD prog (l .pc) 0 ≡ 68) × (name ≡ topString (l .stack)) × (length (m .stack) + 3 ≤ 32)
+Asked prog l (forks name m) = (getD prog (l .pc) 0 ≡ 68) × (name ≡ topString (l .stack)) × (length (m .stack) + 3 ≤ stackSize)
     × Within (length prog) m
 Asked prog l (awaits id stay go) = (getD prog (l .pc) 0 ≡ 69) × (stay ≡ l) × Within (length prog) go
 
 unfoldable pub Sound : List ℕ → Local → Effect → Type 0
 unfolding Asked
-Sound prog l (goes m out) = Within (length prog) m × (length out ≤ 32)
+Sound prog l (goes m out) = Within (length prog) m × (length out ≤ turnRoom)
 Sound prog l (assigns name kind bytes m) = Within (length prog) m × (goodSize kind (length bytes) ≡ true)
 Sound prog l stops = Unit {0}
 Sound prog l (faults n) = (1 ≤ n) × (n ≤ 9)
