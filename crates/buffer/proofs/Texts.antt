@@ -1,11 +1,11 @@
 -- Laws of texts: appending twice is appending once, and what is appended stands behind what was there.
 use Prim.Native.Nat.{ℕ, _+_, _≤_}
-use mathlib.Core.Path.{_≡_, refl, sym, _∙_}
+use mathlib.Core.Path.{_≡_, refl, ap, _∙_}
 use mathlib.Core.List.{List, _++_}
 use native.Mathlib.Nat.{add-assoc}
 use native.Mathlib.Omega.{arith}
 use lib.ListN.{length, length-append}
-use Rattle.buffer.specs.Text.{appended, written}
+use Rattle.buffer.specs.Text.{appended, emptyText, textSize, written}
 use Rattle.buffer.specs.declared.text.Text.{Text}
 use Rattle.buffer.proofs.Buffer.{overwrite-head, overwrite-joined}
 
@@ -17,3 +17,7 @@ module _ (t : Text) (a : List ℕ) (h : t .len + length a ≤ length (t .bytes))
 
   pub appended-written : written (appended t a) ≡ written t ++ a
   appended-written = overwrite-head (t .bytes) a (t .len) h
+
+-- a text that holds these bytes alone
+pub only-written : (t : Text) (l : List ℕ) → t ≡ appended emptyText l → length l ≤ textSize → written t ≡ l
+only-written t l e h = ap written e ∙ appended-written emptyText l (omega arith)

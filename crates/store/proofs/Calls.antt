@@ -16,10 +16,10 @@ use Rattle.buffer.specs.declared.Found.the-variants.{At, Nowhere}
 use Rattle.buffer.proofs.Bools.{true-not-false}
 use Rattle.place.specs.Place.{fits, isAt, longest, runFrom}
 use Rattle.place.proofs.Place.{longest-fits, longest-most}
-use Rattle.store.specs.Answer.{Reported, Updated, answerNumber, eraseAnswer, eraseAt, fileLine, filesAnswer, freeSpaceAnswer}
+use Rattle.store.specs.Answer.{Reported, Updated, answerNumber, fileLine, filesAnswer, freeSpaceAnswer}
 use Rattle.store.specs.Answer.{refusalNumber, reported, retrieveAnswer, retrieveAt, storeAnswer, storeAt, updated}
 use Rattle.store.specs.Directory.{contents, entryAt, fileCount, files, goodDisc, isDiscLength, lookup, runOf, taken}
-use Rattle.store.specs.File.{admission, entered, erased, placeOf, unless, writtenAt}
+use Rattle.store.specs.File.{admission, entered, placeOf, unless, writtenAt}
 use Rattle.store.specs.declared.Admission.{Admission}
 use Rattle.store.specs.declared.Admission.the-variants.{Start, Denied}
 use Rattle.store.specs.declared.Answer.the-variants.{Done, Refused}
@@ -74,7 +74,7 @@ refused-below NoSuchFile = record { lt = tt }
 pub refused-not-done : (r : Refusal) (n : ℕ) → answerNumber (Refused r) ≡ pos n → ⊥
 refused-not-done r n e = done-not-below n (subst (λ (z : ℤ). z <ℤ pos 0) e (refused-below r))
 
--- ---- store and erase by cases: refused, with the disc as it was, or done
+-- ---- store by cases: refused, with the disc as it was, or done
 abbrev pub stored : List ℕ → List ℕ → List ℕ → ℕ → List ℕ
 stored disc name bytes s = writtenAt (entered disc name (length bytes) s) (runFrom s (length bytes)) 0 bytes
 
@@ -92,26 +92,10 @@ store-cases disc name bytes P refused done =
     go (Denied r) e l g = refused r (denied disc name (length bytes) r e)
     go (Start s) e l g = done s l g (admitted disc name (length bytes) s e)
 
-pub erase-cases : (disc name : List ℕ) (P : Updated → Type 0)
-    → ((r : Refusal) → P (updated (Refused r) disc))
-    → ((i : ℕ) → goodDisc disc ≡ true → lookup disc name ≡ At i → P (updated (Done 0) (erased disc i)))
-    → P (eraseAnswer disc name)
-unfolding eraseAnswer
-erase-cases disc name P refused done =
-    by-checks disc P _ _ (λ e. refused WrongLength) (λ e. refused BadDisc) (λ l g. go (lookup disc name) refl g)
-  where
-    go : (f : Found) → lookup disc name ≡ f → goodDisc disc ≡ true → P (eraseAt f disc)
-    go Nowhere e g = refused NoSuchFile
-    go (At i) e g = done i g e
-
 -- ---- Document 01: "−n is refusal n with both buffers and the output unchanged"
 pub store-refused : (disc name bytes : List ℕ) → storeAnswer disc name bytes .number <ℤ pos 0 → storeAnswer disc name bytes .disc ≡ disc
 store-refused disc name bytes =
     store-cases disc name bytes (λ u. u .number <ℤ pos 0 → u .disc ≡ disc) (λ r d h. refl) (λ s l g a h. absurd (done-not-below 0 h))
-
-pub erase-refused : (disc name : List ℕ) → eraseAnswer disc name .number <ℤ pos 0 → eraseAnswer disc name .disc ≡ disc
-erase-refused disc name =
-    erase-cases disc name (λ u. u .number <ℤ pos 0 → u .disc ≡ disc) (λ r h. refl) (λ i g e h. absurd (done-not-below 0 h))
 
 abbrev Unwritten : List ℕ → Reported → Type 0
 Unwritten out u = u .number <ℤ pos 0 → u .out ≡ out

@@ -1,4 +1,4 @@
--- What store and erase leave: a good disc, every other file as it was, and the new file under its name with its data.
+-- What store leaves: a good disc, every other file as it was, and the new file under its name with its data.
 use Prim.Native.Nat.{ℕ, _≤_, _<_}
 use mathlib.Core.Path.{_≡_, refl, sym, ap, _∙_}
 use mathlib.Core.Bool.{true}
@@ -9,24 +9,23 @@ use lib.IntN.{pos}
 use lib.ListN.{length}
 use borrow.Author.Tests.{le-leb}
 use Rattle.buffer.specs.Buffer.{overwrite, part}
-use Rattle.buffer.specs.declared.Found.the-variants.{At, Nowhere}
+use Rattle.buffer.specs.declared.Found.the-variants.{At}
 use Rattle.buffer.proofs.Parts.{part-of-part}
 use Rattle.place.specs.Place.{runFrom}
 use Rattle.place.proofs.Place.{apart-sym}
-use Rattle.store.specs.Answer.{eraseAnswer, reported, retrieveAnswer, storeAnswer}
+use Rattle.store.specs.Answer.{reported, retrieveAnswer, storeAnswer}
 use Rattle.store.specs.Directory.{contents, entryAt, fileCount, goodDisc, lookup, runOf}
 use Rattle.store.specs.File.{entered, newEntry, readAt}
 use Rattle.store.specs.declared.Answer.the-variants.{Done}
 use Rattle.store.specs.declared.Entry.{Entry}
 use Rattle.store.proofs.Admissions.{Admitted}
 use Rattle.store.proofs.Checks.{is-usable}
-use Rattle.store.proofs.Calls.{erase-cases, refused-not-done, store-cases, stored}
-use Rattle.store.proofs.Changes.{Inside, entered-length, entered-new, entered-old, erased-length, written-entry, written-length}
-use Rattle.store.proofs.Contents.{entered-contents, erased-contents, written-elsewhere, written-read}
+use Rattle.store.proofs.Calls.{refused-not-done, store-cases, stored}
+use Rattle.store.proofs.Changes.{Inside, entered-length, entered-new, entered-old, written-entry, written-length}
+use Rattle.store.proofs.Contents.{entered-contents, written-elsewhere, written-read}
 use Rattle.store.proofs.Goodness.{good-entry-at}
-use Rattle.store.proofs.Invariant.{entered-good, erased-good, new-entry-beside, present, room, written-good}
-use Rattle.store.proofs.LookupChanges.{entered-found, entered-still-found, erased-missing, written-lookup}
-use Rattle.store.proofs.Lookups.{lookup-at}
+use Rattle.store.proofs.Invariant.{entered-good, new-entry-beside, room, written-good}
+use Rattle.store.proofs.LookupChanges.{entered-found, entered-still-found, written-lookup}
 
 -- ---- the disc of a store that is done
 module _ {disc name : List ℕ} {s : ℕ} (bytes : List ℕ) (good : goodDisc disc ≡ true) (a : Admitted disc name (length bytes) s) where
@@ -127,26 +126,3 @@ store-retrieve disc name bytes out k fit =
       le-leb (length bytes) (length out) fit,
       stored-data bytes g a,
     ))
-
--- ---- erase
-module _ (disc name : List ℕ) (good : goodDisc disc ≡ true) where
-  pub erase-good : goodDisc (eraseAnswer disc name .disc) ≡ true
-  erase-good = erase-cases disc name (λ u. goodDisc (u .disc) ≡ true) (λ r. good)
-      (λ i g e. erased-good disc good i (lookup-at disc name i e .inside))
-
-  pub erase-length : length (eraseAnswer disc name .disc) ≡ length disc
-  erase-length = erase-cases disc name (λ u. length (u .disc) ≡ length disc) (λ r. refl)
-      (λ i g e. erased-length (present disc good i (lookup-at disc name i e .inside)))
-
-  -- data bytes remain
-  pub erase-contents : (i : ℕ) → i < fileCount disc
-      → contents (eraseAnswer disc name .disc) (runOf (entryAt disc i)) ≡ contents disc (runOf (entryAt disc i))
-  erase-contents i h =
-      erase-cases disc name (λ u. contents (u .disc) (runOf (entryAt disc i)) ≡ contents disc (runOf (entryAt disc i))) (λ r. refl)
-      (λ j g e. erased-contents (present disc good j (lookup-at disc name j e .inside)) (runOf (entryAt disc i))
-      (good-entry-at disc good i h .low))
-
-  -- done: the name is found no more
-  pub erase-done : (k : ℕ) → eraseAnswer disc name .number ≡ pos k → lookup (eraseAnswer disc name .disc) name ≡ Nowhere
-  erase-done k = erase-cases disc name (λ u. u .number ≡ pos k → lookup (u .disc) name ≡ Nowhere) (λ r h. absurd (refused-not-done r k h))
-      (λ i g e h. erased-missing disc good i (lookup-at disc name i e .inside) name e)

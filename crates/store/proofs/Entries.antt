@@ -1,15 +1,19 @@
 -- Laws of directory entries: an entry and its sixteen bytes, and which bytes of the disc the directory rests on.
 use Prim.Native.Nat.{ℕ, _+_, _*_, _≤_}
-use mathlib.Core.Path.{_≡_, ap, _∙_, subst}
+use mathlib.Core.Path.{_≡_, sym, ap, _∙_, subst}
 use mathlib.Core.List.{List, _++_, append-assoc}
 use native.Mathlib.Omega.{arith}
-use lib.ListN.{length, getD, take, length-append}
+use lib.ListN.{length, getD, take, length-append, length-map}
 use lib.Seq.{getD-append-add, take-at}
 use Rattle.buffer.specs.Buffer.{overwrite, part, wordAt, wordBytes}
 use Rattle.buffer.proofs.Buffer.{overwrite-part, word-split}
-use Rattle.buffer.proofs.Lists.{tab-same}
+use Rattle.buffer.proofs.Lists.{tab-length, tab-same}
 use Rattle.buffer.proofs.Parts.{same-byte, same-part}
-use Rattle.store.specs.Directory.{entryAt, entryBytes, entryOf, fileCount, files}
+use Rattle.place.specs.Place.{filled}
+use Rattle.place.specs.declared.Run.{Run}
+use Rattle.place.proofs.Place.{filled-take}
+use Rattle.store.specs.Directory.{entryAt, entryBytes, entryOf, fileCount, files, runOf, taken}
+use Rattle.store.specs.Layout.{maxFiles}
 use Rattle.store.specs.declared.Entry.{Entry}
 
 -- ---- an entry and its bytes
@@ -56,3 +60,11 @@ pub same-files : (d e : List ℕ) → take 161 d ≡ take 161 e → fileCount e 
 same-files d e h k =
     rw (same-count d e h)
     (tab-same (entryAt d) (entryAt e) (fileCount e) (λ i n. same-entry d e i i (same-part d e 161 (i * 16) 16 h (omega arith))))
+
+-- ---- the runs that files take, read off the array that holds them
+pub taken-first : (disc : List ℕ) (runs : List Run) (count : ℕ) → fileCount disc ≤ maxFiles → count ≡ fileCount disc
+    → runs ≡ filled (taken disc) → take count runs ≡ taken disc
+taken-first disc runs count few c e =
+    let n : length (taken disc) ≡ fileCount disc = length-map (files disc) runOf ∙ tab-length (entryAt disc) (fileCount disc) in
+    let m : count ≡ length (taken disc) = c ∙ sym n in
+    rw (e, m) (filled-take (taken disc) (omega arith))

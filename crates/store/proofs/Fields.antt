@@ -43,7 +43,7 @@ byte-of disc at k h = getD-take 16 (drop at disc) k 0 h ∙ getD-drop at disc k 
 
 -- the entry of 16 bytes, from the parts that code reads
 pub entry-fields : (disc : List ℕ) (at : ℕ) (name : List ℕ) (start len : ℕ) → at + 16 ≤ length disc → name ≡ part disc at 12
-    → start ≡ wordAt disc (at + 12) → len ≡ wordAt disc (at + 14)
+    → start ≡ wordAt disc (at + 12) → len ≡ wordAt disc (at + 12 + 2)
     → record { name = name; start = start; len = len } ≡ entryOf (part disc at 16)
 entry-fields disc at name start len h n s l = λ t. record { name = named t; start = started t; len = counted t }
   where
@@ -54,4 +54,4 @@ entry-fields disc at name start len h n s l = λ t. record { name = named t; sta
     started = s ∙ rw (byte-of disc at 12 (omega arith), byte-of disc at 13 (omega arith), add-assoc)
 
     counted : len ≡ wordAt (part disc at 16) 14
-    counted = l ∙ rw (byte-of disc at 14 (omega arith), byte-of disc at 15 (omega arith), add-assoc)
+    counted = l ∙ rw (byte-of disc at 14 (omega arith), byte-of disc at 15 (omega arith), add-assoc, add-assoc)

@@ -1,13 +1,16 @@
 -- What the steps of the code come to: entering, erasing, a line of the listing.
 use Prim.Native.Nat.{ℕ, _+_, _*_, _-_, _≤_, _<_}
 use mathlib.Core.Path.{_≡_, sym, ap, ap₂, _∙_}
-use mathlib.Core.List.{List, _++_, append-assoc}
+use mathlib.Core.List.{List, _++_}
 use native.Mathlib.Omega.{arith}
 use borrow.Author.Tests.{le-leb, lt-leb}
-use lib.ListN.{length, set, replicate}
+use lib.ListN.{length, set, replicate, length-append}
 use Rattle.buffer.specs.Buffer.{part, overwrite}
+use Rattle.buffer.specs.Text.{appended}
+use Rattle.buffer.specs.declared.text.Text.{Text}
 use Rattle.buffer.proofs.Buffer.{overwrite-joined, overwrite-set}
 use Rattle.buffer.proofs.Parts.{part-length}
+use Rattle.buffer.proofs.Texts.{appended-joined}
 use Rattle.store.specs.Directory.{contents, entryBytes, fileCount, runOf}
 use Rattle.store.specs.Answer.{reported, retrieveFile, textAnswer}
 use Rattle.store.specs.File.{entered, erased, newEntry}
@@ -37,8 +40,13 @@ module _ (d : List ℕ) (h : 161 ≤ length d) where
         q,
       )
 
-pub line-joined : (t a b c d : List ℕ) → (((t ++ a) ++ b) ++ c) ++ d ≡ t ++ (((a ++ b) ++ c) ++ d)
-line-joined t a b c d = simp append-assoc
+-- a line that is appended piece by piece
+pub line-appended : (t : Text) (a b c d : List ℕ) → t .len + length a + length b + length c ≤ length (t .bytes)
+    → appended (appended (appended (appended t a) b) c) d ≡ appended t (((a ++ b) ++ c) ++ d)
+line-appended t a b c d h =
+    ap (λ (u : Text). appended u d) (ap (λ (u : Text). appended u c) (appended-joined t a (omega arith) b)
+    ∙ appended-joined t (a ++ b) (simp length-append (omega arith)) c)
+    ∙ appended-joined t ((a ++ b) ++ c) (simp length-append (omega arith)) d
 
 -- a text that the output has room for, and one that it has not
 pub text-done : (text out after : List ℕ) (n : ℕ) → length text ≡ n → n ≤ length out → after ≡ overwrite out 0 text

@@ -1,48 +1,76 @@
-use Prim.Native.Nat.{ℕ}
+-- `file::admit` meets its contract: its tests are those of `admission`, in their order.
 use mathlib.Core.Path.{_≡_, sym, ap, _∙_}
 use mathlib.Core.Bool.{true}
 use mathlib.Core.List.{List}
 use borrow.Author.Tests.{le-leb, lt-leb, le-ltb, lt-ltb, not-true, not-false}
 use lib.Dec.{ltb}
-use lib.ListN.{length, take}
+use lib.ListN.{length}
 use Rattle.buffer.specs.declared.Found.{Found}
 use Rattle.place.specs.Place.{place}
 use Rattle.place.specs.declared.Run.{Run}
-use Rattle.store.specs.Directory.{fileCount, taken}
+use Rattle.store.specs.Directory.{fileCount, lookup}
 use Rattle.store.specs.File.{admission, denyIfFound, goodSize, placeOf, startOr}
+use Rattle.store.specs.Layout.{dataStart, maxFiles}
 use Rattle.store.specs.Name.{goodName}
+use Rattle.store.specs.declared.Admission.{Admission}
+use Rattle.store.proofs.Entries.{taken-first}
 use native.Mathlib.Omega.{arith}
 use borrow.Author.Needs.{needs}
 use Rattle.store.proofs.file.admit.Statement.{statement}
 use Rattle.store.proofs.file.admit.Tie as tie
 
+-- the states: the start, the name found good, the size too, the files too, and the name found nowhere
+abbrev asked : tie.After-is-good-name → tie.Start
+asked c = c .before .before .before
+
+abbrev named : tie.Else3 → tie.Else1
+named c = c .before .before
+
+abbrev sized : tie.Else4 → tie.Else3
+sized c = c .before .before
+
+abbrev few : tie.After-enum-told2 → tie.Else4
+few c = c .before .before .before
+
+abbrev new : tie.After-find-place → tie.After-enum-told2
+new c = c .before .before
+
+abbrev start : tie.Else4 → tie.Start
+start c = asked (named (sized c) .before)
+
 -- what the tests on the way say
-named : (c : tie.Else1) → goodName (c .before .before .before .before .args .name .now) ≡ true
-named c = sym (c .before .is-good-name .ensures) ∙ not-false _ (c .if1 .left)
+good-name : (c : tie.Else1) → goodName (asked (c .before) .args .name .now) ≡ true
+good-name c = sym (c .before .is-good-name .ensures) ∙ not-false _ (c .if1 .left)
 
-sized : (c : tie.Else3)
-    → goodSize (c .before .before .before .before .before .before .args .disc .now)
-    (c .before .before .before .before .before .before .args .n) ≡ true
-sized c = rw (le-leb _ _ (c .before .if2 .left)) (le-leb _ _ (c .if3 .left))
+good-size : (c : tie.Else3) → let a = asked (named c .before) .args in goodSize (a .disc .now) (a .n) ≡ true
+good-size c = rw (le-leb _ _ (c .before .if2 .left)) (le-leb _ _ (c .if3 .left))
 
-few : (c : tie.Else4) → ltb (fileCount (c .before .before .before .before .before .before .before .before .args .disc .now)) 10 ≡ true
-few c = lt-ltb (fileCount (c .before .before .before .before .before .before .before .before .args .disc .now)) 10
-    (omega (arith, c .if4 .left, c .before .file-count .ensures))
+room : (c : tie.Else4) → ltb (fileCount (start c .args .disc .now)) maxFiles ≡ true
+room c = lt-ltb (fileCount (start c .args .disc .now)) maxFiles (omega (arith, c .if4 .left, c .before .file-count .ensures))
 
-placed : (c : tie.After-find-place)
-    → c .find-place .result ≡ placeOf
-    (c .before .before .before .before .before .before .before .before .before .before .before .before .before .args .disc .now)
-    (c .before .before .before .before .before .before .before .before .before .before .before .before .before .args .n)
+-- what is left of the definition behind these tests
+rest : (c : tie.Else4) → let a = start c .args in
+    admission (a .disc .now) (a .name .now) (a .n) ≡ denyIfFound (lookup (a .disc .now) (a .name .now)) (startOr (placeOf (a .disc .now) (a .n)))
+unfolding admission
+rest c = rw (good-name (named (sized c)), good-size (sized c), room c)
+
+-- and behind the lookup
+last : (c : tie.After-enum-told2) → let a = start (few c) .args in
+    admission (a .disc .now) (a .name .now) (a .n) ≡ startOr (placeOf (a .disc .now) (a .n))
+last c =
+    let a = start (few c) .args in
+    rest (few c) ∙ ap (λ (f : Found). denyIfFound f (startOr (placeOf (a .disc .now) (a .n))))
+    (sym (c .before .before .find .ensures) ∙ c .enum-told2 .given .1)
+
+placed : (c : tie.After-find-place) → let a = start (few (new c)) .args in c .find-place .result ≡ placeOf (a .disc .now) (a .n)
 unfolding placeOf
 placed c =
-    let d = c .before .before .before .before .before .before .before .before .before .before .before .before .before .args .disc .now in
-    let e : take (c .before .before .before .before .before .before .file-count .result) (c .before .taken-runs .result) ≡ taken d =
-    ap (λ (k : ℕ). take k (c .before .taken-runs .result)) (c .before .before .before .before .before .before .file-count .ensures)
-    ∙ c .before .taken-runs .ensures in
+    let s = start (few (new c)) in
+    let a = s .args in
+    let n = few (new c) .before .file-count in
     c .find-place .ensures
-    ∙ ap (λ (l : List Run).
-    place l 161 (length d)
-    (c .before .before .before .before .before .before .before .before .before .before .before .before .before .args .n)) e
+    ∙ ap (λ (l : List Run). place l dataStart (length (a .disc .now)) (a .n))
+    (taken-first (a .disc .now) _ (n .result) (s .pre .few) (n .ensures) (c .before .taken-runs .ensures))
 
 returns : tie.Need-returns
 unfolding admission
@@ -50,56 +78,40 @@ returns c = rw (sym (c .before .is-good-name .ensures) ∙ not-true _ (c .if1 .t
 
 returns-2 : tie.Need-returns-2
 unfolding admission
-returns-2 c = rw (named (c .before), lt-leb _ _ (c .if2 .taken))
+returns-2 c = rw (good-name (c .before), lt-leb _ _ (c .if2 .taken))
 
 returns-3 : tie.Need-returns-3
 unfolding admission
-returns-3 c = rw (named (c .before .before), le-leb _ _ (c .before .if2 .left), lt-leb _ _ (c .if3 .taken))
+returns-3 c = rw (good-name (c .before .before), le-leb _ _ (c .before .if2 .left), lt-leb _ _ (c .if3 .taken))
 
 returns-4 : tie.Need-returns-4
 unfolding admission
 returns-4 c =
-    let d = c .before .before .before .before .before .before .before .before .args .disc .now in
-    rw (
-      named (c .before .before .before .before),
-      sized (c .before .before),
-      le-ltb (fileCount d) 10 (omega (arith, c .if4 .taken, c .before .file-count .ensures)),
-    )
+    let s = c .before .before in
+    let d = asked (named s .before) .args .disc .now in
+    rw (good-name (named s), good-size s, le-ltb (fileCount d) maxFiles (omega (arith, c .if4 .taken, c .before .file-count .ensures)))
 
 returns-5 : tie.Need-returns-5
-unfolding admission
 returns-5 c =
     let f = c .before .before .before in
-    let a = f .before .before .before .before .before .before .before .before .args in
-    rw (named (f .before .before .before .before), sized (f .before .before), few f)
-    (ap (λ (g : Found). denyIfFound g (startOr (placeOf (a .disc .now) (a .n)))) (sym (c .enum-told .given .1)
-    ∙ c .before .before .find .ensures))
+    let a = start f .args in
+    sym (rest f ∙ ap (λ (g : Found). denyIfFound g (startOr (placeOf (a .disc .now) (a .n))))
+    (sym (c .before .before .find .ensures) ∙ c .enum-told .given .1))
 
 find-place-requires : tie.Need-find-place-requires
 find-place-requires c κs =
-    let e = c .before .before .before .before .before .file-count .ensures in
-    omega (arith, c .before .before .before .before .if4 .left)
+    let f = few (c .before) in
+    omega (arith, f .if4 .left)
 
 returns-6 : tie.Need-returns-6
-unfolding admission
 returns-6 c =
-    let f = c .before .before .before .before .before .before .before .before in
-    let a = f .before .before .before .before .before .before .before .before .args in
-    rw (named (f .before .before .before .before), sized (f .before .before), few f)
-    (ap startOr (sym (c .before .start .given .1) ∙ placed (c .before .before .before))
-    ∙ ap (λ (g : Found). denyIfFound g (startOr (placeOf (a .disc .now) (a .n))))
-    (sym (c .before .before .before .before .before .enum-told2 .given .1)
-    ∙ c .before .before .before .before .before .before .before .find .ensures))
+    let p = c .before .before .before in
+    ap startOr (sym (c .before .start .given .1) ∙ placed p) ∙ sym (last (new p))
 
 returns-7 : tie.Need-returns-7
-unfolding admission
 returns-7 c =
-    let f = c .before .before .before .before .before .before .before in
-    let a = f .before .before .before .before .before .before .before .before .args in
-    rw (named (f .before .before .before .before), sized (f .before .before), few f)
-    (ap startOr (sym (c .enum-told3 .given .1) ∙ placed (c .before .before))
-    ∙ ap (λ (g : Found). denyIfFound g (startOr (placeOf (a .disc .now) (a .n))))
-    (sym (c .before .before .before .before .enum-told2 .given .1) ∙ c .before .before .before .before .before .before .find .ensures))
+    let p = c .before .before in
+    ap startOr (sym (c .enum-told3 .given .1) ∙ placed p) ∙ sym (last (new p))
 
 pub admit-spec : {M : Type 1} → statement M
 admit-spec =

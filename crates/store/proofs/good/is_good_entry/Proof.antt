@@ -42,6 +42,7 @@ is-good-entry-spec =
     (λ c κs. search needs)
     returns
     returns-2
+    (λ c. search needs)
     returns-3
     (λ c. search needs)
     (λ c. search needs)

@@ -1,15 +1,16 @@
-use Prim.Native.Nat.{ℕ}
+-- `name::append_name` meets its contract: the bytes before the first zero are appended.
 use mathlib.Core.Path.{_≡_, sym, ap, _∙_}
-use mathlib.Core.List.{List, _++_}
 use lib.ListN.{length, take}
 use lib.Seq.{length-take-le}
-use Rattle.buffer.specs.Text.{written}
+use Rattle.buffer.specs.Text.{appended}
+use Rattle.buffer.specs.declared.text.Text.{Text}
+use Rattle.store.specs.Layout.{nameSize}
 use native.Mathlib.Omega.{arith}
 use borrow.Author.Needs.{needs}
 use Rattle.store.proofs.name.append_name.Statement.{statement}
 use Rattle.store.proofs.name.append_name.Tie as tie
 
-sizes : (s : tie.Start) → length (s .args .t2) ≡ 12
+sizes : (s : tie.Start) → length (s .args .t2) ≡ nameSize
 sizes s = search needs
 
 named : (c : tie.After-trimmed-length) → length (take (c .trimmed-length .result) (c .before .args .t2)) ≡ c .trimmed-length .result
@@ -21,9 +22,6 @@ array-share-prefix-field c =
     let z = sizes (c .before) in
     omega (arith, c .trimmed-length .ensures .0)
 
-slice-aggregate-append : tie.Need-slice-aggregate-append
-slice-aggregate-append c = sym (named (c .before))
-
 append-requires : tie.Need-append-requires
 append-requires c κs =
     let m = named (c .before) in
@@ -33,9 +31,8 @@ returns : tie.Need-returns
 returns c =
     let t = c .before .before in
     let m = named t in (
-      omega (arith, c .append .ensures .0, t .trimmed-length .ensures .0),
-      c .append .ensures .1
-          ∙ ap (λ (l : List ℕ). written (t .before .args .text) ++ l) (t .trimmed-length .ensures .1),
+      c .append .ensures ∙ ap (appended (t .before .args .text)) (t .trimmed-length .ensures .1),
+      omega (arith, ap (λ (r : Text). r .len) (c .append .ensures), t .trimmed-length .ensures .0),
     )
 
 pub append-name-spec : {M : Type 1} → statement M
@@ -44,6 +41,6 @@ append-name-spec =
     (tie.spec
     (λ c κs. search needs)
     array-share-prefix-field
-    slice-aggregate-append
+    (λ c. sym (named (c .before)))
     append-requires
     returns)

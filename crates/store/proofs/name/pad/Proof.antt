@@ -5,6 +5,7 @@ use native.Mathlib.Nat.{zero-add}
 use lib.ListN.{length}
 use Rattle.buffer.proofs.Lists.{drop-replicate}
 use borrow.Author.Needs.{needs}
+use Rattle.store.specs.Layout.{nameSize}
 use Rattle.store.proofs.name.pad.Statement.{statement}
 use Rattle.store.proofs.name.pad.Tie as tie
 

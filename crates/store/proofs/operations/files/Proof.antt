@@ -1,82 +1,94 @@
+-- `operations::files` meets its contract: behind the tests of the disc, the lines of all files, if the output has room.
+use Prim.Native.Nat.{ℕ}
 use mathlib.Core.Path.{_≡_, sym, ap, _∙_}
 use mathlib.Core.List.{List}
-use Prim.Native.Nat.{ℕ}
 use lib.ListN.{length}
-use Rattle.store.specs.declared.Checked.the-variants.{Usable}
-use Rattle.store.proofs.Checks.{Fit, usable}
-use lib.Seq.{length-take-le}
 use Rattle.buffer.specs.Buffer.{overwrite}
 use Rattle.buffer.specs.Lists.{flat}
-use Rattle.buffer.specs.Text.{written}
+use Rattle.buffer.specs.Text.{textSize, written}
+use Rattle.buffer.specs.declared.text.Text.{Text}
+use Rattle.buffer.proofs.Texts.{only-written}
 use Rattle.store.specs.Answer.{checked, fileLine, filesAnswer}
 use Rattle.store.specs.Directory.{files}
+use Rattle.store.specs.declared.Checked.the-variants.{Usable}
+use Rattle.store.proofs.Checks.{Fit, usable}
 use Rattle.store.proofs.Steps.{text-done, text-short}
 use native.Mathlib.Omega.{arith}
 use borrow.Author.Needs.{needs}
 use Rattle.store.proofs.operations.files.Statement.{statement}
 use Rattle.store.proofs.operations.files.Tie as tie
 
+-- the states: the start, the disc tested, found usable, the text put together, and found short enough
+abbrev start : tie.After-check → tie.Start
+start c = c .before .before .before
+
+abbrev tested : tie.After-enum-told → tie.After-check
+tested c = c .before .before
+
+abbrev whole : tie.After-overwrite-at-arg → tie.After-files-text
+whole c = c .before .before .before
+
+abbrev lent : tie.After-slice-known2 → tie.After-bytes2
+lent c = c .before .before .before
+
+-- the disc, the output, and the lines of all files
+abbrev disc : tie.After-enum-told → List ℕ
+disc c = start (tested c) .args .disc .now
+
+abbrev out : tie.After-enum-told → List ℕ
+out c = start (tested c) .args .out .now
+
+abbrev lines : tie.After-enum-told → List ℕ
+lines c = flat fileLine (files (disc c))
+
 -- the disc has passed the tests
-passed : (c : tie.After-enum-told) → checked (c .before .before .before .before .before .args .disc .now) ≡ Usable
-passed c = sym (c .before .before .check .ensures) ∙ c .enum-told .given .1
+passed : (c : tie.After-enum-told) → checked (disc c) ≡ Usable
+passed c = sym (tested c .check .ensures) ∙ c .enum-told .given .1
 
-fit : (c : tie.After-enum-told) → Fit (c .before .before .before .before .before .args .disc .now)
-fit c = usable (c .before .before .before .before .before .args .disc .now) (passed c)
+fit : (c : tie.After-enum-told) → Fit (disc c)
+fit c = usable (disc c) (passed c)
 
-sizes : (c : tie.After-files-text) → length (c .files-text .result .bytes) ≡ 256
+sizes : (c : tie.After-files-text) → length (c .files-text .result .bytes) ≡ textSize
 sizes c = search needs
 
--- the text put together has the length noted
-text-length : (c : tie.After-files-text) → length (written (c .files-text .result)) ≡ c .files-text .result .len
-text-length c = let z = sizes c in
-    length-take-le (c .files-text .result .len) (c .files-text .result .bytes) (omega (arith, c .files-text .ensures .0))
+-- the text put together is that of all lines
+len-is : (c : tie.After-files-text) → length (lines (c .before)) ≡ c .files-text .result .len
+len-is c = omega (arith, ap (λ (t : Text). t .len) (c .files-text .ensures .0))
 
-listed-length : (c : tie.After-files-text)
-    → length (flat fileLine (files (c .before .before .before .before .before .before .args .disc .now))) ≡ c .files-text .result .len
-listed-length c = ap length (sym (c .files-text .ensures .1)) ∙ text-length c
+text-is : (c : tie.After-files-text) → written (c .files-text .result) ≡ lines (c .before)
+text-is c = only-written _ (lines (c .before)) (c .files-text .ensures .0) (omega (arith, len-is c, c .files-text .ensures .1))
 
 returns : tie.Need-returns
 unfolding filesAnswer
 returns c = rw (sym (c .before .before .before .check .ensures) ∙ c .before .refusal .given .1)
 
-files-text-requires : tie.Need-files-text-requires
-files-text-requires c κs = fit c .ready
-
 returns-2 : tie.Need-returns-2
 unfolding filesAnswer
 returns-2 c =
     let t = c .before in
-    let a = t .before .before .before .before .before .before .args in
-    rw (passed (t .before))
-    (text-short (flat fileLine (files (a .disc .now))) (a .out .now) (t .files-text .result .len) (listed-length t) (c .if1 .taken))
+    rw (passed (t .before)) (text-short (lines (t .before)) (out (t .before)) (t .files-text .result .len) (len-is t) (c .if1 .taken))
 
 array-share-prefix-bytes : tie.Need-array-share-prefix-bytes
 array-share-prefix-bytes c =
-    let t = c .before .before .before in
-    let z = sizes t in
-    omega (arith, t .files-text .ensures .0)
+    let z = sizes (whole c) in
+    omega (arith, whole c .files-text .ensures .1)
 
 slice-aggregate-overwrite-at : tie.Need-slice-aggregate-overwrite-at
-slice-aggregate-overwrite-at c = sym (text-length (c .before .before .before .before))
+slice-aggregate-overwrite-at c = let t = whole (c .before) in sym (ap length (text-is t) ∙ len-is t)
 
 overwrite-at-requires : tie.Need-overwrite-at-requires
 overwrite-at-requires c κs =
-    let t = c .before .before .before .before in
-    let e = text-length t in
-    omega arith
-
-cast-t16 : tie.Need-cast-t16
-cast-t16 c = omega (arith, c .before .before .before .before .before .before .before .files-text .ensures .0)
+    let t = whole (c .before) in
+    omega (arith, ap length (text-is t), len-is t)
 
 returns-3 : tie.Need-returns-3
 unfolding filesAnswer
 returns-3 c =
-    let t = c .before .before .before .before .before .before .before in
-    let a = t .before .before .before .before .before .before .args in
-    rw (passed (t .before))
-    (text-done (flat fileLine (files (a .disc .now))) (a .out .now) _ (t .files-text .result .len) (listed-length t)
-    (c .before .before .before .before .before .before .if1 .left) (c .before .before .overwrite-at .ensures
-    ∙ ap (λ (l : List ℕ). overwrite (a .out .now) 0 l) (t .files-text .ensures .1)))
+    let t = whole (lent c .before) in
+    let e = t .before in
+    rw (passed e)
+    (text-done (lines e) (out e) _ (t .files-text .result .len) (len-is t) (lent c .before .before .before .if1 .left)
+    (c .before .before .overwrite-at .ensures ∙ ap (λ (l : List ℕ). overwrite (out e) 0 l) (text-is t)))
 
 pub files-spec : {M : Type 1} → statement M
 files-spec =
@@ -86,11 +98,11 @@ files-spec =
     (λ c. search needs)
     returns
     (λ c. search needs)
-    files-text-requires
+    (λ c κs. fit c .ready)
     returns-2
     array-share-prefix-bytes
     slice-aggregate-overwrite-at
     overwrite-at-requires
-    cast-t16
+    (λ c. omega (arith, whole (lent c .before) .files-text .ensures .1))
     (λ c. search needs)
     returns-3)

@@ -1,63 +1,68 @@
+-- `operations::free_space` meets its contract: behind the tests of the disc, the longest run among those taken.
+use Prim.Native.Nat.{ℕ}
 use mathlib.Core.Path.{_≡_, sym, ap, _∙_}
 use mathlib.Core.List.{List}
-use Prim.Native.Nat.{ℕ}
-use lib.ListN.{length}
-use Rattle.store.specs.declared.Checked.the-variants.{Usable}
-use Rattle.store.proofs.Checks.{Fit, usable}
 use lib.IntN.{pos}
-use lib.ListN.{take}
+use lib.ListN.{length}
 use Rattle.place.specs.Place.{longest}
 use Rattle.place.specs.declared.Run.{Run}
 use Rattle.place.proofs.Place.{longest-bound}
 use Rattle.store.specs.Answer.{checked, freeSpaceAnswer}
 use Rattle.store.specs.Directory.{taken}
+use Rattle.store.specs.Layout.{dataStart}
+use Rattle.store.specs.declared.Checked.the-variants.{Usable}
+use Rattle.store.proofs.Checks.{Fit, usable}
+use Rattle.store.proofs.Entries.{taken-first}
 use native.Mathlib.Omega.{arith}
 use borrow.Author.Needs.{needs}
 use Rattle.store.proofs.operations.free_space.Statement.{statement}
 use Rattle.store.proofs.operations.free_space.Tie as tie
 
--- the disc has passed the tests
-passed : (c : tie.After-enum-told) → checked (c .before .before .before .before .args .disc .now) ≡ Usable
-passed c = sym (c .before .before .check .ensures) ∙ c .enum-told .given .1
+-- the states: the start, and the disc found usable
+abbrev start : tie.After-check → tie.Start
+start c = c .before .before
 
-fit : (c : tie.After-enum-told) → Fit (c .before .before .before .before .args .disc .now)
-fit c = usable (c .before .before .before .before .args .disc .now) (passed c)
+abbrev tested : tie.After-enum-told → tie.After-check
+tested c = c .before .before
+
+abbrev fine : tie.After-longest-run → tie.After-enum-told
+fine c = c .before .before .before
+
+abbrev disc : tie.After-enum-told → List ℕ
+disc c = start (tested c) .args .disc .now
+
+passed : (c : tie.After-enum-told) → checked (disc c) ≡ Usable
+passed c = sym (tested c .check .ensures) ∙ c .enum-told .given .1
+
+fit : (c : tie.After-enum-told) → Fit (disc c)
+fit c = usable (disc c) (passed c)
+
+-- the length found is the longest run that the definition has
+found : (c : tie.After-longest-run) → let d = disc (fine c) in c .longest-run .result ≡ longest (taken d) dataStart (length d)
+found c =
+    let d = disc (fine c) in
+    let n = c .before .before .file-count in
+    c .longest-run .ensures
+    ∙ ap (λ (l : List Run). longest l dataStart (length d))
+    (taken-first d _ (n .result) (fit (fine c) .ready .few) (n .ensures) (c .before .taken-runs .ensures))
 
 returns : tie.Need-returns
 unfolding freeSpaceAnswer
 returns c = rw (sym (c .before .before .before .check .ensures) ∙ c .before .refusal .given .1)
-
-file-count-requires : tie.Need-file-count-requires
-file-count-requires c κs = fit c .ready .low
-
-taken-runs-requires : tie.Need-taken-runs-requires
-taken-runs-requires c κs = fit (c .before) .ready
 
 longest-run-requires : tie.Need-longest-run-requires
 longest-run-requires c κs =
     let r = fit (c .before .before) .ready in
     omega (arith, r .low, r .high, r .few, c .before .file-count .ensures)
 
--- the length found is the longest run that the definition has
-found : (c : tie.After-longest-run)
-    → c .longest-run .result ≡ longest (taken (c .before .before .before .before .before .before .before .args .disc .now)) 161
-    (length (c .before .before .before .before .before .before .before .args .disc .now))
-found c =
-    let d = c .before .before .before .before .before .before .before .args .disc .now in
-    let e : take (c .before .before .file-count .result) (c .before .taken-runs .result) ≡ taken d =
-    ap (λ (n : ℕ). take n (c .before .taken-runs .result)) (c .before .before .file-count .ensures) ∙ c .before .taken-runs .ensures in
-    c .longest-run .ensures ∙ ap (λ (l : List Run). longest l 161 (length d)) e
-
 cast-t8 : tie.Need-cast-t8
 cast-t8 c =
-    let d = c .before .before .before .before .before .before .before .args .disc .now in
-    let r = fit (c .before .before .before) .ready in
-    let m = longest-bound (taken d) 161 (length d) in
-    omega (arith, found c, m, r .high)
+    let d = disc (fine c) in
+    omega (arith, found c, longest-bound (taken d) dataStart (length d), fit (fine c) .ready .high)
 
 returns-2 : tie.Need-returns-2
 unfolding freeSpaceAnswer
-returns-2 c = rw (passed (c .before .before .before)) (ap pos (found c))
+returns-2 c = rw (passed (fine c)) (ap pos (found c))
 
 pub free-space-spec : {M : Type 1} → statement M
 free-space-spec =
@@ -67,8 +72,8 @@ free-space-spec =
     (λ c. search needs)
     returns
     (λ c. search needs)
-    file-count-requires
-    taken-runs-requires
+    (λ c κs. fit c .ready .low)
+    (λ c κs. fit (c .before) .ready)
     longest-run-requires
     cast-t8
     returns-2)

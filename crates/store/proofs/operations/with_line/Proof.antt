@@ -1,28 +1,65 @@
+-- `operations::with_line` meets its contract: name, space, number and newline are appended one by one.
 use Prim.Native.Nat.{ℕ}
-use mathlib.Core.Path.{ap, _∙_}
-use mathlib.Core.List.{List, [], _∷_, _++_}
-use Rattle.buffer.specs.Text.{written}
+use mathlib.Core.Path.{_≡_, ap, _∙_}
+use mathlib.Core.List.{List, [], _∷_}
+use lib.ListN.{length}
+use Rattle.buffer.specs.Text.{appended, textSize}
+use Rattle.buffer.specs.declared.text.Text.{Text}
 use Rattle.decimal.specs.Decimal.{decimal}
 use Rattle.store.specs.Answer.{fileLine}
 use Rattle.store.specs.Name.{trimmed}
-use Rattle.store.proofs.Steps.{line-joined}
+use Rattle.store.proofs.Steps.{line-appended}
 use native.Mathlib.Omega.{arith}
 use borrow.Author.Needs.{needs}
 use Rattle.store.proofs.operations.with_line.Statement.{statement}
 use Rattle.store.proofs.operations.with_line.Tie as tie
 
+-- the states: the start, and the text with the name, the space and the number
+abbrev start : tie.After-append-name → tie.Start
+start c = c .before .before
+
+abbrev named : tie.After-append → tie.After-append-name
+named c = c .before .before
+
+abbrev spaced : tie.After-append-decimal → tie.After-append
+spaced c = c .before .before
+
+abbrev counted : tie.After-append2 → tie.After-append-decimal
+counted c = c .before .before
+
+sizes : (s : tie.Start) → length (s .args .text .bytes) ≡ textSize
+sizes s = search needs
+
+abbrev len : Text → ℕ
+len t = t .len
+
+append-decimal-requires : tie.Need-append-decimal-requires
+append-decimal-requires c κs = omega (arith, ap len (c .before .append .ensures), named (c .before) .append-name .ensures .1)
+
+append-requires : tie.Need-append-requires-2
+append-requires c κs =
+    let d = c .before in
+    let s = spaced d in
+    omega (arith, d .append-decimal .ensures .1, ap len (s .append .ensures), named s .append-name .ensures .1)
+
 returns : tie.Need-returns
 unfolding fileLine
 returns c =
-    let a = c .before .before .before .before .before .before .before .before .args in
-    let n = c .before .before .before .before .before .before .append-name .ensures in
-    let s = c .before .before .before .before .append .ensures in
-    let d = c .before .before .append-decimal .ensures in (
-      omega (arith, c .append2 .ensures .0, d .0, s .0, n .0),
-      c .append2 .ensures .1
-          ∙ ap (λ (l : List ℕ). l ++ (10 ∷ [])) (d .1
-          ∙ ap (λ (l : List ℕ). l ++ decimal (a .entry .len)) (s .1 ∙ ap (λ (l : List ℕ). l ++ (32 ∷ [])) (n .1)))
-          ∙ line-joined (written (a .text)) (trimmed (a .entry .name)) (32 ∷ []) (decimal (a .entry .len)) (10 ∷ []),
+    let d = counted c in
+    let s = spaced d in
+    let n = named s in
+    let a = start n .args in
+    let z = sizes (start n) in
+    let e = ap len (c .append2 .ensures) in
+    let f = ap len (d .append-decimal .ensures .0) in
+    let g = ap len (s .append .ensures) in
+    let h = ap len (n .append-name .ensures .0) in (
+      c .append2 .ensures
+          ∙ ap (λ (t : Text). appended t (10 ∷ [])) (d .append-decimal .ensures .0
+          ∙ ap (λ (t : Text). appended t (decimal (a .entry .len))) (s .append .ensures
+          ∙ ap (λ (t : Text). appended t (32 ∷ [])) (n .append-name .ensures .0)))
+          ∙ line-appended (a .text) (trimmed (a .entry .name)) (32 ∷ []) (decimal (a .entry .len)) (10 ∷ []) (omega arith),
+      omega (arith, d .append-decimal .ensures .1, n .append-name .ensures .1),
     )
 
 pub with-line-spec : {M : Type 1} → statement M
@@ -33,7 +70,7 @@ with-line-spec =
     (λ c. search needs)
     (λ c κs. search needs)
     (λ c. search needs)
-    (λ c κs. search needs)
+    append-decimal-requires
     (λ c. search needs)
-    (λ c κs. search needs)
+    append-requires
     returns)
