@@ -2,20 +2,20 @@
 use mathlib.Core.Path.{_≡_, sym, _∙_, ap, ap₂}
 use mathlib.Core.Bool.{Bool, true, false}
 use mathlib.Core.List.{List, [], _∷_, _++_, append-assoc, append-nil}
-use Prim.Native.Nat.{ℕ, zero, suc, _+_, _-_, _/_, _≤_}
+use Prim.Native.Nat.{ℕ, suc, _+_, _/_, _≤_}
 use native.Mathlib.Omega.{arith}
 use native.Mathlib.Nat.{add-assoc}
 use borrow.Author.Tests.{le-ltb}
-use lib.Dec.{leb}
 use lib.IntN.{ℤ, pos, negsuc, natAbs}
-use lib.ListN.{length, take, drop, length-append, length-drop}
-use lib.Seq.{take-all, take-append-seam, drop-append-add, drop-drop}
+use lib.ListN.{length, drop, length-append}
+use lib.Seq.{take-append-seam, drop-append-add, drop-drop}
 use lib.Signed.{ltZ}
 use mir.Syntax.{Width}
 use mir.Val.{toZ, ofZ, SFits}
 use mir.Facts.{toZ-ofZ}
 use Rattle.buffer.specs.Buffer.{overwrite}
-use Rattle.decimal.specs.Decimal.{decimal, ifMore, lastDigits}
+use Rattle.decimal.specs.Decimal.{decimal, maxDigits}
+use Rattle.decimal.proofs.Laws.{digits-few}
 use Rattle.float.specs.Print.{printedOf}
 use Rattle.float.specs.declared.print.Printed.{Printed}
 use Rattle.float.specs.declared.print.Printed.the-variants.{NotANumber, Infinite, Overflow, Hundredths}
@@ -57,23 +57,8 @@ module _ (h b t : List ℕ) {x y z : List ℕ} (ex : x ≡ overwrite zeros 0 h) 
   unfolding padded
   laid-out = ap₂ (λ (l : List ℕ) (n : ℕ). record { bytes = l; len = n }) three total
 
--- the digits of a number
-last-digits-length : (f n : ℕ) → length (lastDigits f n) ≤ f
-unfolding lastDigits
-last-digits-length zero n = omega arith
-last-digits-length (suc f) n = simp length-append (by (leb 10 n) (last-digits-length f (n / 10)))
-  where
-    by : (t : Bool) → length (lastDigits f (n / 10)) ≤ f → length (ifMore t (lastDigits f (n / 10))) + 1 ≤ suc f
-    by true h = omega arith
-    by false h = omega arith
-
-pub decimal-short : (n : ℕ) → length (decimal n) ≤ 10
-decimal-short n = last-digits-length 10 n
-
--- the digits in ten bytes from start on, lent as a part
-pub digits-lent : (bytes : List ℕ) (start n : ℕ) → length bytes ≡ 10 → drop start bytes ≡ decimal n
-    → take (10 - start) (drop start bytes) ≡ decimal n
-digits-lent bytes start n l e = take-all (10 - start) (drop start bytes) (simp length-drop (omega arith)) ∙ e
+pub decimal-short : (n : ℕ) → length (decimal n) ≤ maxDigits
+decimal-short n = digits-few maxDigits n
 
 -- the text of a whole number from its sign and its size
 whole-text : (x : ℤ) → sign (ltZ x (pos 0)) ++ (decimal (natAbs x) ++ []) ≡ wholeText x

@@ -1,23 +1,25 @@
 -- SET: where a value goes, and what becomes of table and memory.
-use Prim.Native.Nat.{ℕ, _+_, _≤_, _<_}
+use Prim.Native.Nat.{ℕ, _+_, _-_, _≤_, _<_}
 use mathlib.Core.Path.{_≡_, refl, sym, ap, subst, _∙_}
 use mathlib.Core.Bool.{Bool, true, false, not}
 use mathlib.Core.List.{List, [], _∷_, _++_}
 use mathlib.Core.Logic.{_⊎_}
 use native.Mathlib.Omega.{arith}
 use lib.Dec.{ltb}
-use lib.ListN.{length, getD}
+use lib.ListN.{length, getD, replicate, take, length-map}
+use lib.Seq.{length-take-le, take-at}
 use borrow.Author.Tests.{ltb-true, ltb-false}
 use Rattle.buffer.specs.Buffer.{part}
 use Rattle.buffer.specs.declared.Found.{Found}
 use Rattle.buffer.specs.declared.Found.the-variants.{At, Nowhere}
 use Rattle.buffer.proofs.Kept.{keep-all}
-use Rattle.place.specs.Place.{fits, place}
+use Rattle.place.specs.Place.{filled, fits, maxRuns, noRun, place}
 use Rattle.place.specs.declared.Run.{Run}
 use Rattle.place.proofs.Place.{Fits, no-place-none-fits, place-fits}
 use Rattle.variable.specs.Assign.{added, addressOr, assignAt, assigned, entryLimit, highEnd, ifEntry, lowEnd, newCell, newVariable}
 use Rattle.variable.specs.Assign.{placeFor, placing, placingFault, takenRuns, valueBytes, withCell}
-use Rattle.variable.specs.Table.{Cell, Shaped, counted, find, freed, isOf, noVariable, owned}
+use Rattle.variable.specs.Limits.{maxVariables}
+use Rattle.variable.specs.Table.{Cell, Shaped, counted, find, freed, isOf, noVariable, owned, runOf}
 use Rattle.variable.specs.declared.Placing.{Placing}
 use Rattle.variable.specs.declared.Placing.the-variants.{Address, NoEntry, NoRun}
 use Rattle.variable.specs.declared.Value.{Value}
@@ -26,6 +28,13 @@ use Rattle.variable.specs.declared.Variables.{Variables}
 use Rattle.variable.proofs.Adding.{added-bytes, added-outside, added-shaped, entry-added, find-added, owned-added-other}
 use Rattle.variable.proofs.Adding.{owned-added-own}
 use Rattle.variable.proofs.Freeing.{freed-counted, freed-memory, freed-shaped, owned-freed-name, owned-freed-other}
+
+-- ---- the runs in an array: the first of them are all that are taken
+pub taken-runs-first : (v : Variables) → v .count ≤ maxVariables → length (v .entries) ≡ maxVariables
+    → take (v .count) (filled (takenRuns v)) ≡ takenRuns v
+taken-runs-first v few size =
+    take-at (takenRuns v) (replicate (maxRuns - length (takenRuns v)) noRun) (v .count)
+    (length-map (counted v) runOf ∙ length-take-le (v .count) (v .entries) (omega arith))
 
 -- ---- placing
 module _ (runs : List Run) (low high used limit n : ℕ) where

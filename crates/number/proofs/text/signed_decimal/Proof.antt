@@ -5,8 +5,9 @@ use Prim.Native.Nat.{ℕ}
 use native.Mathlib.Omega.{arith}
 use borrow.Author.Needs.{needs}
 use lib.ListN.{length}
+use Rattle.decimal.specs.Decimal.{maxDigits}
+use Rattle.decimal.proofs.Laws.{digits-part}
 use Rattle.number.specs.Text.{sign, laid}
-use Rattle.number.proofs.Texts.{digits-lent}
 use Rattle.number.proofs.text.signed_decimal.Statement.{statement}
 use Rattle.number.proofs.text.signed_decimal.Tie as tie
 
@@ -17,11 +18,10 @@ signed-decimal-spec =
     (λ c κs. search needs)
     (λ c. search needs)
     (λ c. search needs)
-    (λ c. let ten : length (c .before .before .digits-of .result .bytes) ≡ 10 = search needs in omega arith)
+    (λ c. let ten : length (c .before .before .digits-of .result .bytes) ≡ maxDigits = search needs in omega arith)
     (λ c κs. search needs)
     (λ c.
     let d = c .before .before .before .before .digits-of in
     let a = c .before .before .before .before .before .before .args in
     c .signed .ensures ∙ ap (λ (l : List ℕ). laid (sign (a .negative) ++ (l ++ a .tail .now)))
-    (digits-lent (d .result .bytes) (d .result .start) (a .n)
-    (search needs) (d .ensures .1))))
+    (digits-part (a .n) (d .result) (d .ensures .0))))

@@ -1,10 +1,14 @@
 -- The loop: the first i runs are those of the first i entries.
-use Prim.Native.Nat.{_≤_, _-_}
-use mathlib.Core.Path.{_≡_, refl, sym, ap, _∙_}
+use Prim.Native.Nat.{ℕ, _≤_, _-_}
+use mathlib.Core.Path.{_≡_, sym, ap, _∙_}
 use mathlib.Core.List.{List, map}
-use lib.ListN.{length, getD, take, length-set}
+use lib.ListN.{length, getD, set}
 use Rattle.buffer.specs.Lists.{tab}
-use Rattle.buffer.proofs.Lists.{map-tab, tab-next}
+use Rattle.buffer.proofs.Lists.{map-tab}
+use Rattle.place.specs.Place.{filled}
+use Rattle.place.specs.declared.Run.{Run}
+use Rattle.place.proofs.Place.{filled-next}
+use Rattle.variable.specs.Limits.{maxVariables}
 use Rattle.variable.specs.Table.{noVariable, runOf}
 use Rattle.variable.specs.declared.Variable.{Variable}
 use Rattle.variable.proofs.Views.{take-tab}
@@ -13,30 +17,29 @@ use borrow.Author.Needs.{needs}
 use Rattle.variable.proofs.assign.taken_runs.Statement.{statement}
 use Rattle.variable.proofs.assign.taken_runs.Tie as tie
 
+-- the run of the entry at k
+abbrev runAt : List Variable → ℕ → Run
+runAt entries k = runOf (getD entries k noVariable)
+
 abbrev Inv-loop : tie.InvT-loop
-Inv-loop count entries runs₀ i₀ runs i = (i ≤ count) × (length runs ≡ 36) × (take i runs ≡ tab (λ k. runOf (getD entries k noVariable)) i)
+Inv-loop count entries runs₀ i₀ runs i = (i ≤ count) × (runs ≡ filled (tab (runAt entries) i))
 
 abbrev μ-loop : tie.MeasureT-loop
 μ-loop count entries runs₀ i₀ runs i = count - i
 
-sizes : (s : tie.Start Inv-loop μ-loop) → length (s .args .t1) ≡ 25
+sizes : (s : tie.Start Inv-loop μ-loop) → length (s .args .t1) ≡ maxVariables
 sizes s = search needs
-
-room : (c : tie.After-no-runs Inv-loop μ-loop) → length (c .no-runs .result) ≡ 36
-room c = search needs
 
 loop-holds : tie.Need-loop-holds Inv-loop μ-loop
 unfolding tab
-loop-holds c = (omega arith, room c, refl)
+loop-holds c = (omega arith, c .no-runs .ensures)
 
 loop-again : tie.Need-loop-again Inv-loop μ-loop
 loop-again c =
     let l = c .before .before .before in
     let a = l .before .before .args in (
       omega arith,
-      simp length-set (l .loop .inv .1),
-      tab-next (λ k. runOf (getD (a .t1) k noVariable)) (l .loop .runs) (l .loop .i) (c .run-of .result) (omega arith) (l .loop .inv .2)
-          (c .run-of .ensures),
+      rw (l .loop .inv .1, c .run-of .ensures) (filled-next (runAt (a .t1)) (l .loop .i) (omega arith)),
     )
 
 returns : tie.Need-returns Inv-loop μ-loop
@@ -46,8 +49,9 @@ returns c =
     let a = s .args in
     let n = sizes s in
     let q : l .loop .i ≡ a .count = omega arith in
-    rw (← q) (l .loop .inv .2 ∙ sym (map-tab runOf (λ k. getD (a .t1) k noVariable) (l .loop .i))
-    ∙ ap (λ (r : List Variable). map runOf r) (sym (take-tab (a .t1) noVariable (l .loop .i) (omega arith))))
+    rw (← q) (l .loop .inv .1
+    ∙ ap filled (sym (map-tab runOf (λ k. getD (a .t1) k noVariable) (l .loop .i))
+    ∙ ap (λ (r : List Variable). map runOf r) (sym (take-tab (a .t1) noVariable (l .loop .i) (omega arith)))))
 
 pub taken-runs-spec : {M : Type 1} → statement M
 taken-runs-spec =
