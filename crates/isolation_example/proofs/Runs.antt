@@ -18,7 +18,7 @@ use Rattle.integer.specs.Modular.{wrapped}
 use Rattle.number.specs.Arithmetic.{whole}
 use Rattle.number.specs.Binary.{binary, wholeBits}
 use Rattle.number.specs.Conversion.{convertedFloat}
-use Rattle.number.specs.Instruction.{lookup as lookupOperator, operatorOf, takenBy}
+use Rattle.number.specs.Instruction.{lookup as lookupOperator, operatorOf, includes}
 use Rattle.number.specs.Text.{textOf}
 use Rattle.number.specs.Unary.{unary}
 use Rattle.number.specs.Value.{numberOf}
@@ -27,10 +27,10 @@ use Rattle.store.specs.Answer.{checked, storeAnswer}
 use Rattle.store.specs.Directory.{beside as besideEntry, entryAt, goodDisc, goodEntry, goodFiles, lookup}
 use Rattle.store.specs.File.{admission, entered, erased, placeOf, readAt, writtenAt}
 use Rattle.store.specs.Name.{goodField, goodName, trimmed}
-use Rattle.variable.specs.Assign.{added, assigned, placeFor, placing}
+use Rattle.variable.specs.Assign.{assignedCells, added, assigned, placeFor, placing}
 use Rattle.variable.specs.Good.{beside as besideVariable, goodSize, goodVariable, goodVariables}
 use Rattle.variable.specs.Table.{freed, owned}
-use Rattle.machine.specs.Answer.{answer, files, goodArea}
+use Rattle.machine.specs.Answer.{answer, files, goodArea, otherAnswer}
 use Rattle.machine.specs.Area.{kernelBytes, kernelOf, variablesOf}
 use Rattle.machine.specs.Beyond.{answered}
 use Rattle.machine.specs.Effect.{operates, settle}
@@ -78,11 +78,11 @@ started i n calls rest c =
 
 runs : Computed 1 1 alone restAlone × Computed 5 12 beside restBeside × (length (watch 1 restAlone) ≡ 11)
     × (getD (observations (notRefused (watch 1 restAlone))) 7 (declined (pos 0)) ≡ printed)
-unfolding none restAlone restBeside placeIn givesOut lacksSpace turnDisturbs writeLands events turnEvents watch answer storeAnswer checked
+unfolding none restAlone restBeside placeIn givesOut lacksSpace turnDisturbs writeLands events turnEvents watch answer otherAnswer storeAnswer checked
     lookup index entryAt tab goodDisc goodFiles goodEntry goodField goodName besideEntry all pairs apart fits lowest place placeOf admission
     entered erased writtenAt readAt goodArea goodKernel goodHeader goodProcess goodLive goodRegisters goodFile isProgram otherId
     goodVariables goodVariable goodSize besideVariable kernelOf kernelBytes variablesOf flat inUse any keep ended turned carriedOut answered
-    owned freed assigned placeFor placing added exec performs find instructionOf operatorOf lookupOperator takenBy operates settle pop
+    owned freed assigned placeFor placing added assignedCells exec performs find instructionOf operatorOf lookupOperator includes operates settle pop
     popNumber popString wellFormed trimmed same unary binary whole wrapped wholeBits convertedFloat numberOf textOf printedOf wholeOf
     lastDigits ofBits ofFields trailingZeros commanded turnIfRunning turnsOf single starting endedSlot slotOf
 runs = (

@@ -10,7 +10,7 @@ use Rattle.integer.specs.Modular.{wrapped}
 use Rattle.number.specs.Arithmetic.{whole}
 use Rattle.number.specs.Binary.{binary, wholeBits}
 use Rattle.number.specs.Conversion.{convertedFloat}
-use Rattle.number.specs.Instruction.{lookup as lookupOperator, operatorOf, takenBy}
+use Rattle.number.specs.Instruction.{lookup as lookupOperator, operatorOf, includes}
 use Rattle.number.specs.Text.{textOf}
 use Rattle.number.specs.Unary.{unary}
 use Rattle.number.specs.Value.{numberOf}
@@ -19,10 +19,10 @@ use Rattle.store.specs.Answer.{checked, storeAnswer}
 use Rattle.store.specs.Directory.{beside, entryAt, goodDisc, goodEntry, goodFiles, lookup}
 use Rattle.store.specs.File.{admission, entered, erased, placeOf, writtenAt}
 use Rattle.store.specs.Name.{goodField, goodName, trimmed}
-use Rattle.variable.specs.Assign.{added, assigned, placeFor, placing}
+use Rattle.variable.specs.Assign.{assignedCells, added, assigned, placeFor, placing}
 use Rattle.variable.specs.Good.{goodVariables}
 use Rattle.variable.specs.Table.{freed, owned}
-use Rattle.machine.specs.Answer.{answer, formatAnswer, goodArea}
+use Rattle.machine.specs.Answer.{answer, formatAnswer, goodArea, otherAnswer}
 use Rattle.machine.specs.Area.{kernelOf}
 use Rattle.machine.specs.Bench.{Every, after, turns}
 use Rattle.machine.specs.Cases.{Bench, Misreadings, cases, misreadings}
@@ -37,11 +37,11 @@ use Rattle.machine.specs.State.{ended}
 use Rattle.machine.specs.Turn.{turned}
 
 rows-hold : Every cases × Every misreadings
-unfolding turns after single exec instructionOf operatorOf lookupOperator takenBy operates settle pop wellFormed trimmed same unary binary
-    whole wrapped wholeBits convertedFloat numberOf textOf printedOf wholeOf lastDigits ofBits ofFields trailingZeros answer formatAnswer
+unfolding turns after single exec instructionOf operatorOf lookupOperator includes operates settle pop wellFormed trimmed same unary binary
+    whole wrapped wholeBits convertedFloat numberOf textOf printedOf wholeOf lastDigits ofBits ofFields trailingZeros answer otherAnswer formatAnswer
     storeAnswer checked lookup index entryAt tab flat goodDisc goodFiles goodEntry goodField goodName beside all pairs apart fits lowest
     place placeOf admission entered erased writtenAt goodArea goodKernel goodHeader goodProcess otherId goodVariables kernelOf inUse any
-    keep ended turned owned freed assigned placeFor placing added
+    keep ended turned owned freed assigned placeFor placing added assignedCells
 rows-hold = (
   (
     (refl, refl),

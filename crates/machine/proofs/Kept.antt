@@ -11,4 +11,5 @@ pub mod OwnKept
 pub mod OwnSpared
 pub mod OwnEnd
 pub mod WritesKept
+pub mod LengthKept
 pub mod ChangeKept

@@ -1,4 +1,5 @@
 -- Every operation is a change.
+pub mod Tests
 pub mod Carrying
 pub mod FileAnswers
 pub mod Answering

@@ -68,11 +68,11 @@ setLacks i slot clock s =
 -- Document 01: "A write lands when another process with that program file open does a WRITE without fault", so it is
 -- still live
 unfoldable pub writeLands : ℕ → ℕ → Event → Bool
-writeLands own other e =
+writeLands own writer e =
     let p = processIn (e .before) own in
-    let q = processIn (e .before) other in
-    eqb (executedBy (e .before) other) 55
-    && (isLive (processIn (e .after) other)
+    let q = processIn (e .before) writer in
+    eqb (executedBy (e .before) writer) 55
+    && (isLive (processIn (e .after) writer)
     && (eqb (q .file .start) (p .code .start) && eqb (q .file .len) (p .code .len)))
 
 -- ---- an event that is not supposed: a done turn, while the process i is in slot own

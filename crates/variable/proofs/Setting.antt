@@ -17,7 +17,7 @@ use Rattle.place.specs.Place.{filled, fits, maxRuns, noRun, place}
 use Rattle.place.specs.declared.Run.{Run}
 use Rattle.place.proofs.Place.{Fits, no-place-none-fits, place-fits}
 use Rattle.variable.specs.Assign.{added, addressOr, assignAt, assigned, entryLimit, highEnd, ifEntry, lowEnd, newCell, newVariable}
-use Rattle.variable.specs.Assign.{placeFor, placing, placingFault, takenRuns, valueBytes, withCell}
+use Rattle.variable.specs.Assign.{placeFor, placing, placingFault, takenRuns, valueBytes, assignedCells}
 use Rattle.variable.specs.Limits.{maxVariables}
 use Rattle.variable.specs.Table.{Cell, Shaped, counted, find, freed, isOf, noVariable, owned, runOf}
 use Rattle.variable.specs.declared.Placing.{Placing}
@@ -159,8 +159,8 @@ module _ (v : Variables) (name id : ℕ) (x : Value) where
       assigned-is = rw placed
 
       -- Document 01: "A SET without fault drops the old variable, then adds the new one"
-      pub assigned-own : owned (assigned v name id x .variables) id ≡ withCell (owned v id) (newCell name x)
-      unfolding withCell
+      pub assigned-own : owned (assigned v name id x .variables) id ≡ assignedCells (owned v id) (newCell name x)
+      unfolding assignedCells
       assigned-own =
           ap (λ (w : Variables). owned w id) assigned-is
           ∙ owned-added-own rest new (valueBytes x) left room assigned-run sized

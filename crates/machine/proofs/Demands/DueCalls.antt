@@ -36,8 +36,8 @@ use Rattle.machine.proofs.Changes.Change.{GoodState, begins}
 use Rattle.machine.proofs.Kept.Begins.{started-new, starting-begins}
 use Rattle.machine.specs.declared.Kernel.{Kernel}
 use Rattle.machine.specs.Area.{kernelOf}
-use Rattle.machine.specs.Answer.{Answer, Buffers, store, erase, run, freeSpace, command, turn, answer, commandAnswer, runAt, retrieve}
-use Rattle.machine.specs.Answer.{files, list}
+use Rattle.machine.specs.Answer.{Answer, Buffers, store, retrieve, erase, files, freeSpace, list, turn, command, run, other}
+use Rattle.machine.specs.Answer.{answer, commandAnswer, otherAnswer, runAt}
 use Rattle.machine.specs.Due.{Holds, Usable, Writes, filesText}
 use Rattle.machine.specs.NoPlace.{NoneFits}
 use Rattle.machine.specs.Operations.{Command, suspend, resume, kill, commandAt, commanded, inUse, listText}
@@ -55,8 +55,8 @@ turn-due b slot clock may = (_, ap (λ (a : Answer). a .number) (turn-done b slo
 pub store-due : (b : Buffers) (name bytes : List ℕ) (start : ℕ) → Usable (b .disc)
     → goodName name ≡ true → goodSize (b .disc) (length bytes) ≡ true → fileCount (b .disc) < 10 → lookup (b .disc) name ≡ Nowhere
     → fits (taken (b .disc)) 161 (length (b .disc)) (length bytes) start ≡ true
-    → (answer (store name bytes) b .number ≡ pos 0) × Holds (answer (store name bytes) b .disc) name bytes
-unfolding answer
+    → (answer (other (store name bytes)) b .number ≡ pos 0) × Holds (answer (other (store name bytes)) b .disc) name bytes
+unfolding answer otherAnswer
 store-due b name bytes start u good size few new fit =
     let a = admits (b .disc) name (length bytes) start good size few new fit in
     let done : storeAnswer (b .disc) name bytes .number ≡ pos 0 =
@@ -111,10 +111,10 @@ fork-due b slot clock name l child i may e free found left =
 
 pub erase-due : (b : Buffers) (name : List ℕ) (i : ℕ) → Passes (b .disc) (b .area) → lookup (b .disc) name ≡ At i
     → inUse (stateOf b) (entryAt (b .disc) i) ≡ false
-    → (answer (erase name) b .number ≡ pos 0) × (lookup (answer (erase name) b .disc) name ≡ Nowhere)
-unfolding answer
+    → (answer (other (erase name)) b .number ≡ pos 0) × (lookup (answer (other (erase name)) b .disc) name ≡ Nowhere)
+unfolding answer otherAnswer
 erase-due b name i passes e free =
-    let whole : answer (erase name) b ≡ record { number = pos 0; disc = erased (b .disc) i; area = b .area; out = b .out } =
+    let whole : answer (other (erase name)) b ≡ record { number = pos 0; disc = erased (b .disc) i; area = b .area; out = b .out } =
     on-good b _ passes ∙ rw (e, free) in (
       ap (λ (a : Answer). a .number) whole,
       ap (λ (a : Answer). lookup (a .disc) name) whole
@@ -122,10 +122,10 @@ erase-due b name i passes e free =
     )
 
 pub free-space-due : (b : Buffers) → Usable (b .disc)
-    → (n : ℕ) × (answer freeSpace b .number ≡ pos n)
+    → (n : ℕ) × (answer (other freeSpace) b .number ≡ pos n)
     × (0 < n → (start : ℕ) × (fits (taken (b .disc)) 161 (length (b .disc)) n start ≡ true))
     × ((m : ℕ) → n < m → NoneFits (taken (b .disc)) 161 (length (b .disc)) m)
-unfolding answer freeSpaceAnswer placeOf
+unfolding answer otherAnswer freeSpaceAnswer placeOf
 free-space-due b u =
     let n : ℕ = longest (taken (b .disc)) 161 (length (b .disc)) in
     let done : freeSpaceAnswer (b .disc) ≡ pos n = rw (is-usable (b .disc) (u .0) (u .1)) in (
@@ -142,8 +142,8 @@ free-space-due b u =
 -- ---- processes
 pub retrieve-due : (b : Buffers) (name : List ℕ) (i : ℕ) → Usable (b .disc) → lookup (b .disc) name ≡ At i
     → entryAt (b .disc) i .len ≤ length (b .out)
-    → Writes (entryAt (b .disc) i .len) (contents (b .disc) (runOf (entryAt (b .disc) i))) b (answer (retrieve name) b)
-unfolding answer retrieveAnswer
+    → Writes (entryAt (b .disc) i .len) (contents (b .disc) (runOf (entryAt (b .disc) i))) b (answer (other (retrieve name)) b)
+unfolding answer otherAnswer retrieveAnswer
 retrieve-due b name i u e fit =
     let whole : retrieveAnswer (b .disc) name (b .out) ≡ reported (Done (entryAt (b .disc) i .len))
     (overwrite (b .out) 0 (contents (b .disc) (runOf (entryAt (b .disc) i)))) =
@@ -151,18 +151,18 @@ retrieve-due b name i u e fit =
     (ap (λ (r : Reported). r .number) whole, ap (λ (r : Reported). r .out) whole)
 
 pub files-due : (b : Buffers) → Usable (b .disc) → length (filesText b) ≤ length (b .out)
-    → Writes (length (filesText b)) (filesText b) b (answer files b)
-unfolding answer filesAnswer
+    → Writes (length (filesText b)) (filesText b) b (answer (other files) b)
+unfolding answer otherAnswer filesAnswer
 files-due b u fit =
     let whole : filesAnswer (b .disc) (b .out) ≡ reported (Done (length (filesText b))) (overwrite (b .out) 0 (filesText b)) =
     rw (is-usable (b .disc) (u .0) (u .1), le-leb _ _ fit) in
     (ap (λ (r : Reported). r .number) whole, ap (λ (r : Reported). r .out) whole)
 
 pub list-due : (b : Buffers) → Passes (b .disc) (b .area) → length (listText (stateOf b)) ≤ length (b .out)
-    → Writes (length (listText (stateOf b))) (listText (stateOf b)) b (answer list b)
-unfolding answer
+    → Writes (length (listText (stateOf b))) (listText (stateOf b)) b (answer (other list) b)
+unfolding answer otherAnswer
 list-due b passes fit =
-    let whole : answer list b ≡ record {
+    let whole : answer (other list) b ≡ record {
       number = pos (length (listText (stateOf b)));
       disc = b .disc;
       area = b .area;

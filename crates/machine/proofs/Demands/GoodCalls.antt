@@ -13,9 +13,11 @@ use Rattle.store.specs.Directory.{entryAt, isDiscLength, lookup}
 use Rattle.store.specs.File.{erased, unless}
 use Rattle.store.proofs.Calls.{store-cases, stored}
 use Rattle.store.proofs.Lookups.{lookup-at}
-use Rattle.machine.specs.Answer.{Answer, Buffers, Call, store, retrieve, erase, run, files, freeSpace, list, command, turn, round}
-use Rattle.machine.specs.Answer.{answer, commandAnswer, eraseAt, goodArea, onDisc, onGood, refused, runAt}
+use Rattle.machine.specs.Answer.{Answer, Buffers, Other, store, retrieve, erase, files, freeSpace, list, Call, turn, round}
+use Rattle.machine.specs.Answer.{command, run, other}
+use Rattle.machine.specs.Answer.{answer, commandAnswer, eraseAt, goodArea, onDisc, onGood, otherAnswer, runAt}
 use Rattle.machine.specs.Area.{isAreaLength, kernelBytes, kernelOf}
+use Rattle.machine.specs.Limits.{roundRoom, slotCount, turnRoom}
 use Rattle.machine.specs.Operations.{Command, Commanded, becomes, refused as declined, commanded, inUse, listText, slots}
 use Rattle.machine.specs.Operations.{turnIfRunning, turnsOf}
 use Rattle.machine.specs.Refusals.{Passes}
@@ -24,6 +26,7 @@ use Rattle.machine.specs.Stack.{topString}
 use Rattle.machine.specs.State.{isRunning, localOf, processAt}
 use Rattle.machine.specs.Turn.{Turned, turned}
 use Rattle.machine.specs.declared.Kernel.{Kernel}
+use Rattle.machine.proofs.Operations.Tests.{tried}
 use Rattle.machine.proofs.Bytes.Area.{kernel-bytes-length, kernel-decode-encode}
 use Rattle.machine.proofs.Changes.Change.{GoodState, Outside, stores, erases, begins, Change}
 use Rattle.machine.proofs.Kept.ChangeKept.{change-good}
@@ -113,25 +116,20 @@ module _ (b : Buffers) (passes : Passes (b .disc) (b .area)) where
   unfolding k
   disc-kept after o = good-passes-as after (b .area) (area-length passes) (outside-good [] k (b .disc) k after good o)
 
-  -- one more test of the call's own
-  tried : (test : Bool) (n : ℕ) (rest : Answer) → (test ≡ true → Kept rest) → Kept (unless test (refused n b) rest)
-  tried true n rest h = h refl
-  tried false n rest h = passes
-
-  store-kept : (name bytes : List ℕ) → Kept (answer (store name bytes) b)
-  unfolding answer
+  store-kept : (name bytes : List ℕ) → Kept (answer (other (store name bytes)) b)
+  unfolding answer otherAnswer
   store-kept name bytes =
       store-cases (b .disc) name bytes (λ u. Kept (onDisc u b)) (λ r d. passes)
       (λ s l g a. disc-kept (stored (b .disc) name bytes s) (stores name bytes s a refl refl))
 
-  erase-kept : (name : List ℕ) → Kept (answer (erase name) b)
-  unfolding answer k
+  erase-kept : (name : List ℕ) → Kept (answer (other (erase name)) b)
+  unfolding answer otherAnswer k
   erase-kept name = subst⁻¹ Kept (on-good b _ passes) (found (lookup (b .disc) name) refl)
     where
       found : (f : Found) → lookup (b .disc) name ≡ f → Kept (eraseAt f k b)
       found Nowhere e = passes
       found (At i) e =
-          tried (not (inUse k (entryAt (b .disc) i))) 11 _ λ free.
+          tried Kept b (not (inUse k (entryAt (b .disc) i))) 11 _ passes λ free.
           disc-kept (erased (b .disc) i) (erases i (lookup-at (b .disc) name i e .inside) (not-true _ free) refl refl)
 
   run-kept : (name : List ℕ) → Kept (answer (run name) b)
@@ -151,34 +149,37 @@ module _ (b : Buffers) (passes : Passes (b .disc) (b .area)) where
       given (declined n) e = passes
       given (becomes j) e = good-passes j (b .disc) (let o = command-own good c id j e in own-good (o .0) k (b .disc) j good (o .2))
 
-  list-kept : Kept (answer list b)
-  unfolding answer k
-  list-kept = subst⁻¹ Kept (on-good b _ passes) (tried (leb (length (listText k)) (length (b .out))) 4 _ λ fit. passes)
+  list-kept : Kept (answer (other list) b)
+  unfolding answer otherAnswer k
+  list-kept = subst⁻¹ Kept (on-good b _ passes) (tried Kept b (leb (length (listText k)) (length (b .out))) 4 _ passes λ fit. passes)
 
   turn-kept : (slot clock : ℕ) → Kept (answer (turn slot clock) b)
   unfolding answer k
   turn-kept slot clock =
       subst⁻¹ Kept (on-good b _ passes)
-      (tried (leb 32 (length (b .out))) 4 _ λ fit.
-      tried (ltb slot 10 && isRunning (processAt k slot)) 16 _ λ may.
-      good-passes _ _ (turn-good k slot clock (b .disc) good (and-right (ltb slot 10) _ may)))
+      (tried Kept b (leb turnRoom (length (b .out))) 4 _ passes λ fit.
+      tried Kept b (ltb slot slotCount && isRunning (processAt k slot)) 16 _ passes λ may.
+      good-passes _ _ (turn-good k slot clock (b .disc) good (and-right (ltb slot slotCount) _ may)))
 
   round-kept : (clock : ℕ) → Kept (answer (round clock) b)
   unfolding answer k
   round-kept clock =
       subst⁻¹ Kept (on-good b _ passes)
-      (tried (leb 320 (length (b .out))) 4 _ λ fit.
+      (tried Kept b (leb roundRoom (length (b .out))) 4 _ passes λ fit.
       good-passes _ _ (turns-good slots k clock (b .disc) good))
 
+  other-kept : (o : Other) → Kept (answer (other o) b)
+  unfolding answer otherAnswer
+  other-kept (store name bytes) = store-kept name bytes
+  other-kept (retrieve name) = passes
+  other-kept (erase name) = erase-kept name
+  other-kept files = passes
+  other-kept freeSpace = passes
+  other-kept list = list-kept
+
   pub good-kept : (c : Call) → Passes (answer c b .disc) (answer c b .area)
-  unfolding answer
-  good-kept (store name bytes) = store-kept name bytes
-  good-kept (retrieve name) = passes
-  good-kept (erase name) = erase-kept name
-  good-kept (run name) = run-kept name
-  good-kept files = passes
-  good-kept freeSpace = passes
-  good-kept list = list-kept
-  good-kept (command c id) = command-kept c id
   good-kept (turn slot clock) = turn-kept slot clock
   good-kept (round clock) = round-kept clock
+  good-kept (command c id) = command-kept c id
+  good-kept (run name) = run-kept name
+  good-kept (other o) = other-kept o

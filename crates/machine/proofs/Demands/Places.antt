@@ -23,7 +23,7 @@ use Rattle.store.specs.Answer.{Updated, storeAnswer}
 use Rattle.store.specs.Directory.{fileCount, goodDisc, isDiscLength, taken, lookup}
 use Rattle.store.proofs.Checks.{by-checks}
 use Rattle.store.proofs.Calls.{store-admission, store-refused-full, store-refused-no-run}
-use Rattle.variable.specs.Assign.{addressOr, assigned, assignAt, entryLimit, highEnd, ifEntry, lowEnd, placeFor, placing, placingFault}
+use Rattle.variable.specs.Assign.{addressOr, assigned, assignAt, entryLimit, highEnd, ifEntry, lowEnd, placeFor, placing, placingFault, valueOf}
 use Rattle.variable.specs.Assign.{takenRuns}
 use Rattle.variable.specs.Table.{freed, isOf}
 use Rattle.variable.specs.declared.Assigned.{Assigned}
@@ -31,11 +31,11 @@ use Rattle.variable.specs.declared.Placing.{Placing}
 use Rattle.variable.specs.declared.Placing.the-variants.{Address, NoEntry, NoRun as NoFreeRun}
 use Rattle.variable.specs.declared.Value.{Value}
 use Rattle.variable.specs.declared.Variables.{Variables}
-use Rattle.machine.specs.Answer.{Buffers, answer, store}
+use Rattle.machine.specs.Answer.{Buffers, other, store, answer, otherAnswer}
 use Rattle.machine.specs.Effect.{Effect, asks, assigns, opens}
 use Rattle.machine.specs.NoPlace.{Lacking, NewFileRefused, NoneFits}
 use Rattle.machine.specs.State.{Local, isRunning, noProcess, processAt, withFile, withLocal, withProcess}
-use Rattle.machine.specs.Turn.{effectAt, answering, carriedOut, setting, turned, valueOf}
+use Rattle.machine.specs.Turn.{effectAt, answering, carriedOut, setting, turned}
 use Rattle.machine.specs.declared.Kernel.{Kernel}
 use Rattle.machine.specs.declared.Process.{Process}
 use Rattle.machine.proofs.Changes.LiveRecords.{running-live}
@@ -45,8 +45,8 @@ use Rattle.machine.proofs.Demands.Openings.{open-cases}
 -- ---- store
 module _ (b : Buffers) (name bytes : List ℕ) where
   -- Document 01: "8 ten files already"
-  pub store-full : answer (store name bytes) b .number ≡ negℤ (pos 8) → fileCount (b .disc) ≡ 10
-  unfolding answer storeAnswer
+  pub store-full : answer (other (store name bytes)) b .number ≡ negℤ (pos 8) → fileCount (b .disc) ≡ 10
+  unfolding answer otherAnswer storeAnswer
   store-full =
       by-checks (b .disc) (λ (u : Updated). u .number ≡ negℤ (pos 8) → fileCount (b .disc) ≡ 10) _ _
       (λ e h. absurd (let z : _≡_ {A = ℕ} 0 7 = cc in omega arith))
@@ -55,8 +55,8 @@ module _ (b : Buffers) (name bytes : List ℕ) where
       (ap (λ (u : Updated). u .number) (store-admission (b .disc) name bytes l good) ∙ h))
 
   -- Document 01: "9 no free run long enough"
-  pub store-no-run : answer (store name bytes) b .number ≡ negℤ (pos 9) → NoneFits (taken (b .disc)) 161 (length (b .disc)) (length bytes)
-  unfolding answer
+  pub store-no-run : answer (other (store name bytes)) b .number ≡ negℤ (pos 9) → NoneFits (taken (b .disc)) 161 (length (b .disc)) (length bytes)
+  unfolding answer otherAnswer
   store-no-run h = store-refused-no-run (b .disc) name bytes h
 
 -- ---- SET

@@ -15,6 +15,7 @@ use Rattle.place.specs.Place.{longest}
 use Rattle.store.specs.Answer.{fileLine, filesAnswer, freeSpaceAnswer, refusalNumber, reported, retrieveAnswer, retrieveAt}
 use Rattle.store.specs.Directory.{contents, entryAt, files as entries, goodDisc, isDiscLength, lookup, runOf, taken}
 use Rattle.store.specs.File.{unless}
+use Rattle.store.specs.Layout.{dataStart}
 use Rattle.store.specs.declared.Answer.the-variants.{Done, Refused}
 use Rattle.store.specs.declared.Refusal.{Refusal}
 use Rattle.store.specs.declared.Refusal.the-variants.{WrongLength, BadDisc, ShortOutput, BadName, BadSize, NameExists, DirectoryFull, NoRun}
@@ -22,10 +23,12 @@ use Rattle.store.specs.declared.Refusal.the-variants.{NoSuchFile}
 use Rattle.store.proofs.Admissions.{Denial}
 use Rattle.store.proofs.Checks.{by-checks}
 use Rattle.store.proofs.Calls.{done-not-below, store-cases}
-use Rattle.machine.specs.Answer.{Answer, Buffers, Call, store, retrieve, erase, run, files, freeSpace, list, command, turn, round}
-use Rattle.machine.specs.Answer.{answer, bootAnswer, commandAnswer, eraseAt, formatAnswer, goodArea, onDisc, onGood, onOutput}
-use Rattle.machine.specs.Answer.{refused, runAt}
+use Rattle.machine.specs.Answer.{Answer, Buffers, Other, store, retrieve, erase, files, freeSpace, list, Call, turn, round}
+use Rattle.machine.specs.Answer.{command, run, other}
+use Rattle.machine.specs.Answer.{answer, bootAnswer, commandAnswer, eraseAt, formatAnswer, onDisc, onGood, onOutput}
+use Rattle.machine.specs.Answer.{otherAnswer, refused, runAt}
 use Rattle.machine.specs.Area.{isAreaLength, kernelOf}
+use Rattle.machine.specs.Limits.{idLimit, roundRoom, slotCount, turnRoom}
 use Rattle.machine.specs.Operations.{Command, becomes, refused as declined, suspend, resume, kill, changed, commandAt, commanded}
 use Rattle.machine.specs.Operations.{inUse, listText, slots, turnsOf}
 use Rattle.machine.specs.Refusals.{Names}
@@ -33,6 +36,7 @@ use Rattle.machine.specs.Start.{starting, startIn}
 use Rattle.machine.specs.State.{endedSlot, isRunning, paused, processAt, running, slotOf, withProcess, withState}
 use Rattle.machine.specs.Turn.{turned}
 use Rattle.machine.specs.declared.Kernel.{Kernel}
+use Rattle.machine.proofs.Operations.Tests.{on-tests, tried}
 
 -- what a call comes to: refused, with all as it was, or done
 pub data Outcome (c : Call) (b : Buffers) (a : Answer) : Type 0 where
@@ -40,19 +44,12 @@ pub data Outcome (c : Call) (b : Buffers) (a : Answer) : Type 0 where
   succeeds : (n : ℕ) → a .number ≡ pos n → Outcome c b a
 
 module _ (c : Call) (b : Buffers) where
-  abbrev Comes : Answer → Type 0
-  Comes a = Outcome c b a
-
   -- one test of a list of refusals
-  tried : (test : Bool) (n : ℕ) (rest : Answer) → Names c n → Comes rest → Comes (unless test (refused n b) rest)
-  tried true n rest h r = r
-  tried false n rest h r = declines n h refl
+  test : (t : Bool) (n : ℕ) (rest : Answer) → Names c n → Outcome c b rest → Outcome c b (unless t (refused n b) rest)
+  test t n rest h r = tried (Outcome c b) b t n rest (declines n h refl) λ e. r
 
-  on-good : (rest : Answer) → Names c 1 → Names c 2 → Names c 3 → Comes rest → Comes (onGood b rest)
-  on-good rest p q r h =
-      tried (isDiscLength (length (b .disc)) && isAreaLength (length (b .area))) 1 _ p
-      (tried (goodDisc (b .disc)) 2 _ q
-      (tried (goodArea (b .disc) (b .area)) 3 rest r h))
+  on-good : (rest : Answer) → Names c 1 → Names c 2 → Names c 3 → Outcome c b rest → Outcome c b (onGood b rest)
+  on-good rest p q r h = on-tests (Outcome c b) b rest (declines 1 p refl) (declines 2 q refl) (declines 3 r refl) λ passes. h
 
 -- ---- operations on the disc alone
 -- "4: output shorter than needed"
@@ -61,13 +58,13 @@ written : (c : Call) (b : Buffers) (fit : Bool) (n : ℕ) (after : List ℕ) →
 written c b true n after h = succeeds n refl
 written c b false n after h = declines 4 h refl
 
-store-outcome : (b : Buffers) (name bytes : List ℕ) → Outcome (store name bytes) b (answer (store name bytes) b)
-unfolding answer any
+store-outcome : (b : Buffers) (name bytes : List ℕ) → Outcome (other (store name bytes)) b (answer (other (store name bytes)) b)
+unfolding answer otherAnswer any
 store-outcome b name bytes =
-    store-cases (b .disc) name bytes (λ u. Outcome (store name bytes) b (onDisc u b)) (λ r d. declines (refusalNumber r) (named r d) refl)
+    store-cases (b .disc) name bytes (λ u. Outcome (other (store name bytes)) b (onDisc u b)) (λ r d. declines (refusalNumber r) (named r d) refl)
     (λ s l g a. succeeds 0 refl)
   where
-    named : (r : Refusal) → Denial (b .disc) name (length bytes) r → Names (store name bytes) (refusalNumber r)
+    named : (r : Refusal) → Denial (b .disc) name (length bytes) r → Names (other (store name bytes)) (refusalNumber r)
     named WrongLength d = refl
     named BadDisc d = refl
     named BadName d = refl
@@ -78,47 +75,47 @@ store-outcome b name bytes =
     named ShortOutput d = absurd d
     named NoSuchFile d = absurd d
 
-retrieve-outcome : (b : Buffers) (name : List ℕ) → Outcome (retrieve name) b (answer (retrieve name) b)
-unfolding answer any retrieveAnswer
+retrieve-outcome : (b : Buffers) (name : List ℕ) → Outcome (other (retrieve name)) b (answer (other (retrieve name)) b)
+unfolding answer otherAnswer any retrieveAnswer
 retrieve-outcome b name =
-    by-checks (b .disc) (λ r. Outcome (retrieve name) b (onOutput r b)) _ _ (λ e. declines 1 refl refl) (λ e. declines 2 refl refl)
+    by-checks (b .disc) (λ r. Outcome (other (retrieve name)) b (onOutput r b)) _ _ (λ e. declines 1 refl refl) (λ e. declines 2 refl refl)
     (λ l g. found (lookup (b .disc) name))
   where
-    found : (f : Found) → Outcome (retrieve name) b (onOutput (retrieveAt f (b .disc) (b .out)) b)
+    found : (f : Found) → Outcome (other (retrieve name)) b (onOutput (retrieveAt f (b .disc) (b .out)) b)
     found Nowhere = declines 10 refl refl
     found (At i) =
         let e = entryAt (b .disc) i in
-        written (retrieve name) b (leb (e .len) (length (b .out))) (e .len) (overwrite (b .out) 0 (contents (b .disc) (runOf e))) refl
+        written (other (retrieve name)) b (leb (e .len) (length (b .out))) (e .len) (overwrite (b .out) 0 (contents (b .disc) (runOf e))) refl
 
-files-outcome : (b : Buffers) → Outcome files b (answer files b)
-unfolding answer any filesAnswer
+files-outcome : (b : Buffers) → Outcome (other files) b (answer (other files) b)
+unfolding answer otherAnswer any filesAnswer
 files-outcome b =
     let text : List ℕ = flat fileLine (entries (b .disc)) in
-    by-checks (b .disc) (λ r. Outcome files b (onOutput r b)) _ _ (λ e. declines 1 refl refl) (λ e. declines 2 refl refl)
-    (λ l g. written files b (leb (length text) (length (b .out))) (length text) (overwrite (b .out) 0 text) refl)
+    by-checks (b .disc) (λ r. Outcome (other files) b (onOutput r b)) _ _ (λ e. declines 1 refl refl) (λ e. declines 2 refl refl)
+    (λ l g. written (other files) b (leb (length text) (length (b .out))) (length text) (overwrite (b .out) 0 text) refl)
 
-free-space-outcome : (b : Buffers) → Outcome freeSpace b (answer freeSpace b)
-unfolding answer any freeSpaceAnswer
+free-space-outcome : (b : Buffers) → Outcome (other freeSpace) b (answer (other freeSpace) b)
+unfolding answer otherAnswer any freeSpaceAnswer
 free-space-outcome b =
-    by-checks (b .disc) (λ z. Outcome freeSpace b (record { number = z; disc = b .disc; area = b .area; out = b .out })) _ _
+    by-checks (b .disc) (λ z. Outcome (other freeSpace) b (record { number = z; disc = b .disc; area = b .area; out = b .out })) _ _
     (λ e. declines 1 refl refl)
     (λ e. declines 2 refl refl)
-    (λ l g. succeeds (longest (taken (b .disc)) 161 (length (b .disc))) refl)
+    (λ l g. succeeds (longest (taken (b .disc)) dataStart (length (b .disc))) refl)
 
 -- ---- operations on both buffers
-erase-outcome : (b : Buffers) (name : List ℕ) → Outcome (erase name) b (answer (erase name) b)
-unfolding answer any
-erase-outcome b name = on-good (erase name) b _ refl refl refl (found (lookup (b .disc) name))
+erase-outcome : (b : Buffers) (name : List ℕ) → Outcome (other (erase name)) b (answer (other (erase name)) b)
+unfolding answer otherAnswer any
+erase-outcome b name = on-good (other (erase name)) b _ refl refl refl (found (lookup (b .disc) name))
   where
-    found : (f : Found) → Outcome (erase name) b (eraseAt f (kernelOf (b .area)) b)
+    found : (f : Found) → Outcome (other (erase name)) b (eraseAt f (kernelOf (b .area)) b)
     found Nowhere = declines 10 refl refl
-    found (At i) = tried (erase name) b (not (inUse (kernelOf (b .area)) (entryAt (b .disc) i))) 11 _ refl (succeeds 0 refl)
+    found (At i) = test (other (erase name)) b (not (inUse (kernelOf (b .area)) (entryAt (b .disc) i))) 11 _ refl (succeeds 0 refl)
 
 run-outcome : (b : Buffers) (name : List ℕ) → Outcome (run name) b (answer (run name) b)
 unfolding answer any starting
 run-outcome b name =
     on-good (run name) b _ refl refl refl
-    (placed (endedSlot (kernelOf (b .area))) (lookup (b .disc) name) (eqb (kernelOf (b .area) .next) 32768))
+    (placed (endedSlot (kernelOf (b .area))) (lookup (b .disc) name) (eqb (kernelOf (b .area) .next) idLimit))
   where
     placed : (slot file : Found) (spent : Bool) → Outcome (run name) b (runAt (startIn slot file spent (b .disc)) (kernelOf (b .area)) b)
     placed Nowhere file spent = declines 12 refl refl
@@ -149,40 +146,43 @@ command-outcome b c id = at (slotOf k id) c
     at (At slot) resume = on-good (command resume id) b _ refl refl refl (change resume slot running refl)
     at (At slot) kill = on-good (command kill id) b _ refl refl refl (succeeds 0 refl)
 
-list-outcome : (b : Buffers) → Outcome list b (answer list b)
-unfolding answer any
+list-outcome : (b : Buffers) → Outcome (other list) b (answer (other list) b)
+unfolding answer otherAnswer any
 list-outcome b =
     let text : List ℕ = listText (kernelOf (b .area)) in
-    on-good list b _ refl refl refl (tried list b (leb (length text) (length (b .out))) 4 _ refl (succeeds (length text) refl))
+    on-good (other list) b _ refl refl refl (test (other list) b (leb (length text) (length (b .out))) 4 _ refl (succeeds (length text) refl))
 
 turn-outcome : (b : Buffers) (slot clock : ℕ) → Outcome (turn slot clock) b (answer (turn slot clock) b)
 unfolding answer any
 turn-outcome b slot clock =
     let k : Kernel = kernelOf (b .area) in
     on-good (turn slot clock) b _ refl refl refl
-    (tried (turn slot clock) b (leb 32 (length (b .out))) 4 _ refl
-    (tried (turn slot clock) b (ltb slot 10 && isRunning (processAt k slot)) 16 _ refl
+    (test (turn slot clock) b (leb turnRoom (length (b .out))) 4 _ refl
+    (test (turn slot clock) b (ltb slot slotCount && isRunning (processAt k slot)) 16 _ refl
     (succeeds (length (turned k slot clock (b .disc) .out)) refl)))
 
 round-outcome : (b : Buffers) (clock : ℕ) → Outcome (round clock) b (answer (round clock) b)
 unfolding answer any
 round-outcome b clock =
     on-good (round clock) b _ refl refl refl
-    (tried (round clock) b (leb 320 (length (b .out))) 4 _ refl
+    (test (round clock) b (leb roundRoom (length (b .out))) 4 _ refl
     (succeeds (length (turnsOf slots (kernelOf (b .area)) clock (b .disc) .out)) refl))
 
 -- ---- every call
+other-outcome : (o : Other) (b : Buffers) → Outcome (other o) b (answer (other o) b)
+other-outcome (store name bytes) b = store-outcome b name bytes
+other-outcome (retrieve name) b = retrieve-outcome b name
+other-outcome (erase name) b = erase-outcome b name
+other-outcome files b = files-outcome b
+other-outcome freeSpace b = free-space-outcome b
+other-outcome list b = list-outcome b
+
 pub outcome : (c : Call) (b : Buffers) → Outcome c b (answer c b)
-outcome (store name bytes) b = store-outcome b name bytes
-outcome (retrieve name) b = retrieve-outcome b name
-outcome (erase name) b = erase-outcome b name
-outcome (run name) b = run-outcome b name
-outcome files b = files-outcome b
-outcome freeSpace b = free-space-outcome b
-outcome list b = list-outcome b
-outcome (command c id) b = command-outcome b c id
 outcome (turn slot clock) b = turn-outcome b slot clock
 outcome (round clock) b = round-outcome b clock
+outcome (command c id) b = command-outcome b c id
+outcome (run name) b = run-outcome b name
+outcome (other o) b = other-outcome o b
 
 -- a number below 0 is −n for one of the call's refusals
 pub refused-by : (c : Call) (b : Buffers) → answer c b .number <ℤ pos 0 → (n : ℕ) × Names c n × (answer c b ≡ refused n b)

@@ -7,7 +7,7 @@ use lib.ListN.{length}
 use Rattle.buffer.specs.declared.Found.the-variants.{Nowhere}
 use Rattle.buffer.proofs.Bools.{true-not-false}
 use Rattle.store.specs.Directory.{files}
-use Rattle.variable.specs.Assign.{assigned, newCell, valueBytes, withCell}
+use Rattle.variable.specs.Assign.{assigned, assignedCells, newCell, valueBytes}
 use Rattle.variable.specs.Table.{owned}
 use Rattle.variable.specs.declared.Placing.the-variants.{Address}
 use Rattle.variable.specs.declared.Value.{Value}
@@ -44,7 +44,7 @@ module _ (k : Kernel) (w : ℕ) (fault : ℕ) where
 -- Document 01: "A SET without fault drops the old variable, then adds the new one"
 pub set-variables : (k : Kernel) (disc : List ℕ) → GoodState k disc → (name id : ℕ) (x : Value) (a : ℕ) → length (valueBytes x) ≡ x .size
     → assigned (k .variables) name id x .placing ≡ Address a
-    → owned (assigned (k .variables) name id x .variables) id ≡ withCell (owned (k .variables) id) (newCell name x)
+    → owned (assigned (k .variables) name id x .variables) id ≡ assignedCells (owned (k .variables) id) (newCell name x)
 set-variables k disc good name id x a sized placed =
     assigned-own (k .variables) name id x (good .sized .variables)
     (good-variables-is (liveIds k) (k .variables) (good-kernel-is (files disc) k (good .area) .variables) .few) sized a placed

@@ -35,8 +35,8 @@ module _ {w : ℕ} {k : Kernel} {disc : List ℕ} {j : Kernel} {after : List ℕ
   file : FileAt disc run
   file = open-at (x .file)
 
-  inside : Inside disc run offset (length (x .bytes))
-  inside =
+  pub write-inside : Inside disc run offset (length (x .bytes))
+  write-inside =
       subst⁻¹ (λ (r : Run). Inside disc r offset (length (x .bytes))) (file .run-is)
       (file-inside disc (g .sound) (file .place) (file .inside) offset (length (x .bytes))
       (subst (λ (r : Run). offset + length (x .bytes) ≤ r .len) (file .run-is) (x .inside)))
@@ -54,7 +54,7 @@ module _ {w : ℕ} {k : Kernel} {disc : List ℕ} {j : Kernel} {after : List ℕ
         → programOf after (processAt k s) ≡ programOf disc (processAt k s)
     writes-program other =
         subst⁻¹ (λ (d : List ℕ). programOf d (processAt k s) ≡ programOf disc (processAt k s)) (x .disc-after)
-        (written-elsewhere (x .bytes) inside (processAt k s .code) (go (eqb (file .place) (program .place)) refl))
+        (written-elsewhere (x .bytes) write-inside (processAt k s .code) (go (eqb (file .place) (program .place)) refl))
       where
         program : FileAt disc (processAt k s .code)
         program = program-at g s h
@@ -78,10 +78,10 @@ writes-good moved w k disc j after g x =
     (subst⁻¹ (λ (d : List ℕ). GoodState (withProcess k w (x .process)) d) (x .disc-after)
     (record {
       sized = m .sized;
-      long = ap isDiscLength (written-length (x .bytes) (inside g x)) ∙ g .long;
-      sound = written-good (x .bytes) (inside g x) (g .sound);
+      long = ap isDiscLength (written-length (x .bytes) (write-inside g x)) ∙ g .long;
+      sound = written-good (x .bytes) (write-inside g x) (g .sound);
       area = subst⁻¹ (λ (es : List Entry). goodKernel es (withProcess k w (x .process)) ≡ true)
-          (written-files (x .bytes) (inside g x) (good-disc-is disc (g .sound) .few)) (m .area);
+          (written-files (x .bytes) (write-inside g x) (good-disc-is disc (g .sound) .few)) (m .area);
     }))
   where
     m : GoodState (withProcess k w (x .process)) disc

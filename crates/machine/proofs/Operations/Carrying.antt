@@ -7,12 +7,12 @@ use native.Mathlib.Omega.{arith}
 use lib.ListN.{length, replicate, take, length-append, length-replicate}
 use lib.Seq.{take-at}
 use Rattle.store.specs.Directory.{files}
-use Rattle.variable.specs.Assign.{assigned}
+use Rattle.variable.specs.Assign.{assigned, valueOf}
 use Rattle.variable.specs.Good.{goodSize}
 use Rattle.variable.specs.declared.Placing.{Placing}
 use Rattle.variable.specs.declared.Placing.the-variants.{Address, NoEntry, NoRun}
 use Rattle.machine.specs.State.{Local, ended, isLive, processAt, withFile, withLocal, withProcess}
-use Rattle.machine.specs.Turn.{programOf, setting, valueOf}
+use Rattle.machine.specs.Turn.{programOf, setting}
 use Rattle.machine.specs.declared.Kernel.{Kernel}
 use Rattle.machine.specs.declared.OpenFile.{OpenFile}
 use Rattle.machine.specs.declared.Process.{Process}

@@ -5,7 +5,7 @@ use mathlib.Core.Bool.{true}
 use mathlib.Core.List.{List}
 use native.Mathlib.Omega.{arith}
 use lib.ListN.{length}
-use Rattle.variable.specs.Assign.{assigned}
+use Rattle.variable.specs.Assign.{assigned, valueOf}
 use Rattle.variable.specs.declared.Placing.{Placing}
 use Rattle.variable.specs.declared.Placing.the-variants.{Address, NoEntry, NoRun}
 use Rattle.variable.specs.declared.Variables.{Variables}
@@ -13,7 +13,7 @@ use Rattle.machine.specs.Beyond.{Answered, carriesOn, breaks, answered}
 use Rattle.machine.specs.Effect.{Effect, goes, assigns, stops, faults, asks}
 use Rattle.machine.specs.Stack.{topString}
 use Rattle.machine.specs.State.{Local, isLive, isRunning, localOf, processAt}
-use Rattle.machine.specs.Turn.{effectAt, answering, carriedOut, programOf, setting, turned, valueOf}
+use Rattle.machine.specs.Turn.{effectAt, answering, carriedOut, programOf, setting, turned}
 use Rattle.machine.specs.declared.Kernel.{Kernel}
 use Rattle.machine.proofs.Operations.Answering.{answer-change}
 use Rattle.machine.proofs.Operations.Carrying.{assigns-here, ends-here, moves-local}

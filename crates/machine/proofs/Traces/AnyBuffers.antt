@@ -10,10 +10,12 @@ use lib.ListN.{length}
 use Rattle.buffer.proofs.Bools.{true-not-false}
 use Rattle.store.specs.Directory.{goodDisc, isDiscLength}
 use Rattle.store.specs.File.{unless}
-use Rattle.machine.specs.Answer.{Answer, Buffers, Call, store, retrieve, erase, run, files, freeSpace, list, command, turn, round}
-use Rattle.machine.specs.Answer.{answer, goodArea, onGood, refused}
+use Rattle.machine.specs.Answer.{Answer, Buffers, Other, store, retrieve, erase, files, freeSpace, list, Call, turn, round}
+use Rattle.machine.specs.Answer.{command, run, other}
+use Rattle.machine.specs.Answer.{answer, goodArea, onGood, otherAnswer, refused}
 use Rattle.machine.specs.Area.{isAreaLength, kernelOf}
 use Rattle.machine.specs.Isolation.{givesOut}
+use Rattle.machine.specs.Limits.{turnRoom}
 use Rattle.machine.specs.Refusals.{Passes}
 use Rattle.machine.specs.State.{slotOf}
 use Rattle.machine.specs.Trace.{Event, Invocation, Storage, answerOf, event, events, eventsBy, lending, onlyIf, roundEvents}
@@ -77,17 +79,18 @@ module _ (s : Storage) (out : List ℕ) (bad : Passes (s .disc) (s .area) → �
   unfolding Linked
   bad-event c rest text = inl (ap (λ (a : Answer). a .area) (bad-refused b rest bad .1), l)
 
+  other-linked : (o : Other) → Linked (event (other o) s (answer (other o) b) [] ∷ later)
+  unfolding answer otherAnswer Linked
+  other-linked (store name bytes) = inl (refl, l)
+  other-linked (retrieve name) = inl (refl, l)
+  other-linked (erase name) = bad-event (other (erase name)) _ []
+  other-linked files = inl (refl, l)
+  other-linked freeSpace = inl (refl, l)
+  other-linked list = bad-event (other list) _ []
+
   bad-linked : (c : Call) → Linked (eventsBy c out s (answer c b) ++ later)
   unfolding answer Linked
-  bad-linked (store name bytes) = inl (refl, l)
-  bad-linked (retrieve name) = inl (refl, l)
-  bad-linked (erase name) = bad-event (erase name) _ []
-  bad-linked (run name) = bad-event (run name) _ []
-  bad-linked files = inl (refl, l)
-  bad-linked freeSpace = inl (refl, l)
-  bad-linked list = bad-event list _ _
-  bad-linked (command c id) = bad-event (command c id) _ []
-  bad-linked (turn slot clock) = go (leb 32 (length out))
+  bad-linked (turn slot clock) = go (leb turnRoom (length out))
     where
       go : (f : Bool) → Linked (onlyIf f (event (turn slot clock) s (answer (turn slot clock) b) (outputText (answer (turn slot clock) b)))
           ++ later)
@@ -95,6 +98,9 @@ module _ (s : Storage) (out : List ℕ) (bad : Passes (s .disc) (s .area) → �
       go false = l
   bad-linked (round clock) =
       subst⁻¹ (λ (a : Answer). Linked (roundEvents (a .number) clock s (outputText a) ++ later)) (bad-refused b _ bad .1) l
+  bad-linked (command c id) = bad-event (command c id) _ []
+  bad-linked (run name) = bad-event (run name) _ []
+  bad-linked (other o) = other-linked o
 
 pub linked-of : (calls : List Invocation) (s : Storage) → Linked (events calls s)
 unfolding events Linked

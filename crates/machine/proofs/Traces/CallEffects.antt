@@ -13,14 +13,15 @@ use Rattle.buffer.specs.declared.Found.{Found}
 use Rattle.buffer.specs.declared.Found.the-variants.{At, Nowhere}
 use Rattle.buffer.proofs.Bools.{and-right, true-not-false}
 use Rattle.store.specs.Directory.{entryAt, lookup}
-use Rattle.store.specs.File.{unless}
 use Rattle.store.proofs.Calls.{store-cases}
 use Rattle.store.proofs.Lookups.{lookup-at}
 use Rattle.variable.specs.Table.{owned}
-use Rattle.machine.specs.Answer.{Answer, Buffers, Call, store, retrieve, erase, run, files, freeSpace, list, command, turn, round}
-use Rattle.machine.specs.Answer.{answer, commandAnswer, eraseAt, onDisc, refused, runAt}
+use Rattle.machine.specs.Answer.{Answer, Buffers, Other, store, retrieve, erase, files, freeSpace, list, Call, turn, round}
+use Rattle.machine.specs.Answer.{command, run, other}
+use Rattle.machine.specs.Answer.{answer, commandAnswer, eraseAt, onDisc, otherAnswer, runAt}
 use Rattle.machine.specs.Area.{kernelBytes, kernelOf}
 use Rattle.machine.specs.Isolation.{startName}
+use Rattle.machine.specs.Limits.{slotCount, turnRoom}
 use Rattle.machine.specs.Operations.{Command, Commanded, becomes, refused as declined, commanded, inUse, listText}
 use Rattle.machine.specs.Refusals.{Passes}
 use Rattle.machine.specs.Start.{Starting, starts, refuses, started, starting}
@@ -28,6 +29,7 @@ use Rattle.machine.specs.State.{isLive, isRunning, processAt, slotOf}
 use Rattle.machine.specs.Trace.{Storage, lending}
 use Rattle.machine.specs.Turn.{programOf}
 use Rattle.machine.specs.declared.Kernel.{Kernel}
+use Rattle.machine.proofs.Operations.Tests.{tried}
 use Rattle.machine.proofs.Changes.Change.{GoodState, Outside, stores, erases, begins, Own, Change}
 use Rattle.machine.proofs.Kept.ChangeKept.{NoWriteInto, Untouched, change-begun, change-gone, change-program, change-untouched}
 use Rattle.machine.proofs.Kept.ChangeKept.{gone-after}
@@ -46,39 +48,24 @@ use Rattle.machine.proofs.Changes.Slots.{slot-at}
 -- ---- facts asked of a turn alone, or of a command alone
 abbrev pub OfTurn : Call → (ℕ → ℕ → Type 0) → Type 0
 OfTurn (turn slot clock) fact = fact slot clock
-OfTurn (store name bytes) fact = Unit {0}
-OfTurn (retrieve name) fact = Unit {0}
-OfTurn (erase name) fact = Unit {0}
-OfTurn (run name) fact = Unit {0}
-OfTurn files fact = Unit {0}
-OfTurn freeSpace fact = Unit {0}
-OfTurn list fact = Unit {0}
-OfTurn (command c id) fact = Unit {0}
 OfTurn (round clock) fact = Unit {0}
+OfTurn (command c id) fact = Unit {0}
+OfTurn (run name) fact = Unit {0}
+OfTurn (other o) fact = Unit {0}
 
 abbrev pub OfCommand : Call → (ℕ → Type 0) → Type 0
-OfCommand (command c id) fact = fact id
-OfCommand (store name bytes) fact = Unit {0}
-OfCommand (retrieve name) fact = Unit {0}
-OfCommand (erase name) fact = Unit {0}
-OfCommand (run name) fact = Unit {0}
-OfCommand files fact = Unit {0}
-OfCommand freeSpace fact = Unit {0}
-OfCommand list fact = Unit {0}
 OfCommand (turn slot clock) fact = Unit {0}
 OfCommand (round clock) fact = Unit {0}
+OfCommand (command c id) fact = fact id
+OfCommand (run name) fact = Unit {0}
+OfCommand (other o) fact = Unit {0}
 
 abbrev pub isRound : Call → Bool
-isRound (store name bytes) = false
-isRound (retrieve name) = false
-isRound (erase name) = false
-isRound (run name) = false
-isRound files = false
-isRound freeSpace = false
-isRound list = false
-isRound (command c id) = false
 isRound (turn slot clock) = false
 isRound (round clock) = true
+isRound (command c id) = false
+isRound (run name) = false
+isRound (other o) = false
 
 -- what a call leaves: the state j and the disc after
 pub data Effects (s : Storage) (k j : Kernel) (after : List ℕ) : Call → Type 0 where
@@ -107,24 +94,20 @@ module _ (s : Storage) (out : List ℕ) (passes : Passes (s .disc) (s .area)) wh
       → Effects s k (kernelOf (kernelBytes j)) after c
   read-back c j after g e = subst⁻¹ (λ (h : Kernel). Effects s k h after c) (good-back j after g) e
 
-  tried : (c : Call) (test : Bool) (n : ℕ) (rest : Answer) → (test ≡ true → Leaves c rest) → Leaves c (unless test (refused n b) rest)
-  tried c true n rest h = h refl
-  tried c false n rest h = none refl refl
-
-  store-effects : (name bytes : List ℕ) → Leaves (store name bytes) (answer (store name bytes) b)
-  unfolding answer
+  store-effects : (name bytes : List ℕ) → Leaves (other (store name bytes)) (answer (other (store name bytes)) b)
+  unfolding answer otherAnswer
   store-effects name bytes =
-      store-cases (s .disc) name bytes (λ u. Leaves (store name bytes) (onDisc u b)) (λ r d. none refl refl)
+      store-cases (s .disc) name bytes (λ u. Leaves (other (store name bytes)) (onDisc u b)) (λ r d. none refl refl)
       (λ at l g a. outside (stores name bytes at a refl refl))
 
-  erase-effects : (name : List ℕ) → Leaves (erase name) (answer (erase name) b)
-  unfolding answer
-  erase-effects name = subst⁻¹ (Leaves (erase name)) (on-good b _ passes) (found (lookup (s .disc) name) refl)
+  erase-effects : (name : List ℕ) → Leaves (other (erase name)) (answer (other (erase name)) b)
+  unfolding answer otherAnswer
+  erase-effects name = subst⁻¹ (Leaves (other (erase name))) (on-good b _ passes) (found (lookup (s .disc) name) refl)
     where
-      found : (f : Found) → lookup (s .disc) name ≡ f → Leaves (erase name) (eraseAt f k b)
+      found : (f : Found) → lookup (s .disc) name ≡ f → Leaves (other (erase name)) (eraseAt f k b)
       found Nowhere e = none refl refl
       found (At i) e =
-          tried (erase name) (not (inUse k (entryAt (s .disc) i))) 11 _ λ free.
+          tried (Leaves (other (erase name))) b (not (inUse k (entryAt (s .disc) i))) 11 _ (none refl refl) λ free.
           outside (erases i (lookup-at (s .disc) name i e .inside) (not-true _ free) refl refl)
 
   run-effects : (name : List ℕ) → Leaves (run name) (answer (run name) b)
@@ -148,32 +131,35 @@ module _ (s : Storage) (out : List ℕ) (passes : Passes (s .disc) (s .area)) wh
           read-back (command c id) j (s .disc) (own-good (o .0) k (s .disc) j good (o .2))
           (alone (o .0) (slot-at k id (o .0) (o .1) .1) (o .1) (o .2) refl)
 
-  list-effects : Leaves list (answer list b)
-  unfolding answer
-  list-effects = subst⁻¹ (Leaves list) (on-good b _ passes) (tried list (leb (length (listText k)) (length out)) 4 _ λ fit. none refl refl)
+  list-effects : Leaves (other list) (answer (other list) b)
+  unfolding answer otherAnswer
+  list-effects = subst⁻¹ (Leaves (other list)) (on-good b _ passes) (tried (Leaves (other list)) b (leb (length (listText k)) (length out)) 4 _ (none refl refl) λ fit. none refl refl)
 
   turn-effects : (slot clock : ℕ) → Leaves (turn slot clock) (answer (turn slot clock) b)
   unfolding answer
   turn-effects slot clock =
       subst⁻¹ (Leaves (turn slot clock)) (on-good b _ passes)
-      (tried (turn slot clock) (leb 32 (length out)) 4 _ λ fit.
-      tried (turn slot clock) (ltb slot 10 && isRunning (processAt k slot)) 16 _ λ may.
-      let h : isRunning (processAt k slot) ≡ true = and-right (ltb slot 10) _ may in
+      (tried (Leaves (turn slot clock)) b (leb turnRoom (length out)) 4 _ (none refl refl) λ fit.
+      tried (Leaves (turn slot clock)) b (ltb slot slotCount && isRunning (processAt k slot)) 16 _ (none refl refl) λ may.
+      let h : isRunning (processAt k slot) ≡ true = and-right (ltb slot slotCount) _ may in
       read-back (turn slot clock) _ _ (turn-good k slot clock (s .disc) good h) (takes h (turn-is-change k slot clock (s .disc) good h)))
+
+  other-effects : (o : Other) → Leaves (other o) (answer (other o) b)
+  unfolding answer otherAnswer
+  other-effects (store name bytes) = store-effects name bytes
+  other-effects (retrieve name) = none refl refl
+  other-effects (erase name) = erase-effects name
+  other-effects files = none refl refl
+  other-effects freeSpace = none refl refl
+  other-effects list = list-effects
 
   pub call-effects : (c : Call) → isRound c ≡ false
       → Effects s (kernelOf (s .area)) (kernelOf (answer c (lending s out) .area)) (answer c (lending s out) .disc) c
-  unfolding answer
-  call-effects (store name bytes) h = store-effects name bytes
-  call-effects (retrieve name) h = none refl refl
-  call-effects (erase name) h = erase-effects name
-  call-effects (run name) h = run-effects name
-  call-effects files h = none refl refl
-  call-effects freeSpace h = none refl refl
-  call-effects list h = list-effects
-  call-effects (command c id) h = command-effects c id
   call-effects (turn slot clock) h = turn-effects slot clock
   call-effects (round clock) h = absurd (true-not-false refl h)
+  call-effects (command c id) h = command-effects c id
+  call-effects (run name) h = run-effects name
+  call-effects (other o) h = other-effects o
 
 -- ---- what follows for every other process
 -- the call is none of the process in slot own

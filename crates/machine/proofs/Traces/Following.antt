@@ -7,16 +7,17 @@ use mathlib.Core.List.{List, [], _++_}
 use lib.IntN.{pos}
 use lib.ListN.{length, replicate, take}
 use lib.Seq.{take-at}
-use Rattle.variable.specs.Assign.{assigned, newCell, valueBytes, withCell}
+use Rattle.variable.specs.Limits.{valueSize}
+use Rattle.variable.specs.Assign.{assigned, assignedCells, newCell, valueBytes, valueOf}
 use Rattle.variable.specs.Table.{Cell, owned}
 use Rattle.variable.specs.declared.Placing.{Placing}
 use Rattle.variable.specs.declared.Placing.the-variants.{Address}
 use Rattle.machine.specs.Effect.{goes, assigns}
 use Rattle.machine.specs.Exec.{exec}
 use Rattle.machine.specs.Observation.{seen, next, observedOf, seenIn, seenOf}
-use Rattle.machine.specs.Single.{Response, did, Single, advancedTo, assignedCells, inState, over, singleEffect}
+use Rattle.machine.specs.Single.{Response, did, Single, advancedTo, inState, over, singleEffect}
 use Rattle.machine.specs.State.{Local, ended, endedProcess, isLive, localOf, processAt, withLocal, withProcess, withState}
-use Rattle.machine.specs.Turn.{Turned, carriedOut, finished, programOf, setting, turned, valueOf}
+use Rattle.machine.specs.Turn.{Turned, carriedOut, finished, programOf, setting, turned}
 use Rattle.machine.specs.declared.Kernel.{Kernel}
 use Rattle.machine.specs.declared.Process.{Process}
 use Rattle.machine.proofs.Changes.Change.{GoodState}
@@ -154,17 +155,20 @@ module _ (i : ℕ) (prog : List ℕ) (k : Kernel) (disc : List ℕ) (s : Single)
 
   -- ---- SET
   module _ (name kind : ℕ) (bytes : List ℕ) (l : Local) where
+    abbrev cell : List ℕ → Cell
+    cell value = record { name = name; kind = kind; bytes = value }
+
     value-bytes : valueBytes (valueOf kind bytes) ≡ bytes
-    value-bytes = take-at bytes (replicate (32 - length bytes) 0) (length bytes) refl
+    value-bytes = take-at bytes (replicate (valueSize - length bytes) 0) (length bytes) refl
 
     set-cells : (a : ℕ) → assigned (k .variables) name (p .id) (valueOf kind bytes) .placing ≡ Address a
-        → owned (assigned (k .variables) name (p .id) (valueOf kind bytes) .variables) i ≡ assignedCells (s .cells) name kind bytes
-    unfolding withCell
+        → owned (assigned (k .variables) name (p .id) (valueOf kind bytes) .variables) i ≡ assignedCells (s .cells) (cell bytes)
+    unfolding assignedCells
     set-cells a e =
-        subst (λ (id : ℕ). owned (assigned (k .variables) name (p .id) (valueOf kind bytes) .variables) id ≡ withCell
+        subst (λ (id : ℕ). owned (assigned (k .variables) name (p .id) (valueOf kind bytes) .variables) id ≡ assignedCells
         (owned (k .variables) (p .id)) (newCell name (valueOf kind bytes)))
         (x .named) (set-variables k disc good name (p .id) (valueOf kind bytes) a (ap length value-bytes) e)
-        ∙ (λ t. assignedCells (own-cells t) name kind (value-bytes t))
+        ∙ (λ t. assignedCells (own-cells t) (cell (value-bytes t)))
 
     -- "A SET without fault drops the old variable, then adds the new one"
     pub own-sets : (a : ℕ) → assigned (k .variables) name (p .id) (valueOf kind bytes) .placing ≡ Address a
@@ -174,7 +178,7 @@ module _ (i : ℕ) (prog : List ℕ) (k : Kernel) (disc : List ℕ) (s : Single)
         subst⁻¹ (λ (q : Placing).
         Agrees i prog (x .slot) s (setting k (x .slot) disc q (assigned (k .variables) name (p .id) (valueOf kind bytes) .variables) l)
         (singleEffect s (assigns name kind bytes l)))
-        e (moved-agrees _ l (assignedCells (s .cells) name kind bytes) [] (put-at k (x .slot) (withLocal p l) (x .live)) (set-cells a e))
+        e (moved-agrees _ l (assignedCells (s .cells) (cell bytes)) [] (put-at k (x .slot) (withLocal p l) (x .live)) (set-cells a e))
 
   -- ---- suspend and resume
   pub own-state : (state : ℕ) → isLive (withState p state) ≡ true

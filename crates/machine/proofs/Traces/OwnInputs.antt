@@ -12,6 +12,7 @@ use borrow.Author.Tests.{eq-eqb, eqb-true, lt-ltb}
 use Rattle.buffer.specs.declared.Found.{Found}
 use Rattle.buffer.specs.declared.Found.the-variants.{At}
 use Rattle.variable.specs.Table.{owned}
+use Rattle.variable.specs.Assign.{valueOf}
 use Rattle.machine.specs.Answer.{Answer, Buffers, Call, command, turn, answer, commandAnswer, refused, turnedAnswer}
 use Rattle.machine.specs.Area.{kernelBytes, kernelOf}
 use Rattle.machine.specs.Effect.{Effect, goes, assigns, stops, faults, asks}
@@ -24,7 +25,7 @@ use Rattle.machine.specs.Refusals.{Passes}
 use Rattle.machine.specs.Single.{tick, given, Response, did, refusedBy, Single, inState, over, single, singleCommand, singleEffect}
 use Rattle.machine.specs.State.{slotOf, ended, isLive, isRunning, paused, processAt, running, withProcess, withState}
 use Rattle.machine.specs.Trace.{Storage, event, lending, outputText}
-use Rattle.machine.specs.Turn.{Turned, carriedOut, turned, valueOf}
+use Rattle.machine.specs.Turn.{Turned, carriedOut, turned}
 use Rattle.machine.specs.declared.Kernel.{Kernel}
 use Rattle.machine.specs.declared.Process.{Process}
 use Rattle.machine.proofs.Changes.Change.{GoodState}

@@ -13,10 +13,11 @@ use Rattle.buffer.specs.declared.Found.{Found}
 use Rattle.buffer.specs.declared.Found.the-variants.{At, Nowhere}
 use Rattle.buffer.proofs.Bools.{and-right}
 use Rattle.store.specs.Directory.{entryAt, lookup}
-use Rattle.store.specs.File.{unless}
-use Rattle.machine.specs.Answer.{Answer, Buffers, Call, store, retrieve, erase, run, files, freeSpace, list, command, turn, round}
-use Rattle.machine.specs.Answer.{answer, commandAnswer, eraseAt, onGood, refused, runAt, turnedAnswer}
+use Rattle.machine.specs.Answer.{Answer, Buffers, Other, store, retrieve, erase, files, freeSpace, list, Call, turn, round}
+use Rattle.machine.specs.Answer.{command, run, other}
+use Rattle.machine.specs.Answer.{answer, commandAnswer, eraseAt, onGood, otherAnswer, refused, runAt, turnedAnswer}
 use Rattle.machine.specs.Area.{AreBytes, Whole, isAreaLength, kernelBytes, kernelOf}
+use Rattle.machine.specs.Limits.{areaLength, roundRoom, slotCount, turnRoom}
 use Rattle.machine.specs.Operations.{Command, Commanded, becomes, refused as declined, commanded, inUse, listText, slots, turnsOf}
 use Rattle.machine.specs.Refusals.{Passes}
 use Rattle.machine.specs.Start.{Starting, starts, refuses, started, starting}
@@ -25,6 +26,7 @@ use Rattle.machine.specs.Trace.{Event, Invocation, Storage, afterCalls, 
 use Rattle.machine.specs.Trace.{onlyIf, outputText, roundEvents, storageOf, tenSlots}
 use Rattle.machine.specs.Turn.{Turned, turned}
 use Rattle.machine.specs.declared.Kernel.{Kernel}
+use Rattle.machine.proofs.Operations.Tests.{tried}
 use Rattle.machine.proofs.Traces.AnyBuffers.{bad-refused, passes-or-not}
 use Rattle.machine.proofs.Bytes.Area.{kernel-encode-decode}
 use Rattle.machine.proofs.Traces.Chains.{short-round, short-turn}
@@ -50,18 +52,22 @@ module _ (s : Storage) (out : List ℕ) where
     state-bytes : (j : Kernel) (disc : List ℕ) → GoodState j disc → a .area ≡ kernelBytes j → Written a
 
   -- on buffers that are not good it stays
+  bad-other : (Passes (s .disc) (s .area) → ⊥) → (o : Other) → answer (other o) b .area ≡ s .area
+  unfolding answer otherAnswer
+  bad-other bad (store name bytes) = refl
+  bad-other bad (retrieve name) = refl
+  bad-other bad (erase name) = ap (λ (a : Answer). a .area) (bad-refused b _ bad .1)
+  bad-other bad files = refl
+  bad-other bad freeSpace = refl
+  bad-other bad list = ap (λ (a : Answer). a .area) (bad-refused b _ bad .1)
+
   bad-area : (Passes (s .disc) (s .area) → ⊥) → (c : Call) → answer c b .area ≡ s .area
   unfolding answer
-  bad-area bad (store name bytes) = refl
-  bad-area bad (retrieve name) = refl
-  bad-area bad (erase name) = ap (λ (a : Answer). a .area) (bad-refused b _ bad .1)
-  bad-area bad (run name) = ap (λ (a : Answer). a .area) (bad-refused b _ bad .1)
-  bad-area bad files = refl
-  bad-area bad freeSpace = refl
-  bad-area bad list = ap (λ (a : Answer). a .area) (bad-refused b _ bad .1)
-  bad-area bad (command c id) = ap (λ (a : Answer). a .area) (bad-refused b _ bad .1)
   bad-area bad (turn slot clock) = ap (λ (a : Answer). a .area) (bad-refused b _ bad .1)
   bad-area bad (round clock) = ap (λ (a : Answer). a .area) (bad-refused b _ bad .1)
+  bad-area bad (command c id) = ap (λ (a : Answer). a .area) (bad-refused b _ bad .1)
+  bad-area bad (run name) = ap (λ (a : Answer). a .area) (bad-refused b _ bad .1)
+  bad-area bad (other o) = bad-other bad o
 
   module _ (passes : Passes (s .disc) (s .area)) where
     abbrev k : Kernel
@@ -70,16 +76,12 @@ module _ (s : Storage) (out : List ℕ) where
     good : GoodState k (s .disc)
     good = passes-good (s .disc) (s .area) passes
 
-    tried : (test : Bool) (n : ℕ) (rest : Answer) → (test ≡ true → Written rest) → Written (unless test (refused n b) rest)
-    tried true n rest h = h refl
-    tried false n rest h = as-it-was refl
-
     after-good : (rest : Answer) → Written rest → Written (onGood b rest)
     after-good rest w = subst⁻¹ Written (on-good b rest passes) w
 
     erased-area : (f : Found) → Written (eraseAt f k b)
     erased-area Nowhere = as-it-was refl
-    erased-area (At i) = tried (not (inUse k (entryAt (s .disc) i))) 11 _ λ free. as-it-was refl
+    erased-area (At i) = tried Written b (not (inUse k (entryAt (s .disc) i))) 11 _ (as-it-was refl) λ free. as-it-was refl
 
     run-area : (name : List ℕ) (x : Starting) → starting k (s .disc) name ≡ x → Written (runAt x k b)
     run-area name (refuses n) e = as-it-was refl
@@ -91,27 +93,31 @@ module _ (s : Storage) (out : List ℕ) where
     command-area c id (becomes j) e = let o = command-own good c id j e in
         state-bytes j (s .disc) (own-good (o .0) k (s .disc) j good (o .2)) refl
 
+    good-other : (o : Other) → Written (answer (other o) b)
+    unfolding answer otherAnswer
+    good-other (store name bytes) = as-it-was refl
+    good-other (retrieve name) = as-it-was refl
+    good-other (erase name) = after-good _ (erased-area (lookup (s .disc) name))
+    good-other files = as-it-was refl
+    good-other freeSpace = as-it-was refl
+    good-other list = after-good _ (tried Written b (leb (length (listText k)) (length out)) 4 _ (as-it-was refl) λ fit. as-it-was refl)
+
     good-area : (c : Call) → Written (answer c b)
     unfolding answer
-    good-area (store name bytes) = as-it-was refl
-    good-area (retrieve name) = as-it-was refl
-    good-area (erase name) = after-good _ (erased-area (lookup (s .disc) name))
-    good-area (run name) = after-good _ (run-area name (starting k (s .disc) name) refl)
-    good-area files = as-it-was refl
-    good-area freeSpace = as-it-was refl
-    good-area list = after-good _ (tried (leb (length (listText k)) (length out)) 4 _ λ fit. as-it-was refl)
-    good-area (command c id) = after-good _ (command-area c id (commanded c id k) refl)
     good-area (turn slot clock) =
         after-good _
-        (tried (leb 32 (length out)) 4 _ λ fit.
-        tried (ltb slot 10 && isRunning (processAt k slot)) 16 _ λ may.
+        (tried Written b (leb turnRoom (length out)) 4 _ (as-it-was refl) λ fit.
+        tried Written b (ltb slot slotCount && isRunning (processAt k slot)) 16 _ (as-it-was refl) λ may.
         state-bytes (turned k slot clock (s .disc) .kernel) (turned k slot clock (s .disc) .disc)
-        (turn-good k slot clock (s .disc) good (and-right (ltb slot 10) _ may)) refl)
+        (turn-good k slot clock (s .disc) good (and-right (ltb slot slotCount) _ may)) refl)
     good-area (round clock) =
         after-good _
-        (tried (leb 320 (length out)) 4 _ λ fit.
+        (tried Written b (leb roundRoom (length out)) 4 _ (as-it-was refl) λ fit.
         state-bytes (turnsOf slots k clock (s .disc) .kernel) (turnsOf slots k clock (s .disc) .disc)
         (turns-good slots k clock (s .disc) good) refl)
+    good-area (command c id) = after-good _ (command-area c id (commanded c id k) refl)
+    good-area (run name) = after-good _ (run-area name (starting k (s .disc) name) refl)
+    good-area (other o) = good-other o
 
   -- both facts of an area that a call keeps: that it is whole, and that it is where it has the right length
   area-kept : (P : List ℕ → Type 0) → ((j : Kernel) (disc : List ℕ) → GoodState j disc → P (kernelBytes j)) → (c : Call) → P (s .area)
@@ -137,15 +143,15 @@ module _ (s : Storage) (out : List ℕ) where
   refused-ends n a e = sym (ap storageOf e)
 
   turn-ends : (slot clock : ℕ)
-      → Ends (onlyIf (leb 32 (length out))
+      → Ends (onlyIf (leb turnRoom (length out))
       (event (turn slot clock) s (answer (turn slot clock) b) (outputText (answer (turn slot clock) b)))) (answer (turn slot clock) b)
   unfolding lastStorage answer
-  turn-ends slot clock = go (leb 32 (length out)) refl (passes-or-not (s .disc) (s .area))
+  turn-ends slot clock = go (leb turnRoom (length out)) refl (passes-or-not (s .disc) (s .area))
     where
       a : Answer
       a = answer (turn slot clock) b
 
-      go : (f : Bool) → leb 32 (length out) ≡ f → Passes (s .disc) (s .area) ⊎ (Passes (s .disc) (s .area) → ⊥)
+      go : (f : Bool) → leb turnRoom (length out) ≡ f → Passes (s .disc) (s .area) ⊎ (Passes (s .disc) (s .area) → ⊥)
           → Ends (onlyIf f (event (turn slot clock) s a (outputText a))) a
       go true h p = refl
       go false h (inl passes) = refused-ends 4 a (short-turn s out passes slot clock h)
@@ -154,7 +160,7 @@ module _ (s : Storage) (out : List ℕ) where
   round-ends : (clock : ℕ) → Sound (s .area)
       → Ends (roundEvents (answer (round clock) b .number) clock s (outputText (answer (round clock) b))) (answer (round clock) b)
   unfolding lastStorage answer all
-  round-ends clock whole = go (leb 320 (length out)) refl (passes-or-not (s .disc) (s .area))
+  round-ends clock whole = go (leb roundRoom (length out)) refl (passes-or-not (s .disc) (s .area))
     where
       u : Turned
       u = turnsOf slots (kernelOf (s .area)) clock (s .disc)
@@ -165,7 +171,7 @@ module _ (s : Storage) (out : List ℕ) where
       short : (n : ℕ) → answer (round clock) b ≡ refused (suc n) b → Right (answer (round clock) b)
       short n e = subst⁻¹ Right e refl
 
-      go : (f : Bool) → leb 320 (length out) ≡ f → Passes (s .disc) (s .area) ⊎ (Passes (s .disc) (s .area) → ⊥)
+      go : (f : Bool) → leb roundRoom (length out) ≡ f → Passes (s .disc) (s .area) ⊎ (Passes (s .disc) (s .area) → ⊥)
           → Right (answer (round clock) b)
       go f h (inr bad) = let r = bad-refused b _ bad in short (r .0) (r .1)
       go false h (inl passes) = short 3 (short-round s out passes clock h)
@@ -175,16 +181,11 @@ module _ (s : Storage) (out : List ℕ) where
 
   call-ends : (c : Call) → Sound (s .area) → Ends (eventsBy c out s (answer c b)) (answer c b)
   unfolding lastStorage
-  call-ends (store name bytes) h = refl
-  call-ends (retrieve name) h = refl
-  call-ends (erase name) h = refl
-  call-ends (run name) h = refl
-  call-ends files h = refl
-  call-ends freeSpace h = refl
-  call-ends list h = refl
-  call-ends (command c id) h = refl
   call-ends (turn slot clock) h = turn-ends slot clock
   call-ends (round clock) h = round-ends clock h
+  call-ends (command c id) h = refl
+  call-ends (run name) h = refl
+  call-ends (other o) h = refl
 
 last-append : (s : Storage) (xs ys : List Event) → lastStorage s (xs ++ ys) ≡ lastStorage (lastStorage s xs) ys
 unfolding lastStorage
@@ -200,7 +201,7 @@ run-ends (i ∷ calls) s h =
     ∙ ap (λ (t : Storage). lastStorage t (events calls (storageOf a))) (call-ends s (i .out) (i .call) h)
     ∙ run-ends calls (storageOf a) (sound-kept s (i .out) (i .call) h)
 
-pub bytes-whole : (area : List ℕ) → AreBytes area → length area ≡ 1056 → Whole area
+pub bytes-whole : (area : List ℕ) → AreBytes area → length area ≡ areaLength → Whole area
 bytes-whole = kernel-encode-decode
 
 pub run-is-events : (calls : List Invocation) (s : Storage) → AreBytes (s .area) → lastStorage s (events calls s) ≡ afterCalls calls s

@@ -7,7 +7,7 @@ use lib.Dec.{leb}
 use lib.ListN.{length}
 use lib.Seq.{take-at}
 use Rattle.buffer.specs.Lists.{all}
-use Rattle.machine.specs.Answer.{Answer, Buffers, Call, store, retrieve, erase, run, files, freeSpace, list, command, turn, round}
+use Rattle.machine.specs.Answer.{Answer, Buffers, Call, turn, round, command, run, other}
 use Rattle.machine.specs.Answer.{answer, turnedAnswer}
 use Rattle.machine.specs.Area.{kernelOf}
 use Rattle.machine.specs.Operations.{slots, turnsOf}
@@ -53,16 +53,11 @@ module _ (s : Storage) (out : List ℕ) (passes : Passes (s .disc) (s .area)) wh
   call-leads : (c : Call)
       → Leads (kernelOf (s .area)) (s .disc) (eventsBy c out s (answer c (lending s out))) (kernelOf (answer c (lending s out) .area))
       (answer c (lending s out) .disc)
-  call-leads (store name bytes) = one-event s out passes (store name bytes) [] (record { turns = tt; commands = tt; single = refl })
-  call-leads (retrieve name) = one-event s out passes (retrieve name) _ (record { turns = tt; commands = tt; single = refl })
-  call-leads (erase name) = one-event s out passes (erase name) [] (record { turns = tt; commands = tt; single = refl })
-  call-leads (run name) = one-event s out passes (run name) [] (record { turns = tt; commands = tt; single = refl })
-  call-leads files = one-event s out passes files _ (record { turns = tt; commands = tt; single = refl })
-  call-leads freeSpace = one-event s out passes freeSpace [] (record { turns = tt; commands = tt; single = refl })
-  call-leads list = one-event s out passes list _ (record { turns = tt; commands = tt; single = refl })
-  call-leads (command c id) = one-event s out passes (command c id) [] (record { turns = tt; commands = refl; single = refl })
   call-leads (turn slot clock) = turn-leads s out passes slot clock
   call-leads (round clock) = round-leads clock
+  call-leads (command c id) = one-event s out passes (command c id) [] (record { turns = tt; commands = refl; single = refl })
+  call-leads (run name) = one-event s out passes (run name) [] (record { turns = tt; commands = tt; single = refl })
+  call-leads (other o) = one-event s out passes (other o) [] (record { turns = tt; commands = tt; single = refl })
 
 -- ---- a run from good buffers
 pub chain-of : (calls : List Invocation) (s : Storage) → Passes (s .disc) (s .area) → Chain (kernelOf (s .area)) (s .disc) (events calls s)

@@ -12,13 +12,14 @@ use Rattle.buffer.specs.declared.Found.{Found}
 use Rattle.buffer.specs.declared.Found.the-variants.{At}
 use Rattle.buffer.proofs.Bools.{and-false-right, and-both, true-not-false}
 use Rattle.variable.specs.Table.{Cell, owned}
-use Rattle.machine.specs.Answer.{Answer, Buffers, Call, store, retrieve, erase, run, files, freeSpace, list, command, turn, round}
+use Rattle.machine.specs.Answer.{Answer, Buffers, Call, turn, round, command, run, other}
 use Rattle.machine.specs.Answer.{answer}
 use Rattle.machine.specs.Area.{kernelOf}
 use Rattle.machine.specs.Suppositions.{disturbedBy, executedBy, isBarred, isDoneBy, setLacks, turnDisturbs, turnDisturbsAt}
 use Rattle.machine.specs.Suppositions.{writeLands}
 use Rattle.machine.specs.Observation.{inputIf, inputOf, isAt, next, observedBy, observedOf, placeIn}
 use Rattle.machine.specs.Operations.{Command}
+use Rattle.machine.specs.Limits.{slotCount, turnRoom}
 use Rattle.machine.specs.Refusals.{Passes}
 use Rattle.machine.specs.Single.{Input, tick, given, Single, single}
 use Rattle.machine.specs.State.{isLive, isRunning, processAt}
@@ -42,7 +43,7 @@ use Rattle.machine.proofs.Changes.Slots.{live-below-ten, place-is-slot,
 -- what an event reports of the call it is: a turn is lent enough, and its text is what stands in the lent output; a command has none; a
 -- round is no event
 pub record Reports (c : Call) (out : List ℕ) (a : Answer) (text : List ℕ) : Type 0 where
-  pub turns : OfTurn c (λ slot clock. (leb 32 (length out) ≡ true) × (text ≡ outputText a))
+  pub turns : OfTurn c (λ slot clock. (leb turnRoom (length out) ≡ true) × (text ≡ outputText a))
   pub commands : OfCommand c (λ id. text ≡ [])
   pub single : isRound c ≡ false
 
@@ -91,9 +92,9 @@ own-undisturbed i own slot clock e same h =
 other-undisturbed : (i own slot clock : ℕ) (e : Event) → (own ≡ slot → ⊥) → turnDisturbs i own slot clock e ≡ false
     → writeLands own slot e ≡ false
 unfolding turnDisturbs
-other-undisturbed i own slot clock e other h =
+other-undisturbed i own slot clock e away h =
     other-half (eqb own slot) (isBarred (executedBy (e .before) slot)) (setLacks i slot clock (e .before)) (writeLands own slot e)
-    (ne-eqb _ _ other) h
+    (ne-eqb _ _ away) h
 
 module _ (i : ℕ) (prog : List ℕ) (s : Storage) (out : List ℕ) (q : Single) (passes : Passes (s .disc) (s .area)) where
   abbrev k : Kernel
@@ -147,7 +148,7 @@ module _ (i : ℕ) (prog : List ℕ) (s : Storage) (out : List ℕ) (q : Single)
           (λ x. (record { turns = tt; commands = λ at. eqb-false id i e (sym (slot-at k id (x .slot) at .2) ∙ x .named) }, tt)) t
 
   -- ---- turns
-  module _ (slot clock : ℕ) (room : leb 32 (length out) ≡ true) where
+  module _ (slot clock : ℕ) (room : leb turnRoom (length out) ≡ true) where
     abbrev a : Answer
     a = answer (turn slot clock) b
 
@@ -157,7 +158,7 @@ module _ (i : ℕ) (prog : List ℕ) (s : Storage) (out : List ℕ) (q : Single)
     -- a turn of a running slot is done
     done : isRunning (processAt k slot) ≡ true → isDoneBy (a .number) ≡ true
     done h = ap (λ (r : Answer). isDoneBy (r .number))
-        (turn-running b slot clock passes room (lt-ltb slot 10 (live-below-ten good slot (running-live (processAt k slot) h))) h)
+        (turn-running b slot clock passes room (lt-ltb slot slotCount (live-below-ten good slot (running-live (processAt k slot) h))) h)
 
     -- what is supposed, of a turn that is done
     supposed : (x : Follows i prog k (s .disc) q) → isDoneBy (a .number) && turnDisturbsAt i (placeIn s i) slot clock e ≡ false
@@ -190,9 +191,9 @@ module _ (i : ℕ) (prog : List ℕ) (s : Storage) (out : List ℕ) (q : Single)
         && turnDisturbsAt i (placeIn s i) slot clock e ≡ false
         → isRunning (processAt k slot) ≡ true → NoWriteInto (x .slot) slot k (s .disc) (after (turn slot clock))
     unfolding writeLands
-    no-write x other h r byte live start len =
+    no-write x away h r byte live start len =
         true-not-false (and-both (eq-eqb _ _ byte) (and-both live (and-both (eq-eqb _ _ start) (eq-eqb _ _ len))))
-        (other-undisturbed i (x .slot) slot clock e other (supposed x h r))
+        (other-undisturbed i (x .slot) slot clock e away (supposed x h r))
 
     turn-step : Tracks i prog k (s .disc) q → isDoneBy (a .number) && turnDisturbsAt i (placeIn s i) slot clock e ≡ false
         → Keeps i prog q e (inputIf (isAt (placeIn s i) slot) (tick clock))
@@ -211,13 +212,6 @@ module _ (i : ℕ) (prog : List ℕ) (s : Storage) (out : List ℕ) (q : Single)
   pub step : (c : Call) (text : List ℕ) → Reports c out (answer c b) text → Tracks i prog k (s .disc) q
       → disturbedBy i c (event c s (answer c b) text) ≡ false
       → Keeps i prog q (event c s (answer c b) text) (inputOf i c (placeIn s i))
-  step (store name bytes) text r t h = kept (store name bytes) refl (λ x. (record { turns = tt; commands = tt }, tt)) t
-  step (retrieve name) text r t h = kept (retrieve name) refl (λ x. (record { turns = tt; commands = tt }, tt)) t
-  step (erase name) text r t h = kept (erase name) refl (λ x. (record { turns = tt; commands = tt }, tt)) t
-  step (run name) text r t h = kept (run name) refl (λ x. (record { turns = tt; commands = tt }, tt)) t
-  step files text r t h = kept files refl (λ x. (record { turns = tt; commands = tt }, tt)) t
-  step freeSpace text r t h = kept freeSpace refl (λ x. (record { turns = tt; commands = tt }, tt)) t
-  step list text r t h = kept list refl (λ x. (record { turns = tt; commands = tt }, tt)) t
   step (command c id) text r t h =
       subst⁻¹ (λ (l : List ℕ). Keeps i prog q (event (command c id) s (answer (command c id) b) l) (inputIf (eqb id i) (given c)))
       (r .commands) (command-step c id t)
@@ -229,3 +223,5 @@ module _ (i : ℕ) (prog : List ℕ) (s : Storage) (out : List ℕ) (q : Single)
       (subst (λ (l : List ℕ). disturbedBy i (turn slot clock) (event (turn slot clock) s (answer (turn slot clock) b) l) ≡ false)
       (r .turns .1) h))
   step (round clock) text r t h = absurd (true-not-false refl (r .single))
+  step (run name) text r t h = kept (run name) refl (λ x. (record { turns = tt; commands = tt }, tt)) t
+  step (other o) text r t h = kept (other o) refl (λ x. (record { turns = tt; commands = tt }, tt)) t
