@@ -30,7 +30,7 @@ use Rattle.store.specs.Name.{goodField, goodName, trimmed}
 use Rattle.variable.specs.Assign.{assignedCells, added, assigned, placeFor, placing}
 use Rattle.variable.specs.Good.{beside as besideVariable, goodSize, goodVariable, goodVariables}
 use Rattle.variable.specs.Table.{freed, owned}
-use Rattle.machine.specs.Answer.{answer, files, goodArea, otherAnswer}
+use Rattle.machine.specs.Answer.{answer, files, goodArea, other, otherAnswer}
 use Rattle.machine.specs.Area.{kernelBytes, kernelOf, variablesOf}
 use Rattle.machine.specs.Beyond.{answered}
 use Rattle.machine.specs.Effect.{operates, settle}
@@ -52,7 +52,7 @@ use Rattle.machine.proofs.Traces.Isolated.{isolated}
 
 -- ---- what is computed of a run: the n-th event starts the process i
 none : Event
-none = event files empty (record { number = negsuc 0; disc = []; area = []; out = [] }) []
+none = event (other files) empty (record { number = negsuc 0; disc = []; area = []; out = [] }) []
 
 record Computed (i n : ℕ) (calls : List Invocation) (rest : List Event) : Type 0 where
   rest-is : rest ≡ drop (suc n) (events calls empty)

@@ -6,8 +6,10 @@ use mathlib.Core.Path.{_≡_}
 use mathlib.Core.List.{List, [], _∷_}
 use lib.IntN.{pos}
 use lib.ListN.{drop, getD, length, replicate}
-use Rattle.machine.specs.Answer.{Call, store, run, command, turn, round, booted}
+use Rattle.store.specs.Layout.{discLength}
+use Rattle.machine.specs.Answer.{Call, turn, round, command, run, other, store, booted}
 use Rattle.machine.specs.Isolation.{Started}
+use Rattle.machine.specs.Limits.{roundRoom}
 use Rattle.machine.specs.Suppositions.{Undisturbed}
 use Rattle.machine.specs.Observation.{Observation, declined, seen, inputs, notRefused, observations, watch}
 use Rattle.machine.specs.Operations.{suspend, resume, kill}
@@ -31,25 +33,27 @@ abbrev pub starter : List ℕ
 starter = 3 ∷ 99 ∷ 0 ∷ 68 ∷ 67 ∷ []
 
 abbrev pub empty : Storage
-empty = record { disc = replicate 1024 0; area = booted }
+empty = record { disc = replicate discLength 0; area = booted }
 
 abbrev pub lend : Call → Invocation
-lend c = record { call = c; out = replicate 320 0 }
+lend c = record { call = c; out = replicate roundRoom 0 }
+
+abbrev pub storing : List ℕ → List ℕ → Invocation
+storing name bytes = lend (other (store name bytes))
 
 -- ID 1 in slot 0, turn by turn; a second suspend and a kill after the end are refused
 abbrev pub alone : List Invocation
 alone =
-    lend (store (104 ∷ []) hours) ∷ lend (run (104 ∷ [])) ∷
+    storing (104 ∷ []) hours ∷ lend (run (104 ∷ [])) ∷
     lend (turn 0 1) ∷ lend (command suspend 1) ∷ lend (command suspend 1) ∷ lend (command resume 1) ∷
-    lend (turn 0 2) ∷ lend (turn 0 3) ∷ lend (turn 0 4) ∷ lend (turn 0 5) ∷ lend (turn 0 6) ∷ lend (turn 0 7) ∷ lend
-    (command kill 1) ∷ []
+    lend (turn 0 2) ∷ lend (turn 0 3) ∷ lend (turn 0 4) ∷ lend (turn 0 5) ∷ lend (turn 0 6) ∷ lend (turn 0 7) ∷
+    lend (command kill 1) ∷ []
 
 -- ID 5 in slot 4, by rounds: in the second one the meddler forks ID 4 and the starter ID 5, which has its first turn in
 -- that round
 abbrev pub beside : List Invocation
 beside =
-    lend (store (108 ∷ []) lamp) ∷ lend (store (109 ∷ []) meddler) ∷ lend (store (99 ∷ []) hours) ∷ lend
-    (store (115 ∷ []) starter) ∷
+    storing (108 ∷ []) lamp ∷ storing (109 ∷ []) meddler ∷ storing (99 ∷ []) hours ∷ storing (115 ∷ []) starter ∷
     lend (run (108 ∷ [])) ∷ lend (run (109 ∷ [])) ∷ lend (run (115 ∷ [])) ∷
     lend (round 50) ∷ lend (round 1) ∷ lend (command suspend 5) ∷ lend (round 99) ∷ lend (command resume 5) ∷
     lend (round 2) ∷ lend (round 3) ∷ lend (round 4) ∷ lend (round 5) ∷ lend (round 6) ∷ lend (round 7) ∷ []

@@ -51,7 +51,10 @@ processOf b =
       stack = part b stackAt stackSize;
     }
 
--- the twenty bytes between name and stack
+-- between name and stack
+abbrev pub registerSize : ℕ
+registerSize = 20
+
 abbrev pub registerBytes : Process → List ℕ
 registerBytes p =
     wordBytes (p .id) ++ (p .state ∷ p .fault ∷ []) ++ wordBytes (p .code .start) ++ wordBytes (p .code .len)

@@ -11,7 +11,9 @@ use Rattle.buffer.specs.Lists.{flat, tab}
 use Rattle.buffer.proofs.Buffer.{word-split}
 use Rattle.buffer.proofs.Parts.{part-length, part-of-append-left, part-split}
 use Rattle.variable.specs.Table.{noVariable}
+use Rattle.variable.specs.Limits.{maxVariables, memorySize}
 use Rattle.machine.specs.Area.{AreBytes, kernelBytes, kernelOf, processBytes, processOf, variableBytes, variableOf, variablesOf}
+use Rattle.machine.specs.Limits.{areaLength, countAt, entriesAt, entrySize, nextAt, recordSize, recordsAt, slotCount, zerosAt, zerosSize}
 use Rattle.machine.specs.State.{noProcess}
 use Rattle.machine.specs.declared.Kernel.{Kernel}
 use Rattle.machine.specs.declared.Process.{Process}
@@ -21,24 +23,24 @@ use Rattle.machine.proofs.Bytes.Records.{variable-encode-decode, variab
 use Rattle.machine.proofs.Bytes.Sizes.{Sized}
 
 -- ---- an area, read and written again
-module _ (area : List ℕ) (bytes : AreBytes area) (size : length area ≡ 1056) where
-  entries : flat variableBytes (kernelOf area .variables .entries) ≡ part area 256 150
+module _ (area : List ℕ) (bytes : AreBytes area) (size : length area ≡ areaLength) where
+  entries : flat variableBytes (kernelOf area .variables .entries) ≡ part area entriesAt (maxVariables * entrySize)
   unfolding kernelOf
   entries =
-      table-encode-decode variableBytes variableOf 6 area 256 25
-      (λ i h. variable-encode-decode (part area (256 + i * 6) 6) (part-bytes area (256 + i * 6) 6 (omega arith) bytes)
-      (part-length area (256 + i * 6) 6 (omega arith)))
+      table-encode-decode variableBytes variableOf entrySize area entriesAt maxVariables
+      (λ i h. variable-encode-decode (part area (entriesAt + i * entrySize) entrySize) (part-bytes area (entriesAt + i * entrySize) entrySize (omega arith) bytes)
+      (part-length area (entriesAt + i * entrySize) entrySize (omega arith)))
 
-  processes : flat processBytes (kernelOf area .processes) ≡ part area 416 640
+  processes : flat processBytes (kernelOf area .processes) ≡ part area recordsAt (slotCount * recordSize)
   unfolding kernelOf
   processes =
-      table-encode-decode processBytes processOf 64 area 416 10
-      (λ i h. process-encode-decode (part area (416 + i * 64) 64) (part-bytes area (416 + i * 64) 64 (omega arith) bytes)
-      (part-length area (416 + i * 64) 64 (omega arith)))
+      table-encode-decode processBytes processOf recordSize area recordsAt slotCount
+      (λ i h. process-encode-decode (part area (recordsAt + i * recordSize) recordSize) (part-bytes area (recordsAt + i * recordSize) recordSize (omega arith) bytes)
+      (part-length area (recordsAt + i * recordSize) recordSize (omega arith)))
 
-  count : (getD area 406 0 ∷ []) ≡ part area 406 1
+  count : (getD area countAt 0 ∷ []) ≡ part area countAt 1
   unfolding tab
-  count = spelled area 406 1 (omega arith)
+  count = spelled area countAt 1 (omega arith)
 
   pub kernel-encode-decode : kernelBytes (kernelOf area) ≡ area
   unfolding kernelBytes kernelOf
@@ -47,14 +49,14 @@ module _ (area : List ℕ) (bytes : AreBytes area) (size : length area ≡ 1056)
         entries,
         processes,
         count,
-        word-encode-decode area bytes 407 (omega arith),
-        ← part-split area 0 256 150,
-        ← part-split area 0 406 1,
-        ← part-split area 0 407 2,
-        ← part-split area 0 409 7,
-        ← part-split area 0 416 640,
+        word-encode-decode area bytes nextAt (omega arith),
+        ← part-split area 0 entriesAt (maxVariables * entrySize),
+        ← part-split area 0 countAt 1,
+        ← part-split area 0 nextAt 2,
+        ← part-split area 0 zerosAt zerosSize,
+        ← part-split area 0 recordsAt (slotCount * recordSize),
       )
-      (take-all 1056 area (omega arith))
+      (take-all areaLength area (omega arith))
 
 -- ---- a state, written and read back
 -- the bytes before the seven zeros, and all before the process records
@@ -69,31 +71,31 @@ abbrev tail : Kernel → List ℕ
 tail k = (k .variables .count ∷ wordBytes (k .next)) ++ (k .zeros ++ flat processBytes (k .processes))
 
 module _ (k : Kernel) (sized : Sized k) where
-  variable-encoded : (i : ℕ) → i < 25 → Encoded variableBytes variableOf 6 (getD (k .variables .entries) i noVariable)
+  variable-encoded : (i : ℕ) → i < maxVariables → Encoded variableBytes variableOf entrySize (getD (k .variables .entries) i noVariable)
   variable-encoded i h = record { size = refl; back = variable-decode-encode (getD (k .variables .entries) i noVariable) }
 
-  process-encoded : (i : ℕ) → i < 10 → Encoded processBytes processOf 64 (getD (k .processes) i noProcess)
+  process-encoded : (i : ℕ) → i < slotCount → Encoded processBytes processOf recordSize (getD (k .processes) i noProcess)
   process-encoded i h =
       let p : Process = getD (k .processes) i noProcess in
       record { size = process-bytes-length p (sized .each i h); back = process-decode-encode p (sized .each i h) }
 
   entries-length : length (flat variableBytes (k .variables .entries)) ≡ 150
   entries-length =
-      let n : length (k .variables .entries) ≡ 25 = sized .variables .entries in
-      flat-length variableBytes variableOf 6 (k .variables .entries) noVariable (λ i h. variable-encoded i (omega arith)) ∙ omega arith
+      let n : length (k .variables .entries) ≡ maxVariables = sized .variables .entries in
+      flat-length variableBytes variableOf entrySize (k .variables .entries) noVariable (λ i h. variable-encoded i (omega arith)) ∙ omega arith
 
   processes-length : length (flat processBytes (k .processes)) ≡ 640
   processes-length =
-      let n : length (k .processes) ≡ 10 = sized .processes in
-      flat-length processBytes processOf 64 (k .processes) noProcess (λ i h. process-encoded i (omega arith)) ∙ omega arith
+      let n : length (k .processes) ≡ slotCount = sized .processes in
+      flat-length processBytes processOf recordSize (k .processes) noProcess (λ i h. process-encoded i (omega arith)) ∙ omega arith
 
-  front-length : length (front k) ≡ 409
+  front-length : length (front k) ≡ zerosAt
   front-length = simp length-append (omega (arith, sized .variables .memory, entries-length))
 
-  head-length : length (head k) ≡ 416
+  head-length : length (head k) ≡ recordsAt
   head-length = simp length-append (omega (arith, sized .variables .memory, entries-length, sized .zeros))
 
-  pub kernel-bytes-length : length (kernelBytes k) ≡ 1056
+  pub kernel-bytes-length : length (kernelBytes k) ≡ areaLength
   unfolding kernelBytes
   kernel-bytes-length = simp length-append (omega (arith, sized .variables .memory, entries-length, sized .zeros, processes-length))
 
@@ -102,37 +104,37 @@ module _ (k : Kernel) (sized : Sized k) where
   unfolding kernelBytes
   parted = simp append-assoc
 
-  byte : (i : ℕ) → getD (kernelBytes k) (406 + i) 0 ≡ getD (tail k) i 0
+  byte : (i : ℕ) → getD (kernelBytes k) (countAt + i) 0 ≡ getD (tail k) i 0
   byte i =
-      let n : length (k .variables .memory ++ flat variableBytes (k .variables .entries)) ≡ 406 =
+      let n : length (k .variables .memory ++ flat variableBytes (k .variables .entries)) ≡ countAt =
       simp length-append (omega (arith, sized .variables .memory, entries-length)) in
       rw (parted, ← append-assoc (k .variables .memory) (flat variableBytes (k .variables .entries)) (tail k), ← n)
       (getD-append-add (k .variables .memory ++ flat variableBytes (k .variables .entries)) (tail k) i 0)
 
-  memory-back : take 256 (kernelBytes k) ≡ k .variables .memory
+  memory-back : take memorySize (kernelBytes k) ≡ k .variables .memory
   memory-back = rw parted
-      (take-at (k .variables .memory) (flat variableBytes (k .variables .entries) ++ tail k) 256 (sized .variables .memory))
+      (take-at (k .variables .memory) (flat variableBytes (k .variables .entries) ++ tail k) memorySize (sized .variables .memory))
 
-  entries-back : tab (λ i. variableOf (part (kernelBytes k) (256 + i * 6) 6)) 25 ≡ k .variables .entries
+  entries-back : tab (λ i. variableOf (part (kernelBytes k) (entriesAt + i * entrySize) entrySize)) maxVariables ≡ k .variables .entries
   entries-back =
-      simp parted (table-decode-encode variableBytes variableOf 6 (k .variables .memory) (k .variables .entries) noVariable (tail k) 256 25
+      simp parted (table-decode-encode variableBytes variableOf entrySize (k .variables .memory) (k .variables .entries) noVariable (tail k) entriesAt maxVariables
       (sized .variables .memory) (sized .variables .entries) variable-encoded)
 
-  next-back : wordAt (kernelBytes k) 407 ≡ k .next
+  next-back : wordAt (kernelBytes k) nextAt ≡ k .next
   next-back = rw (byte 1, byte 2) (word-split (k .next))
 
-  zeros-back : part (kernelBytes k) 409 7 ≡ k .zeros
+  zeros-back : part (kernelBytes k) zerosAt zerosSize ≡ k .zeros
   unfolding kernelBytes
   zeros-back =
-      part-of-append-left (head k) (flat processBytes (k .processes)) 409 7 (omega (arith, head-length))
-      ∙ rw (drop-at (front k) (k .zeros) 409 front-length) (take-all 7 (k .zeros) (omega (arith, sized .zeros)))
+      part-of-append-left (head k) (flat processBytes (k .processes)) zerosAt zerosSize (omega (arith, head-length))
+      ∙ rw (drop-at (front k) (k .zeros) zerosAt front-length) (take-all zerosSize (k .zeros) (omega (arith, sized .zeros)))
 
-  processes-back : tab (λ i. processOf (part (kernelBytes k) (416 + i * 64) 64)) 10 ≡ k .processes
+  processes-back : tab (λ i. processOf (part (kernelBytes k) (recordsAt + i * recordSize) recordSize)) slotCount ≡ k .processes
   unfolding kernelBytes
   processes-back =
-      ap (λ (l : List ℕ). tab (λ i. processOf (part (head k ++ l) (416 + i * 64) 64)) 10)
+      ap (λ (l : List ℕ). tab (λ i. processOf (part (head k ++ l) (recordsAt + i * recordSize) recordSize)) slotCount)
       (sym (append-nil (flat processBytes (k .processes))))
-      ∙ table-decode-encode processBytes processOf 64 (head k) (k .processes) noProcess [] 416 10 head-length
+      ∙ table-decode-encode processBytes processOf recordSize (head k) (k .processes) noProcess [] recordsAt slotCount head-length
       (sized .processes) process-encoded
 
   pub kernel-decode-encode : kernelOf (kernelBytes k) ≡ k

@@ -14,7 +14,9 @@ use Rattle.buffer.specs.Lists.{tab}
 use Rattle.buffer.proofs.Buffer.{word-split}
 use Rattle.buffer.proofs.Parts.{part-byte, part-length, part-split}
 use Rattle.variable.specs.declared.Variable.{Variable}
-use Rattle.machine.specs.Area.{AreBytes, processBytes, processOf, registerBytes, variableBytes, variableOf}
+use Rattle.store.specs.Layout.{nameSize}
+use Rattle.machine.specs.Area.{AreBytes, processBytes, processOf, registerBytes, registerSize, stackAt, variableBytes, variableOf}
+use Rattle.machine.specs.Limits.{entrySize, recordSize, stackSize}
 use Rattle.machine.specs.declared.Process.{Process}
 use Rattle.machine.proofs.Bytes.FixedWidth.{tab-of}
 use Rattle.machine.proofs.Bytes.Sizes.{SizedProcess}
@@ -49,20 +51,20 @@ module _ (l : List ℕ) (bytes : AreBytes l) where
   unfolding tab
   word-encode-decode i h = rw (low, high) (rw add-zero at (spelled l i 2 h))
 
-  pub variable-encode-decode : length l ≡ 6 → variableBytes (variableOf l) ≡ l
+  pub variable-encode-decode : length l ≡ entrySize → variableBytes (variableOf l) ≡ l
   unfolding tab
-  variable-encode-decode h = simp (low, high) (spelled l 0 6 (omega arith) ∙ take-all 6 l (omega arith))
+  variable-encode-decode h = simp (low, high) (spelled l 0 entrySize (omega arith) ∙ take-all entrySize l (omega arith))
 
-  registers-encode-decode : length l ≡ 64 → registerBytes (processOf l) ≡ part l 12 20
+  registers-encode-decode : length l ≡ recordSize → registerBytes (processOf l) ≡ part l nameSize registerSize
   unfolding tab
-  registers-encode-decode h = simp (low, high) (spelled l 12 20 (omega arith))
+  registers-encode-decode h = simp (low, high) (spelled l nameSize registerSize (omega arith))
 
-  pub process-encode-decode : length l ≡ 64 → processBytes (processOf l) ≡ l
+  pub process-encode-decode : length l ≡ recordSize → processBytes (processOf l) ≡ l
   process-encode-decode h =
       rw (registers-encode-decode h)
-      (ap (λ (s : List ℕ). s ++ part l 32 32) (sym (part-split l 0 12 20))
-      ∙ sym (part-split l 0 32 32)
-      ∙ take-all 64 l (omega arith))
+      (ap (λ (s : List ℕ). s ++ part l stackAt stackSize) (sym (part-split l 0 nameSize registerSize))
+      ∙ sym (part-split l 0 stackAt stackSize)
+      ∙ take-all recordSize l (omega arith))
 
 -- ---- a record, written and read back
 pub variable-decode-encode : (e : Variable) → variableOf (variableBytes e) ≡ e
@@ -74,20 +76,20 @@ abbrev behindName : Process → List ℕ
 behindName p = registerBytes p ++ p .stack
 
 module _ (p : Process) (sized : SizedProcess p) where
-  pub process-bytes-length : length (processBytes p) ≡ 64
+  pub process-bytes-length : length (processBytes p) ≡ recordSize
   process-bytes-length = simp length-append (omega arith)
 
-  byte : (i : ℕ) → getD (processBytes p) (12 + i) 0 ≡ getD (behindName p) i 0
+  byte : (i : ℕ) → getD (processBytes p) (nameSize + i) 0 ≡ getD (behindName p) i 0
   byte i = rw (append-assoc (p .name) (registerBytes p) (p .stack), ← sized .name) (getD-append-add (p .name) (behindName p) i 0)
 
-  word : (i w : ℕ) → getD (behindName p) i 0 ≡ w % 256 → getD (behindName p) (i + 1) 0 ≡ w / 256 → wordAt (processBytes p) (12 + i) ≡ w
+  word : (i w : ℕ) → getD (behindName p) i 0 ≡ w % 256 → getD (behindName p) (i + 1) 0 ≡ w / 256 → wordAt (processBytes p) (nameSize + i) ≡ w
   word i w a b = rw (byte i, add-assoc, byte (i + 1), a, b) (word-split w)
 
-  name : take 12 (processBytes p) ≡ p .name
-  name = rw (append-assoc (p .name) (registerBytes p) (p .stack)) (take-at (p .name) (behindName p) 12 (sized .name))
+  name : take nameSize (processBytes p) ≡ p .name
+  name = rw (append-assoc (p .name) (registerBytes p) (p .stack)) (take-at (p .name) (behindName p) nameSize (sized .name))
 
-  stack : part (processBytes p) 32 32 ≡ p .stack
-  stack = rw (drop-at (p .name ++ registerBytes p) (p .stack) 32 (simp length-append (omega arith))) (take-all 32 (p .stack) (omega arith))
+  stack : part (processBytes p) stackAt stackSize ≡ p .stack
+  stack = rw (drop-at (p .name ++ registerBytes p) (p .stack) stackAt (simp length-append (omega arith))) (take-all stackSize (p .stack) (omega arith))
 
   pub process-decode-encode : processOf (processBytes p) ≡ p
   process-decode-encode = λ t. record {

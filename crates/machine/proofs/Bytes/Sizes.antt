@@ -14,7 +14,10 @@ use Rattle.buffer.proofs.Parts.{part-length}
 use Rattle.store.specs.declared.Entry.{Entry}
 use Rattle.variable.specs.Table.{Shaped, freedAll}
 use Rattle.variable.specs.declared.Variables.{Variables}
-use Rattle.machine.specs.Area.{kernelOf, processOf, variablesOf}
+use Rattle.store.specs.Layout.{nameSize}
+use Rattle.variable.specs.Limits.{memorySize}
+use Rattle.machine.specs.Area.{kernelOf, processOf, stackAt, variablesOf}
+use Rattle.machine.specs.Limits.{areaLength, recordSize, recordsAt, slotCount, stackSize, zerosAt, zerosSize}
 use Rattle.machine.specs.Start.{started, startedProcess}
 use Rattle.machine.specs.State.{Local, ended, endedProcess, noProcess, processAt, withFile, withLocal, withProcess, withState}
 use Rattle.machine.specs.State.{withVariables}
@@ -23,36 +26,36 @@ use Rattle.machine.specs.declared.OpenFile.{OpenFile}
 use Rattle.machine.specs.declared.Process.{Process}
 
 pub record SizedProcess (p : Process) : Type 0 where
-  pub name : length (p .name) ≡ 12
-  pub stack : length (p .stack) ≡ 32
+  pub name : length (p .name) ≡ nameSize
+  pub stack : length (p .stack) ≡ stackSize
 
 pub record Sized (k : Kernel) : Type 0 where
   pub variables : Shaped (k .variables)
-  pub zeros : length (k .zeros) ≡ 7
-  pub processes : length (k .processes) ≡ 10
-  pub each : (i : ℕ) → i < 10 → SizedProcess (processAt k i)
+  pub zeros : length (k .zeros) ≡ zerosSize
+  pub processes : length (k .processes) ≡ slotCount
+  pub each : (i : ℕ) → i < slotCount → SizedProcess (processAt k i)
 
 -- ---- what an area says
-pub decoded-process-sized : (l : List ℕ) → length l ≡ 64 → SizedProcess (processOf l)
-decoded-process-sized l h = record { name = length-take-le 12 l (omega arith); stack = part-length l 32 32 (omega arith) }
+pub decoded-process-sized : (l : List ℕ) → length l ≡ recordSize → SizedProcess (processOf l)
+decoded-process-sized l h = record { name = length-take-le nameSize l (omega arith); stack = part-length l stackAt stackSize (omega arith) }
 
-pub decoded-sized : (area : List ℕ) → length area ≡ 1056 → Sized (kernelOf area)
+pub decoded-sized : (area : List ℕ) → length area ≡ areaLength → Sized (kernelOf area)
 unfolding kernelOf variablesOf
 decoded-sized area h =
     record {
-      variables = record { memory = length-take-le 256 area (omega arith); entries = simp tab-length };
-      zeros = part-length area 409 7 (omega arith);
+      variables = record { memory = length-take-le memorySize area (omega arith); entries = simp tab-length };
+      zeros = part-length area zerosAt zerosSize (omega arith);
       processes = simp tab-length;
-      each = λ i m. rw (tab-at recordAt 10 i noProcess m)
-          (decoded-process-sized (part area (416 + i * 64) 64) (part-length area (416 + i * 64) 64 (omega arith)));
+      each = λ i m. rw (tab-at recordAt slotCount i noProcess m)
+          (decoded-process-sized (part area (recordsAt + i * recordSize) recordSize) (part-length area (recordsAt + i * recordSize) recordSize (omega arith)));
     }
   where
     recordAt : ℕ → Process
-    recordAt i = processOf (part area (416 + i * 64) 64)
+    recordAt i = processOf (part area (recordsAt + i * recordSize) recordSize)
 
 -- ---- steps of one process
 module _ (p : Process) (sized : SizedProcess p) where
-  pub with-local-sized : (l : Local) → length (l .stack) ≤ 32 → SizedProcess (withLocal p l)
+  pub with-local-sized : (l : Local) → length (l .stack) ≤ stackSize → SizedProcess (withLocal p l)
   with-local-sized l h = record { name = sized .name; stack = simp (length-append, length-replicate) (omega arith) }
 
   pub with-file-sized : (f : OpenFile) → SizedProcess (withFile p f)
@@ -64,13 +67,13 @@ module _ (p : Process) (sized : SizedProcess p) where
   pub ended-process-sized : (fault : ℕ) → SizedProcess (endedProcess p fault)
   ended-process-sized fault = record { name = sized .name; stack = refl }
 
-pub started-process-sized : (e : Entry) (id : ℕ) → length (e .name) ≡ 12 → SizedProcess (startedProcess e id)
+pub started-process-sized : (e : Entry) (id : ℕ) → length (e .name) ≡ nameSize → SizedProcess (startedProcess e id)
 started-process-sized e id h = record { name = h; stack = refl }
 
 -- ---- steps of the kernel
 module _ (k : Kernel) (sized : Sized k) where
   -- a slot above 9 changes nothing
-  pub with-process-sized : (slot : ℕ) (p : Process) → (slot < 10 → SizedProcess p) → Sized (withProcess k slot p)
+  pub with-process-sized : (slot : ℕ) (p : Process) → (slot < slotCount → SizedProcess p) → Sized (withProcess k slot p)
   with-process-sized slot p h = record {
     variables = sized .variables;
     zeros = sized .zeros;
@@ -79,7 +82,7 @@ module _ (k : Kernel) (sized : Sized k) where
     each = λ i m. at i m (eqb i slot) refl;
   }
     where
-      at : (i : ℕ) → i < 10 → (t : Bool) → eqb i slot ≡ t → SizedProcess (getD (set (k .processes) slot p) i noProcess)
+      at : (i : ℕ) → i < slotCount → (t : Bool) → eqb i slot ≡ t → SizedProcess (getD (set (k .processes) slot p) i noProcess)
       at i m true e =
           let q : i ≡ slot = eqb-true i slot e in
           rw (q, getD-set-same (k .processes) slot p noProcess (omega (arith, sized .processes))) (h (omega arith))
@@ -88,7 +91,7 @@ module _ (k : Kernel) (sized : Sized k) where
   pub with-variables-sized : (v : Variables) → Shaped v → Sized (withVariables k v)
   with-variables-sized v h = record { variables = h; zeros = sized .zeros; processes = sized .processes; each = sized .each }
 
-  pub started-sized : (slot : ℕ) (e : Entry) → length (e .name) ≡ 12 → Sized (started k slot e)
+  pub started-sized : (slot : ℕ) (e : Entry) → length (e .name) ≡ nameSize → Sized (started k slot e)
   started-sized slot e h =
       let s = with-process-sized slot (startedProcess e (k .next)) (λ m. started-process-sized e (k .next) h) in
       record { variables = s .variables; zeros = s .zeros; processes = s .processes; each = s .each }

@@ -20,6 +20,7 @@ use Rattle.variable.specs.declared.Placing.the-variants.{Address}
 use Rattle.variable.specs.declared.Value.{Value}
 use Rattle.machine.specs.Beyond.{fileRun}
 use Rattle.machine.specs.GoodArea.{goodKernel}
+use Rattle.machine.specs.Limits.{stackSize}
 use Rattle.machine.specs.Operations.{inUse}
 use Rattle.machine.specs.Start.{starts, started, starting}
 use Rattle.machine.specs.State.{ended, isLive, isRunning, processAt, withProcess, withVariables}
@@ -56,7 +57,7 @@ pub record GoesOn (disc : List ℕ) (p q : Process) : Type 0 where
   pub code : q .code ≡ p .code
   pub registers : GoodRegisters q
   pub file : GoodFile (files disc) (q .file)
-  pub stack : length (q .stack) ≡ 32
+  pub stack : length (q .stack) ≡ stackSize
 
 pub data Own (w : ℕ) (k : Kernel) (disc : List ℕ) (j : Kernel) : Type 0 where
   stays : j ≡ k → Own w k disc j

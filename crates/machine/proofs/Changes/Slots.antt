@@ -13,6 +13,7 @@ use Rattle.buffer.proofs.Lists.{index-is, index-miss}
 use Rattle.buffer.proofs.Tables.{index-at, index-none}
 use Rattle.store.specs.Directory.{files}
 use Rattle.machine.specs.Area.{kernelOf}
+use Rattle.machine.specs.Limits.{slotCount}
 use Rattle.machine.specs.Observation.{placeIn}
 use Rattle.machine.specs.Trace.{Storage}
 use Rattle.machine.specs.State.{hasId, isLive, noProcess, processAt, slotOf}
@@ -30,7 +31,7 @@ live-inside k s h = go (ltb s (length (k .processes))) refl
     go false e = absurd (true-not-false h
         (ap isLive (List·getD-eq-default (k .processes) noProcess (ltb-false s (length (k .processes)) e))))
 
-pub live-below-ten : {k : Kernel} {disc : List ℕ} → GoodState k disc → (s : ℕ) → isLive (processAt k s) ≡ true → s < 10
+pub live-below-ten : {k : Kernel} {disc : List ℕ} → GoodState k disc → (s : ℕ) → isLive (processAt k s) ≡ true → s < slotCount
 live-below-ten {k} g s h = omega (arith, live-inside k s h, g .sized .processes)
 
 has-id-is : (i : ℕ) (p : Process) → hasId i p ≡ true → (isLive p ≡ true) × (p .id ≡ i)

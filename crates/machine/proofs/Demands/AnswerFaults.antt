@@ -17,9 +17,10 @@ use Rattle.store.specs.Directory.{lookup}
 use Rattle.store.specs.File.{admission}
 use Rattle.store.specs.declared.Admission.{Admission}
 use Rattle.store.specs.declared.Admission.the-variants.{Start, Denied}
-use Rattle.machine.specs.Beyond.{Answered, carriesOn, breaks, advanced, answered, continues, created, createdAt, forked, inside}
+use Rattle.machine.specs.Beyond.{advanced, Answered, answered, breaks, carriesOn, continues, created, createdAt, forked, inside, newFileSize}
 use Rattle.machine.specs.Beyond.{openedAt, ownFile, pushed, received, unlessBreaks, withOpenFile}
 use Rattle.machine.specs.Effect.{Request, opens, closes, writes, reads, readsString, forks, awaits}
+use Rattle.machine.specs.Limits.{stackSize}
 use Rattle.machine.specs.Start.{Starting, starts, refuses, starting}
 use Rattle.machine.specs.State.{Local}
 use Rattle.machine.specs.declared.Kernel.{Kernel}
@@ -44,7 +45,7 @@ module _ (k : Kernel) (slot : ℕ) (disc : List ℕ) where
 
   open-breaks : (f : Found) (name : List ℕ) (size : Number) (l : Local) → Breaks (λ n. n ≡ 13) (openedAt k slot disc f name size l)
   open-breaks (At i) name size l = tt
-  open-breaks Nowhere name size l = sized (sizeWithin (length disc - 161) size)
+  open-breaks Nowhere name size l = sized (newFileSize disc size)
     where
       admit : (n : ℕ) (a : Admission) → Breaks (λ m. m ≡ 13) (createdAt k slot disc a name n l)
       admit n (Start s) = tt
@@ -67,7 +68,7 @@ module _ (k : Kernel) (slot : ℕ) (disc : List ℕ) where
       → Breaks (λ m. (m ≡ 4) ⊎ ((m ≡ 11) ⊎ (m ≡ 12))) (withOpenFile k slot disc (inside k slot disc n (received k slot disc stack n l)))
   read-breaks stack n l =
       in-file (λ m. (m ≡ 4) ⊎ ((m ≡ 11) ⊎ (m ≡ 12))) n (received k slot disc stack n l) (inr (inl refl)) (inr (inr refl))
-      (go (leb (length stack) 32))
+      (go (leb (length stack) stackSize))
     where
       go : (b : Bool) → Breaks (λ m. (m ≡ 4)
           ⊎ ((m ≡ 11) ⊎ (m ≡ 12))) (unlessBreaks b 4 (continues k slot disc (pushed l stack) (advanced (ownFile k slot disc) n) disc))

@@ -9,6 +9,7 @@ use Rattle.buffer.specs.Lists.{all, any, keep, pairs, tab}
 use Rattle.buffer.proofs.Bools.{and-both, and-left, and-right}
 use Rattle.store.specs.Directory.{goodDisc, goodFiles, isDiscLength}
 use Rattle.variable.specs.Good.{goodVariables}
+use Rattle.store.specs.Layout.{discLength}
 use Rattle.machine.specs.Answer.{Buffers, bootAnswer, booted, formatAnswer, goodArea}
 use Rattle.machine.specs.Area.{isAreaLength, kernelOf, variablesOf}
 use Rattle.machine.specs.GoodArea.{goodHeader, goodKernel, goodProcess, otherId}
@@ -22,7 +23,7 @@ booted-good disc = refl
 booted-length : isAreaLength (length booted) ≡ true
 booted-length = refl
 
-zeros-good : goodDisc (replicate 1024 0) ≡ true
+zeros-good : goodDisc (replicate discLength 0) ≡ true
 unfolding goodDisc goodFiles all pairs tab
 zeros-good = refl
 
@@ -41,4 +42,4 @@ module _ (b : Buffers) (sizes : isDiscLength (length (b .disc)) && isAreaLength 
   -- Document 01: "Format zeroes the disc, then boots."
   pub format-good : Passes (formatAnswer b .disc) (formatAnswer b .area)
   unfolding formatAnswer
-  format-good = rw (sizes, eqb-true (length (b .disc)) 1024 long) (booted-passes (replicate 1024 0) refl zeros-good)
+  format-good = rw (sizes, eqb-true (length (b .disc)) discLength long) (booted-passes (replicate discLength 0) refl zeros-good)

@@ -27,6 +27,8 @@ use Rattle.buffer.specs.Buffer.{overwrite}
 use Rattle.store.specs.declared.Answer.the-variants.{Done}
 use Rattle.machine.proofs.Changes.Replaced.{put-other}
 use Rattle.machine.proofs.Changes.LiveRecords.{running-live}
+use Rattle.store.specs.Layout.{dataStart, maxFiles}
+use Rattle.machine.specs.Limits.{idLimit}
 use Rattle.machine.specs.Turn.{answering, carriedOut, effectAt, turned}
 use Rattle.machine.specs.Effect.{Effect, asks, forks}
 use Rattle.machine.specs.Beyond.{answered, forked, pushId}
@@ -53,8 +55,8 @@ turn-due b slot clock may = (_, ap (λ (a : Answer). a .number) (turn-done b slo
 
 -- ---- files
 pub store-due : (b : Buffers) (name bytes : List ℕ) (start : ℕ) → Usable (b .disc)
-    → goodName name ≡ true → goodSize (b .disc) (length bytes) ≡ true → fileCount (b .disc) < 10 → lookup (b .disc) name ≡ Nowhere
-    → fits (taken (b .disc)) 161 (length (b .disc)) (length bytes) start ≡ true
+    → goodName name ≡ true → goodSize (b .disc) (length bytes) ≡ true → fileCount (b .disc) < maxFiles → lookup (b .disc) name ≡ Nowhere
+    → fits (taken (b .disc)) dataStart (length (b .disc)) (length bytes) start ≡ true
     → (answer (other (store name bytes)) b .number ≡ pos 0) × Holds (answer (other (store name bytes)) b .disc) name bytes
 unfolding answer otherAnswer
 store-due b name bytes start u good size few new fit =
@@ -67,7 +69,7 @@ store-due b name bytes start u good size few new fit =
 
 pub fork-due : (b : Buffers) (slot clock : ℕ) (name : List ℕ) (l : Local) (child i : ℕ) → MayTurn b slot
     → effectAt (stateOf b) slot clock (b .disc) ≡ asks (forks name l)
-    → endedSlot (stateOf b) ≡ At child → lookup (b .disc) name ≡ At i → (stateOf b .next ≡ 32768 → ⊥)
+    → endedSlot (stateOf b) ≡ At child → lookup (b .disc) name ≡ At i → (stateOf b .next ≡ idLimit → ⊥)
     → slotOf (kernelOf (answer (turn slot clock) b .area)) (stateOf b .next) ≡ At child
 unfolding turned carriedOut answered starting
 fork-due b slot clock name l child i may e free found left =
@@ -88,7 +90,7 @@ fork-due b slot clock name l child i may e free found left =
     entry = entryAt (b .disc) i
 
     begun : starting k (b .disc) name ≡ starts child entry
-    begun = rw (free, found, ne-eqb (k .next) 32768 left)
+    begun = rw (free, found, ne-eqb (k .next) idLimit left)
 
     own : Process
     own = withLocal (processAt k slot) (pushId l (k .next))
@@ -123,20 +125,20 @@ erase-due b name i passes e free =
 
 pub free-space-due : (b : Buffers) → Usable (b .disc)
     → (n : ℕ) × (answer (other freeSpace) b .number ≡ pos n)
-    × (0 < n → (start : ℕ) × (fits (taken (b .disc)) 161 (length (b .disc)) n start ≡ true))
-    × ((m : ℕ) → n < m → NoneFits (taken (b .disc)) 161 (length (b .disc)) m)
+    × (0 < n → (start : ℕ) × (fits (taken (b .disc)) dataStart (length (b .disc)) n start ≡ true))
+    × ((m : ℕ) → n < m → NoneFits (taken (b .disc)) dataStart (length (b .disc)) m)
 unfolding answer otherAnswer freeSpaceAnswer placeOf
 free-space-due b u =
-    let n : ℕ = longest (taken (b .disc)) 161 (length (b .disc)) in
+    let n : ℕ = longest (taken (b .disc)) dataStart (length (b .disc)) in
     let done : freeSpaceAnswer (b .disc) ≡ pos n = rw (is-usable (b .disc) (u .0) (u .1)) in (
       n,
       done,
       (λ some. let s = free-space-fits (b .disc) n done some in (
         s .0,
-        is-fits (taken (b .disc)) 161 (length (b .disc)) n (s .0)
-            (place-fits (taken (b .disc)) 161 (length (b .disc)) n (s .0) (s .1)),
+        is-fits (taken (b .disc)) dataStart (length (b .disc)) n (s .0)
+            (place-fits (taken (b .disc)) dataStart (length (b .disc)) n (s .0) (s .1)),
       )),
-      (λ m longer. no-place-none-fits (taken (b .disc)) 161 (length (b .disc)) m (free-space-most (b .disc) n done m longer)),
+      (λ m longer. no-place-none-fits (taken (b .disc)) dataStart (length (b .disc)) m (free-space-most (b .disc) n done m longer)),
     )
 
 -- ---- processes
@@ -173,7 +175,7 @@ list-due b passes fit =
     (ap (λ (a : Answer). a .number) whole, ap (λ (a : Answer). a .out) whole)
 
 pub run-due : (b : Buffers) (name : List ℕ) (slot i : ℕ) → Passes (b .disc) (b .area)
-    → endedSlot (stateOf b) ≡ At slot → lookup (b .disc) name ≡ At i → (stateOf b .next ≡ 32768 → ⊥)
+    → endedSlot (stateOf b) ≡ At slot → lookup (b .disc) name ≡ At i → (stateOf b .next ≡ idLimit → ⊥)
     → (answer (run name) b .number ≡ pos (stateOf b .next)) × (slotOf (kernelOf (answer (run name) b .area)) (stateOf b .next) ≡ At slot)
 unfolding answer starting
 run-due b name slot i passes free e left = (
@@ -189,7 +191,7 @@ run-due b name slot i passes free e left = (
     entry = entryAt (b .disc) i
 
     begun : starting k (b .disc) name ≡ starts slot entry
-    begun = rw (free, e, ne-eqb (k .next) 32768 left)
+    begun = rw (free, e, ne-eqb (k .next) idLimit left)
 
     done : answer (run name) b ≡ runAt (starts slot entry) k b
     done = on-good b _ passes ∙ ap (λ (s : Starting). runAt s k b) begun

@@ -12,6 +12,7 @@ use Rattle.number.specs.declared.Number.{Number}
 use Rattle.variable.specs.Table.{freed, isOf}
 use Rattle.store.specs.Directory.{lookup}
 use Rattle.buffer.specs.declared.Found.the-variants.{Nowhere}
+use Rattle.machine.specs.Beyond.{newFileSize}
 use Rattle.machine.specs.Answer.{Buffers}
 use Rattle.machine.specs.Demands.{EndsWith, turnedState}
 use Rattle.machine.specs.Effect.{asks, assigns, opens}
@@ -72,18 +73,18 @@ module _ (b : Buffers) (slot clock : ℕ) (may : MayTurn b slot) where
 
   pub open-refused : EndsWith b slot clock 13
       → (name : List ℕ) × (size : Number) × (l : Local) × (effectAt (stateOf b) slot clock (b .disc) ≡ asks (opens name size l))
-      × (lookup (b .disc) name ≡ Nowhere) × NewFileRefused (b .disc) name (sizeWithin (length (b .disc) - 161) size)
+      × (lookup (b .disc) name ≡ Nowhere) × NewFileRefused (b .disc) name (newFileSize (b .disc) size)
   open-refused h = go (ended-by 13 h)
     where
       refused : (name : List ℕ) (size : Number) (l : Local) → effectAt (stateOf b) slot clock (b .disc) ≡ asks (opens name size l)
-          → (lookup (b .disc) name ≡ Nowhere) × NewFileRefused (b .disc) name (sizeWithin (length (b .disc) - 161) size)
+          → (lookup (b .disc) name ≡ Nowhere) × NewFileRefused (b .disc) name (newFileSize (b .disc) size)
       refused name size l e =
           let good = passes-good (b .disc) (b .area) (may .passes) in
           turn-open-refused (stateOf b) slot (may .running) clock (b .disc) (good .long) (good .sound) name size l e (stopped-then 13 h)
 
       go : EndsBy 13 → (name : List ℕ) × (size : Number) × (l : Local)
           × (effectAt (stateOf b) slot clock (b .disc) ≡ asks (opens name size l))
-          × (lookup (b .disc) name ≡ Nowhere) × NewFileRefused (b .disc) name (sizeWithin (length (b .disc) - 161) size)
+          × (lookup (b .disc) name ≡ Nowhere) × NewFileRefused (b .disc) name (newFileSize (b .disc) size)
       go (stopped e z) = absurd (omega arith)
       go (faulted e some few) = absurd (omega arith)
       go (unplaced name kind bytes l e p z) = absurd (omega arith)

@@ -18,9 +18,10 @@ use Rattle.store.specs.Directory.{lookup}
 use Rattle.store.specs.File.{admission}
 use Rattle.store.specs.declared.Admission.{Admission}
 use Rattle.store.specs.declared.Admission.the-variants.{Start, Denied}
-use Rattle.machine.specs.Beyond.{Answered, carriesOn, breaks, advanced, answered, continues, created, createdAt, forked, inside}
+use Rattle.machine.specs.Beyond.{advanced, Answered, answered, breaks, carriesOn, continues, created, createdAt, forked, inside, newFileSize}
 use Rattle.machine.specs.Beyond.{isAwaited, opened, openedAt, pushId, pushed, received, unlessBreaks, withOpenFile}
 use Rattle.machine.specs.Effect.{Request, opens, closes, writes, reads, readsString, forks, awaits}
+use Rattle.machine.specs.Limits.{stackSize}
 use Rattle.machine.specs.Start.{Starting, starts, refuses, startedProcess, starting}
 use Rattle.machine.specs.State.{Local, isRunning, noProcess, processAt, withFile, withLocal, withProcess}
 use Rattle.machine.specs.declared.Kernel.{Kernel}
@@ -52,7 +53,7 @@ module _ (k : Kernel) (slot : ℕ) (running : isRunning (processAt k slot) ≡ t
 
     open-left : (f : Found) (name : List ℕ) (size : Number) (l : Local) → Left (openedAt k slot disc f name size l)
     open-left (At i) name size l = continued-running l _
-    open-left Nowhere name size l = sized (sizeWithin (length disc - 161) size)
+    open-left Nowhere name size l = sized (newFileSize disc size)
       where
         admit : (n : ℕ) (a : Admission) → Left (createdAt k slot disc a name n l)
         admit n (Start s) = continued-running l (opened (runFrom s n))
@@ -71,7 +72,7 @@ module _ (k : Kernel) (slot : ℕ) (running : isRunning (processAt k slot) ≡ t
         go false true = left
 
     received-left : (stack : List ℕ) (n : ℕ) (l : Local) → Left (received k slot disc stack n l)
-    received-left stack n l = go (leb (length stack) 32)
+    received-left stack n l = go (leb (length stack) stackSize)
       where
         go : (b : Bool) → Left (unlessBreaks b 4 (continues k slot disc (pushed l stack) (advanced (p .file) n) disc))
         go true = continued-running (pushed l stack) (advanced (p .file) n)

@@ -29,7 +29,8 @@ use Rattle.store.specs.declared.Refusal.{Refusal}
 use Rattle.store.specs.declared.Refusal.the-variants.{WrongLength, BadDisc, ShortOutput, BadName, BadSize, NameExists, DirectoryFull, NoRun}
 use Rattle.store.specs.declared.Refusal.the-variants.{NoSuchFile}
 use Rattle.store.proofs.Admissions.{Denial, denied, denied-full}
-use Rattle.machine.specs.Beyond.{Answered, breaks, answered, continues, created, createdAt, opened, openedAt}
+use Rattle.store.specs.Layout.{dataStart}
+use Rattle.machine.specs.Beyond.{Answered, answered, breaks, continues, created, createdAt, newFileSize, opened, openedAt}
 use Rattle.machine.specs.Effect.{opens}
 use Rattle.machine.specs.NoPlace.{NewFileRefused, by-name, by-size, by-full, by-no-run}
 use Rattle.machine.specs.State.{Local}
@@ -80,21 +81,21 @@ module _ (k : Kernel) (slot : ℕ) (disc name : List ℕ) (l : Local) (long : is
   -- OPEN goes on with some file, or its new file is refused, which is fault 13
   pub open-cases : (size : Number) (P : Answered → Type 0)
       → ((f : OpenFile) (after : List ℕ) → P (continues k slot disc l f after))
-      → (lookup disc name ≡ Nowhere → NewFileRefused disc name (sizeWithin (length disc - 161) size) → P (breaks 13))
+      → (lookup disc name ≡ Nowhere → NewFileRefused disc name (newFileSize disc size) → P (breaks 13))
       → P (answered k slot disc (opens name size l))
   unfolding answered
   open-cases size P goes refused = found (lookup disc name) refl
     where
-      create : lookup disc name ≡ Nowhere → (n : ℕ) → sizeWithin (length disc - 161) size ≡ Is n → (a : Admission)
+      create : lookup disc name ≡ Nowhere → (n : ℕ) → newFileSize disc size ≡ Is n → (a : Admission)
           → admission disc name n ≡ a → P (createdAt k slot disc a name n l)
       create new n e (Start s) a = goes (opened (runFrom s n)) (entered disc name n s)
       create new n e (Denied r) a =
-          refused new (denial-refuses n _ e (size-within (length disc - 161) n size e) new r a (denied disc name n r a))
+          refused new (denial-refuses n _ e (size-within (length disc - dataStart) n size e) new r a (denied disc name n r a))
 
-      judged : lookup disc name ≡ Nowhere → (s : Size) → sizeWithin (length disc - 161) size ≡ s → P (created k slot disc s name l)
+      judged : lookup disc name ≡ Nowhere → (s : Size) → newFileSize disc size ≡ s → P (created k slot disc s name l)
       judged new Improper e = refused new (by-size e)
       judged new (Is n) e = create new n e (admission disc name n) refl
 
       found : (f : Found) → lookup disc name ≡ f → P (openedAt k slot disc f name size l)
       found (At i) e = goes (opened (runFrom (entryAt disc i .start) (entryAt disc i .len))) disc
-      found Nowhere e = judged e (sizeWithin (length disc - 161) size) refl
+      found Nowhere e = judged e (newFileSize disc size) refl

@@ -31,6 +31,8 @@ use Rattle.variable.specs.declared.Placing.{Placing}
 use Rattle.variable.specs.declared.Placing.the-variants.{Address, NoEntry, NoRun as NoFreeRun}
 use Rattle.variable.specs.declared.Value.{Value}
 use Rattle.variable.specs.declared.Variables.{Variables}
+use Rattle.store.specs.Layout.{dataStart, maxFiles}
+use Rattle.machine.specs.Beyond.{newFileSize}
 use Rattle.machine.specs.Answer.{Buffers, other, store, answer, otherAnswer}
 use Rattle.machine.specs.Effect.{Effect, asks, assigns, opens}
 use Rattle.machine.specs.NoPlace.{Lacking, NewFileRefused, NoneFits}
@@ -45,17 +47,17 @@ use Rattle.machine.proofs.Demands.Openings.{open-cases}
 -- ---- store
 module _ (b : Buffers) (name bytes : List ℕ) where
   -- Document 01: "8 ten files already"
-  pub store-full : answer (other (store name bytes)) b .number ≡ negℤ (pos 8) → fileCount (b .disc) ≡ 10
+  pub store-full : answer (other (store name bytes)) b .number ≡ negℤ (pos 8) → fileCount (b .disc) ≡ maxFiles
   unfolding answer otherAnswer storeAnswer
   store-full =
-      by-checks (b .disc) (λ (u : Updated). u .number ≡ negℤ (pos 8) → fileCount (b .disc) ≡ 10) _ _
+      by-checks (b .disc) (λ (u : Updated). u .number ≡ negℤ (pos 8) → fileCount (b .disc) ≡ maxFiles) _ _
       (λ e h. absurd (let z : _≡_ {A = ℕ} 0 7 = cc in omega arith))
       (λ e h. absurd (let z : _≡_ {A = ℕ} 1 7 = cc in omega arith))
       (λ l good h. store-refused-full (b .disc) name bytes good
       (ap (λ (u : Updated). u .number) (store-admission (b .disc) name bytes l good) ∙ h))
 
   -- Document 01: "9 no free run long enough"
-  pub store-no-run : answer (other (store name bytes)) b .number ≡ negℤ (pos 9) → NoneFits (taken (b .disc)) 161 (length (b .disc)) (length bytes)
+  pub store-no-run : answer (other (store name bytes)) b .number ≡ negℤ (pos 9) → NoneFits (taken (b .disc)) dataStart (length (b .disc)) (length bytes)
   unfolding answer otherAnswer
   store-no-run h = store-refused-no-run (b .disc) name bytes h
 
@@ -115,12 +117,12 @@ module _ (k : Kernel) (slot : ℕ) (h : isRunning (processAt k slot) ≡ true) w
     pub turn-open-refused : isDiscLength (length disc) ≡ true → goodDisc disc ≡ true → (name : List ℕ) (size : Number) (l : Local)
         → effectAt k slot clock disc ≡ asks (opens name size l)
         → isRunning (processAt (turned k slot clock disc .kernel) slot) ≡ false → (lookup disc name ≡ Nowhere)
-        × NewFileRefused disc name (sizeWithin (length disc - 161) size)
+        × NewFileRefused disc name (newFileSize disc size)
     unfolding turned carriedOut
     turn-open-refused long good name size l e ends =
         open-cases k slot disc name l long good size
         (λ a. isRunning (processAt (answering k slot disc a .kernel) slot) ≡ false → (lookup disc name ≡ Nowhere)
-        × NewFileRefused disc name (sizeWithin (length disc - 161) size))
+        × NewFileRefused disc name (newFileSize disc size))
         (λ f after r. absurd (true-not-false (still-running (withFile (withLocal (processAt k slot) l) f) h) r))
         (λ new refused r. (new, refused))
         (subst Ends e ends)

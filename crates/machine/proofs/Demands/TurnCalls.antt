@@ -13,6 +13,7 @@ use Rattle.machine.specs.Answer.{Answer, Buffers, answer, goodArea, refu
 use Rattle.machine.specs.Area.{isAreaLength, kernelOf}
 use Rattle.machine.specs.Demands.{EndedOnly, turnedState}
 use Rattle.machine.specs.Ending.{Ends, Touched}
+use Rattle.machine.specs.Limits.{slotCount, turnRoom}
 use Rattle.machine.specs.Refusals.{stateOf, MayTurn}
 use Rattle.machine.specs.State.{isRunning, processAt}
 use Rattle.machine.specs.Turn.{Turned, finished, turned}
@@ -65,7 +66,7 @@ module _ (b : Buffers) (slot clock : ℕ) (may : MayTurn b slot) where
       ⊎ Running j true) state-after (ends-or-goes (stateOf b) slot clock (b .disc) (may .running) inside sound)
 
   -- ---- output
-  pub prints-little : length (step .out) ≤ 32
+  pub prints-little : length (step .out) ≤ turnRoom
   prints-little = turn-prints (stateOf b) slot clock (b .disc) good (may .running) sound
 
 -- ---- a turn that is done has passed the tests
@@ -73,11 +74,11 @@ pub turn-passed : (b : Buffers) (slot clock n : ℕ) → answer (turn slot clock
 unfolding answer
 turn-passed b slot clock n =
     go (isDiscLength (length (b .disc)) && isAreaLength (length (b .area))) refl (goodDisc (b .disc)) refl
-    (goodArea (b .disc) (b .area)) refl (leb 32 (length (b .out))) refl (ltb slot 10 && isRunning (processAt (stateOf b) slot)) refl
+    (goodArea (b .disc) (b .area)) refl (leb turnRoom (length (b .out))) refl (ltb slot slotCount && isRunning (processAt (stateOf b) slot)) refl
   where
     go : (p : Bool) → isDiscLength (length (b .disc)) && isAreaLength (length (b .area)) ≡ p → (q : Bool) → goodDisc (b .disc) ≡ q
-        → (r : Bool) → goodArea (b .disc) (b .area) ≡ r → (s : Bool) → leb 32 (length (b .out)) ≡ s
-        → (t : Bool) → ltb slot 10 && isRunning (processAt (stateOf b) slot) ≡ t
+        → (r : Bool) → goodArea (b .disc) (b .area) ≡ r → (s : Bool) → leb turnRoom (length (b .out)) ≡ s
+        → (t : Bool) → ltb slot slotCount && isRunning (processAt (stateOf b) slot) ≡ t
         → unless p (refused 1 b)
         (unless q (refused 2 b)
         (unless r (refused 3 b)
@@ -87,9 +88,9 @@ turn-passed b slot clock n =
         record {
           passes = record { sizes = p; disc-good = q; area-good = r };
           room = s;
-          low = and-left (ltb slot 10) _ t;
+          low = and-left (ltb slot slotCount) _ t;
           running =
-              and-right (ltb slot 10) _ t;
+              and-right (ltb slot slotCount) _ t;
         }
     go true p true q true r true s false t h = below-not-done h
     go true p true q true r false s u t h = below-not-done h
@@ -97,10 +98,10 @@ turn-passed b slot clock n =
     go true p false q v r w s u t h = below-not-done h
     go false p x q v r w s u t h = below-not-done h
 
-pub turn-output-bound : (b : Buffers) (slot clock n : ℕ) → answer (turn slot clock) b .number ≡ pos n → n ≤ 32
+pub turn-output-bound : (b : Buffers) (slot clock n : ℕ) → answer (turn slot clock) b .number ≡ pos n → n ≤ turnRoom
 turn-output-bound b slot clock n done =
     let may = turn-passed b slot clock n done in
     let same : pos (length (turned (stateOf b) slot clock (b .disc) .out)) ≡ pos n =
     sym (ap (λ (a : Answer). a .number) (turn-done b slot clock may)) ∙ done in
     let size : length (turned (stateOf b) slot clock (b .disc) .out) ≡ n = cc in
-    subst (λ (m : ℕ). m ≤ 32) size (prints-little b slot clock may)
+    subst (λ (m : ℕ). m ≤ turnRoom) size (prints-little b slot clock may)

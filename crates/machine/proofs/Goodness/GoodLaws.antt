@@ -14,6 +14,7 @@ use Rattle.buffer.proofs.Lists.{all-at, pairs-at}
 use Rattle.store.specs.declared.Entry.{Entry}
 use Rattle.variable.specs.Good.{goodVariables}
 use Rattle.machine.specs.GoodArea.{goodHeader, goodKernel, goodProcess, otherId}
+use Rattle.machine.specs.Limits.{idLimit}
 use Rattle.machine.specs.State.{isLive, liveIds, noProcess, processAt}
 use Rattle.machine.specs.declared.Kernel.{Kernel}
 use Rattle.machine.specs.declared.Process.{Process}
@@ -22,12 +23,12 @@ use Rattle.machine.specs.declared.Process.{Process}
 pub record GoodHeader (k : Kernel) : Type 0 where
   pub zeros : all (eqb 0) (k .zeros) ≡ true
   pub low : 1 ≤ k .next
-  pub high : k .next ≤ 32768
+  pub high : k .next ≤ idLimit
 
 pub good-header-is : (k : Kernel) → goodHeader k ≡ true → GoodHeader k
 unfolding goodHeader
 good-header-is k t =
-    let r = and-right (all (eqb 0) (k .zeros)) (leb 1 (k .next) && leb (k .next) 32768) t in
+    let r = and-right (all (eqb 0) (k .zeros)) (leb 1 (k .next) && leb (k .next) idLimit) t in
     record {
       zeros = and-left (all (eqb 0) (k .zeros)) _ t;
       low = leb-true _ _ (and-left (leb 1 (k .next)) _ r);

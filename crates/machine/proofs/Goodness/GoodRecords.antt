@@ -11,6 +11,7 @@ use Rattle.buffer.proofs.Bools.{and-left, and-right, and-both, true-not-false}
 use Rattle.buffer.proofs.Lists.{same-eq, same-refl}
 use Rattle.store.specs.declared.Entry.{Entry}
 use Rattle.machine.specs.GoodArea.{goodFile, goodId, goodLive, goodProcess, goodRegisters, isOpenIn, isProgram}
+use Rattle.machine.specs.Limits.{stackSize}
 use Rattle.machine.specs.State.{isLive, noLoop}
 use Rattle.machine.specs.declared.OpenFile.{OpenFile}
 use Rattle.machine.specs.declared.Process.{Process}
@@ -19,7 +20,7 @@ use Rattle.buffer.proofs.Disjunctions.{or-cases, or-first, or-second}
 -- ---- the numbers of a live record
 pub record GoodRegisters (p : Process) : Type 0 where
   pub spare : p .spare ≡ 0
-  pub sp : p .sp ≤ 32
+  pub sp : p .sp ≤ stackSize
   pub pc : p .pc ≤ p .code .len
   pub loop : (p .loopstart ≡ noLoop) ⊎ (p .loopstart ≤ p .code .len)
 
@@ -27,11 +28,11 @@ pub good-registers-is : (p : Process) → goodRegisters p ≡ true → GoodRegis
 unfolding goodRegisters
 good-registers-is p t =
     let r = and-right (eqb (p .spare) 0) _ t in
-    let s = and-right (leb (p .sp) 32) _ r in
+    let s = and-right (leb (p .sp) stackSize) _ r in
     let u = and-right (leb (p .pc) (p .code .len)) _ s in
     record {
       spare = eqb-true _ _ (and-left (eqb (p .spare) 0) _ t);
-      sp = leb-true _ _ (and-left (leb (p .sp) 32) _ r);
+      sp = leb-true _ _ (and-left (leb (p .sp) stackSize) _ r);
       pc = leb-true _ _ (and-left (leb (p .pc) (p .code .len)) _ s);
       loop = ⊎-elim (λ e. inl (eqb-true _ _ e)) (λ e. inr (leb-true _ _ e)) (or-cases (eqb (p .loopstart) noLoop) _ u);
     }

@@ -15,6 +15,7 @@ use Rattle.buffer.proofs.Bools.{true-not-false}
 use Rattle.buffer.proofs.Tables.{index-at}
 use Rattle.store.specs.Directory.{entryAt, lookup}
 use Rattle.store.specs.declared.Entry.{Entry}
+use Rattle.machine.specs.Limits.{idLimit}
 use Rattle.machine.specs.Start.{started, startedProcess, starting, startIn, starts}
 use Rattle.machine.specs.State.{endedSlot, isLive, noProcess, processAt}
 use Rattle.machine.specs.declared.Kernel.{Kernel}
@@ -26,14 +27,14 @@ pub record Begins (name : List ℕ) (k : Kernel) (disc : List ℕ) (slot : ℕ) 
   pub file : ℕ
   pub found : lookup disc name ≡ At file
   pub entry : e ≡ entryAt disc file
-  pub unspent : k .next ≡ 32768 → ⊥
+  pub unspent : k .next ≡ idLimit → ⊥
 
 pub starting-begins : (name : List ℕ) (k : Kernel) (disc : List ℕ) (slot : ℕ) (e : Entry) → starting k disc name ≡ starts slot e
     → Begins name k disc slot e
 unfolding starting endedSlot
-starting-begins name k disc slot e = go (endedSlot k) refl (lookup disc name) refl (eqb (k .next) 32768) refl
+starting-begins name k disc slot e = go (endedSlot k) refl (lookup disc name) refl (eqb (k .next) idLimit) refl
   where
-    go : (f : Found) → endedSlot k ≡ f → (h : Found) → lookup disc name ≡ h → (b : Bool) → eqb (k .next) 32768 ≡ b
+    go : (f : Found) → endedSlot k ≡ f → (h : Found) → lookup disc name ≡ h → (b : Bool) → eqb (k .next) idLimit ≡ b
         → startIn f h b disc ≡ starts slot e → Begins name k disc slot e
     go Nowhere p h q b r t = absurd (let z : _≡_ {A = ℕ} 0 1 = cc in omega arith)
     go (At s) p Nowhere q b r t = absurd (let z : _≡_ {A = ℕ} 0 1 = cc in omega arith)
@@ -49,7 +50,7 @@ starting-begins name k disc slot e = go (endedSlot k) refl (lookup disc name) re
           found = q;
           entry = that;
           unspent =
-              eqb-false (k .next) 32768 r;
+              eqb-false (k .next) idLimit r;
         }
 
 -- ---- the records after a start

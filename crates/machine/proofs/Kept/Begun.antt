@@ -5,6 +5,7 @@ use mathlib.Core.List.{List, []}
 use Rattle.buffer.specs.declared.Found.the-variants.{At}
 use Rattle.store.specs.Directory.{entryAt, lookup}
 use Rattle.variable.specs.Table.{owned}
+use Rattle.machine.specs.Limits.{slotCount}
 use Rattle.machine.specs.Start.{startedProcess}
 use Rattle.machine.specs.State.{processAt}
 use Rattle.machine.specs.declared.Kernel.{Kernel}
@@ -15,5 +16,5 @@ pub record Begun (name : List ℕ) (i : ℕ) (disc : List ℕ) (j : Kernel) (aft
   pub file : ℕ
   pub found : lookup disc name ≡ At file
   pub process : processAt j slot ≡ startedProcess (entryAt disc file) i
-  pub inside : slot < 10
+  pub inside : slot < slotCount
   pub variables : owned (j .variables) i ≡ []

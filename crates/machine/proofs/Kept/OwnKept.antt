@@ -18,6 +18,7 @@ use Rattle.variable.proofs.Freeing.{freed-shaped}
 use Rattle.variable.proofs.Goodness.{assigned-good, freed-all-good, good-variables-is}
 use Rattle.variable.proofs.Setting.{assigned-shaped}
 use Rattle.machine.specs.GoodArea.{goodProcess, isProgram}
+use Rattle.machine.specs.Limits.{slotCount}
 use Rattle.machine.specs.State.{ended, endedProcess, isLive, liveIds, processAt, withProcess, withVariables}
 use Rattle.machine.specs.declared.Kernel.{Kernel}
 use Rattle.machine.specs.declared.Process.{Process}
@@ -32,7 +33,7 @@ use Rattle.machine.proofs.Changes.Slots.{live-inside}
 -- ---- a record replaced, and a table of variables
 module _ (k : Kernel) (disc : List ℕ) (w : ℕ) (q : Process) (v : Variables) where
   -- q is the live process that was there, or not live
-  pub replaced-good : GoodState k disc → (w < 10 → SizedProcess q) → goodProcess (files disc) (k .next) q ≡ true
+  pub replaced-good : GoodState k disc → (w < slotCount → SizedProcess q) → goodProcess (files disc) (k .next) q ≡ true
       → (isLive q ≡ true → (isLive (processAt k w) ≡ true) × (q .id ≡ processAt k w .id))
       → Shaped v → goodVariables (liveIds (withProcess k w q)) v ≡ true
       → GoodState (withVariables (withProcess k w q) v) disc

@@ -14,7 +14,9 @@ use Rattle.store.specs.declared.Entry.{Entry}
 use Rattle.store.proofs.Goodness.{good-entry-at}
 use Rattle.store.proofs.Lookups.{lookup-at}
 use Rattle.store.proofs.Names.{field-length}
+use Rattle.store.specs.Layout.{nameSize}
 use Rattle.machine.specs.GoodArea.{goodProcess, isProgram}
+use Rattle.machine.specs.Limits.{idLimit}
 use Rattle.machine.specs.Start.{started, startedProcess}
 use Rattle.machine.specs.State.{isLive, liveIds, noProcess, processAt}
 use Rattle.machine.specs.declared.Kernel.{Kernel}
@@ -104,13 +106,13 @@ module _ {name : List ℕ} {k : Kernel} {disc : List ℕ} {slot : ℕ} {e : Entr
   header = record {
     zeros = area .header .zeros;
     low = omega arith;
-    high = let n : k .next ≡ 32768 → ⊥ = b .unspent in
+    high = let n : k .next ≡ idLimit → ⊥ = b .unspent in
         omega (arith, area .header .high);
   }
 
-  named : length (e .name) ≡ 12
+  named : length (e .name) ≡ nameSize
   named =
-      subst⁻¹ (λ (x : Entry). length (x .name) ≡ 12) (b .entry)
+      subst⁻¹ (λ (x : Entry). length (x .name) ≡ nameSize) (b .entry)
       (field-length (entryAt disc (b .file) .name)
       (good-entry-at disc (g .sound) (b .file) (lookup-at disc name (b .file) (b .found) .inside) .field))
 

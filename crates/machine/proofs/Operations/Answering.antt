@@ -11,6 +11,7 @@ use Rattle.buffer.proofs.Bools.{true-not-false}
 use Rattle.store.specs.declared.Entry.{Entry}
 use Rattle.machine.specs.Beyond.{Answered, carriesOn, answered, forked, isAwaited, pushId}
 use Rattle.machine.specs.Effect.{Request, opens, closes, writes, reads, readsString, forks, awaits}
+use Rattle.machine.specs.Limits.{stackSize}
 use Rattle.machine.specs.Start.{Starting, starts, refuses, started, startedProcess, starting}
 use Rattle.machine.specs.State.{Local, isLive, isRunning, localOf, noProcess, processAt, withLocal, withProcess}
 use Rattle.machine.specs.Turn.{programOf}
@@ -43,7 +44,7 @@ module _ {k : Kernel} {disc : List ℕ} (good : GoodState k disc) (slot : ℕ) (
   moved l fits = moves-local good slot live name l fits
 
   -- ---- FORK
-  push-fits : (l : Local) (id : ℕ) → length (l .stack) + 3 ≤ 32 → Fits l → Fits (pushId l id)
+  push-fits : (l : Local) (id : ℕ) → length (l .stack) + 3 ≤ stackSize → Fits l → Fits (pushId l id)
   push-fits l id h fits = record { stack = simp length-append (omega arith); pc = fits .pc; loop = fits .loop }
 
   -- the child takes an ended slot, so not the own one
@@ -51,7 +52,7 @@ module _ {k : Kernel} {disc : List ℕ} (good : GoodState k disc) (slot : ℕ) (
   other-slot child e h same =
       true-not-false live (subst⁻¹ (λ (i : ℕ). isLive (processAt k i) ≡ false) same (starting-begins name k disc child e h .free))
 
-  fork-change : (l : Local) → length (l .stack) + 3 ≤ 32 → Fits l → Changes (forked k slot disc (starting k disc name) l)
+  fork-change : (l : Local) → length (l .stack) + 3 ≤ stackSize → Fits l → Changes (forked k slot disc (starting k disc name) l)
   fork-change l h fits = go (starting k disc name) refl
     where
       go : (s : Starting) → starting k disc name ≡ s → Changes (forked k slot disc s l)

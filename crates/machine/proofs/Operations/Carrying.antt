@@ -11,6 +11,7 @@ use Rattle.variable.specs.Assign.{assigned, valueOf}
 use Rattle.variable.specs.Good.{goodSize}
 use Rattle.variable.specs.declared.Placing.{Placing}
 use Rattle.variable.specs.declared.Placing.the-variants.{Address, NoEntry, NoRun}
+use Rattle.variable.specs.Limits.{valueSize}
 use Rattle.machine.specs.State.{Local, ended, isLive, processAt, withFile, withLocal, withProcess}
 use Rattle.machine.specs.Turn.{programOf, setting}
 use Rattle.machine.specs.declared.Kernel.{Kernel}
@@ -74,7 +75,7 @@ module _ {k : Kernel} {disc : List ℕ} (good : GoodState k disc) (slot : ℕ) (
         acts k (nothing refl refl)
         (sets (withLocal p l) letter (valueOf kind bytes) a (goes-on-local l within) size (ap length whole) e refl)
       where
-        whole : take (length bytes) (bytes ++ replicate (32 - length bytes) 0) ≡ bytes
-        whole = take-at bytes (replicate (32 - length bytes) 0) (length bytes) refl
-    assigns-here letter kind bytes l within size NoEntry e = ends-here 10
-    assigns-here letter kind bytes l within size NoRun e = ends-here 10
+        whole : take (length bytes) (bytes ++ replicate (valueSize - length bytes) 0) ≡ bytes
+        whole = take-at bytes (replicate (valueSize - length bytes) 0) (length bytes) refl
+    assigns-here letter kind bytes l within size NoEntry e = ends-here _
+    assigns-here letter kind bytes l within size NoRun e = ends-here _

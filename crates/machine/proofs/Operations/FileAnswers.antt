@@ -27,9 +27,10 @@ use Rattle.store.proofs.Changes.{entered-count, entered-new}
 use Rattle.store.proofs.Goodness.{good-entry-at}
 use Rattle.store.proofs.Invariant.{room}
 use Rattle.store.proofs.Lookups.{lookup-at}
-use Rattle.machine.specs.Beyond.{Answered, breaks, advanced, continues, created, createdAt, fileRun, inside, opened, openedAt}
+use Rattle.machine.specs.Beyond.{advanced, Answered, breaks, continues, created, createdAt, fileRun, inside, newFileSize, opened, openedAt}
 use Rattle.machine.specs.Beyond.{ownFile, pushed, received, unlessBreaks, withOpenFile, written}
 use Rattle.machine.specs.GoodArea.{isOpenIn}
+use Rattle.machine.specs.Limits.{stackSize}
 use Rattle.machine.specs.Stack.{push, pushString}
 use Rattle.machine.specs.State.{Local, isLive, isRunning, processAt, withFile, withLocal}
 use Rattle.machine.specs.Turn.{answering, programOf}
@@ -133,7 +134,7 @@ module _ {k : Kernel} {disc : List ℕ} (good : GoodState k disc) (slot : ℕ) (
           let h = lookup-at disc title i e .inside in
           continued l (opened (runFrom (entryAt disc i .start) (entryAt disc i .len))) fits
           (entry-opened disc i (entryAt disc i .len) (entryAt disc i .start) h refl refl (good-entry-at disc (good .sound) i h .some))
-      found Nowhere e = sized (sizeWithin (length disc - 161) size)
+      found Nowhere e = sized (newFileSize disc size)
 
   -- ---- WRITE and the READs: "11 no open file; 12 past the file's end"
   in-file : (n : ℕ) (rest : Answered) → (Opened (files disc) (p .file) → p .file .offset + n ≤ p .file .len → Changes rest)
@@ -170,9 +171,9 @@ module _ {k : Kernel} {disc : List ℕ} (good : GoodState k disc) (slot : ℕ) (
   -- fault 4 comes after 11 and 12
   pub read-change : (stack : List ℕ) (n : ℕ) (l : Local) → Fits l
       → Changes (withOpenFile k slot disc (inside k slot disc n (received k slot disc stack n l)))
-  read-change stack n l fits = in-file n (received k slot disc stack n l) (λ o h. go o h (leb (length stack) 32) refl)
+  read-change stack n l fits = in-file n (received k slot disc stack n l) (λ o h. go o h (leb (length stack) stackSize) refl)
     where
-      go : Opened (files disc) (p .file) → p .file .offset + n ≤ p .file .len → (b : Bool) → leb (length stack) 32 ≡ b
+      go : Opened (files disc) (p .file) → p .file .offset + n ≤ p .file .len → (b : Bool) → leb (length stack) stackSize ≡ b
           → Changes (unlessBreaks b 4 (continues k slot disc (pushed l stack) (advanced (p .file) n) disc))
       go o h false e = faulted 4
       go o h true e = continued (pushed l stack) (advanced (p .file) n)

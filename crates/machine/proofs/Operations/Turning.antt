@@ -11,6 +11,7 @@ use Rattle.variable.specs.declared.Placing.the-variants.{Address, NoEntry, NoRu
 use Rattle.variable.specs.declared.Variables.{Variables}
 use Rattle.machine.specs.Beyond.{Answered, carriesOn, breaks, answered}
 use Rattle.machine.specs.Effect.{Effect, goes, assigns, stops, faults, asks}
+use Rattle.machine.specs.Limits.{turnRoom}
 use Rattle.machine.specs.Stack.{topString}
 use Rattle.machine.specs.State.{Local, isLive, isRunning, localOf, processAt}
 use Rattle.machine.specs.Turn.{effectAt, answering, carriedOut, programOf, setting, turned}
@@ -47,21 +48,21 @@ module _ (k : Kernel) (slot clock : ℕ) (disc : List ℕ) (good : GoodState k d
       carried (faults n) s = ends-here good slot live name n
       carried (asks r) s = answer-change good slot running name refl r s
 
-  pub turn-prints : length (turned k slot clock disc .out) ≤ 32
+  pub turn-prints : length (turned k slot clock disc .out) ≤ turnRoom
   unfolding turned carriedOut Sound
   turn-prints = carried (effectAt k slot clock disc) sound
     where
-      set-prints : (q : Placing) (v : Variables) (l : Local) → length (setting k slot disc q v l .out) ≤ 32
+      set-prints : (q : Placing) (v : Variables) (l : Local) → length (setting k slot disc q v l .out) ≤ turnRoom
       set-prints (Address a) v l = omega arith
       set-prints NoEntry v l = omega arith
       set-prints NoRun v l = omega arith
 
-      answer-prints : (a : Answered) → length (answering k slot disc a .out) ≤ 32
+      answer-prints : (a : Answered) → length (answering k slot disc a .out) ≤ turnRoom
       answer-prints (carriesOn j after) = omega arith
       answer-prints (breaks n) = omega arith
 
       carried : (e : Effect) → Sound (programOf disc (processAt k slot)) (localOf (processAt k slot)) e
-          → length (carriedOut k slot disc e .out) ≤ 32
+          → length (carriedOut k slot disc e .out) ≤ turnRoom
       carried (goes l out) s = s .1
       carried (assigns letter kind bytes l) s =
           set-prints (assigned (k .variables) letter (processAt k slot .id) (valueOf kind bytes) .placing)

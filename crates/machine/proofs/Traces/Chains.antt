@@ -7,6 +7,7 @@ use lib.Dec.{leb}
 use lib.ListN.{length}
 use Rattle.machine.specs.Answer.{Answer, Call, turn, round, answer, refused}
 use Rattle.machine.specs.Area.{kernelOf}
+use Rattle.machine.specs.Limits.{roundRoom, turnRoom}
 use Rattle.machine.specs.Refusals.{Passes}
 use Rattle.machine.specs.Trace.{Event, Storage, event, lending, onlyIf, outputText}
 use Rattle.machine.specs.declared.Kernel.{Kernel}
@@ -51,22 +52,22 @@ module _ (s : Storage) (out : List ℕ) (passes : Passes (s .disc) (s .area)) wh
   one-event c text r = (refl, refl, passes, record { out = out; same = refl; reports = r }, (refl, refl))
 
   -- "calls lent too little output aside"
-  pub short-turn : (slot clock : ℕ) → leb 32 (length out) ≡ false → answer (turn slot clock) (lending s out) ≡ refused 4 (lending s out)
+  pub short-turn : (slot clock : ℕ) → leb turnRoom (length out) ≡ false → answer (turn slot clock) (lending s out) ≡ refused 4 (lending s out)
   unfolding answer
   short-turn slot clock h = rw (passes .sizes, passes .disc-good, passes .area-good, h)
 
-  pub short-round : (clock : ℕ) → leb 320 (length out) ≡ false → answer (round clock) (lending s out) ≡ refused 4 (lending s out)
+  pub short-round : (clock : ℕ) → leb roundRoom (length out) ≡ false → answer (round clock) (lending s out) ≡ refused 4 (lending s out)
   unfolding answer
   short-round clock h = rw (passes .sizes, passes .disc-good, passes .area-good, h)
 
   pub turn-leads : (slot clock : ℕ)
-      → Leads k (s .disc) (onlyIf (leb 32 (length out))
+      → Leads k (s .disc) (onlyIf (leb turnRoom (length out))
       (event (turn slot clock) s (answer (turn slot clock) (lending s out)) (outputText (answer (turn slot clock) (lending s out)))))
       (kernelOf (answer (turn slot clock) (lending s out) .area)) (answer (turn slot clock) (lending s out) .disc)
   unfolding Leads
-  turn-leads slot clock = go (leb 32 (length out)) refl
+  turn-leads slot clock = go (leb turnRoom (length out)) refl
     where
-      go : (f : Bool) → leb 32 (length out) ≡ f
+      go : (f : Bool) → leb turnRoom (length out) ≡ f
           → Leads k (s .disc) (onlyIf f
           (event (turn slot clock) s (answer (turn slot clock) (lending s out))
           (outputText (answer (turn slot clock) (lending s out)))))

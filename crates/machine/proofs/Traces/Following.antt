@@ -14,6 +14,7 @@ use Rattle.variable.specs.declared.Placing.{Placing}
 use Rattle.variable.specs.declared.Placing.the-variants.{Address}
 use Rattle.machine.specs.Effect.{goes, assigns}
 use Rattle.machine.specs.Exec.{exec}
+use Rattle.machine.specs.Limits.{stackSize}
 use Rattle.machine.specs.Observation.{seen, next, observedOf, seenIn, seenOf}
 use Rattle.machine.specs.Single.{Response, did, Single, advancedTo, inState, over, singleEffect}
 use Rattle.machine.specs.State.{Local, ended, endedProcess, isLive, localOf, processAt, withLocal, withProcess, withState}
@@ -29,7 +30,7 @@ use Rattle.machine.proofs.Changes.Replaced.{put-at}
 -- ---- a record and variables that show the single process's state
 pub record Holds (p : Process) (variables : List Cell) (s : Single) : Type 0 where
   pub sp : p .sp ≡ length (s .loc .stack)
-  pub stack : p .stack ≡ s .loc .stack ++ replicate (32 - length (s .loc .stack)) 0
+  pub stack : p .stack ≡ s .loc .stack ++ replicate (stackSize - length (s .loc .stack)) 0
   pub pc : p .pc ≡ s .loc .pc
   pub loop : p .loopstart ≡ s .loc .loopstart
   pub state : p .state ≡ s .state
@@ -57,7 +58,7 @@ held-local {p} {variables} {s} h = λ t. record { stack = bytes t; pc = h .pc t;
     bytes : take (p .sp) (p .stack) ≡ s .loc .stack
     bytes =
         (λ t. take (h .sp t) (h .stack t))
-        ∙ take-at (s .loc .stack) (replicate (32 - length (s .loc .stack)) 0) (length (s .loc .stack)) refl
+        ∙ take-at (s .loc .stack) (replicate (stackSize - length (s .loc .stack)) 0) (length (s .loc .stack)) refl
 
 -- ---- following
 pub record Follows (i : ℕ) (prog : List ℕ) (k : Kernel) (disc : List ℕ) (s : Single) : Type 0 where

@@ -17,6 +17,7 @@ use Rattle.machine.specs.Answer.{Answer, Buffers, Call, command, turn, a
 use Rattle.machine.specs.Area.{kernelBytes, kernelOf}
 use Rattle.machine.specs.Effect.{Effect, goes, assigns, stops, faults, asks}
 use Rattle.machine.specs.Exec.{exec}
+use Rattle.machine.specs.Limits.{slotCount, turnRoom}
 use Rattle.machine.specs.Suppositions.{executedBy, isBarred, isLacking, lacksSpace, setLacks}
 use Rattle.machine.specs.Observation.{seen, next, observedBy, observedOf, placeIn, seenIn, slotIn}
 use Rattle.machine.specs.Operations.{Command, suspend, resume, kill, Commanded, becomes, refused as denied, changed, commandAt}
@@ -118,7 +119,7 @@ module _ (i : ℕ) (prog : List ℕ) (s : Storage) (out : List ℕ) (q : Single)
           go (asks r) d = absurd (exec-quiet prog clock (q .loc) (q .cells) quiet r d)
 
       -- Document 01, single process: "a turn unless running (16)"
-      pub turn-answers : leb 32 (length out) ≡ true → (isRunning p ≡ true → Sheltered)
+      pub turn-answers : leb turnRoom (length out) ≡ true → (isRunning p ≡ true → Sheltered)
           → Answers (turn (x .slot) clock) (answer (turn (x .slot) clock) b) (outputText (answer (turn (x .slot) clock) b))
           (single prog q (tick clock))
       unfolding single
@@ -127,8 +128,8 @@ module _ (i : ℕ) (prog : List ℕ) (s : Storage) (out : List ℕ) (q : Single)
           t : Turned
           t = turned k (x .slot) clock (s .disc)
 
-          low : ltb (x .slot) 10 ≡ true
-          low = lt-ltb (x .slot) 10 (live-below-ten good (x .slot) (x .live))
+          low : ltb (x .slot) slotCount ≡ true
+          low = lt-ltb (x .slot) slotCount (live-below-ten good (x .slot) (x .live))
 
           c : Call
           c = turn (x .slot) clock

@@ -18,6 +18,7 @@ use Rattle.variable.specs.declared.Variable.{Variable}
 use Rattle.variable.specs.declared.Variables.{Variables}
 use Rattle.variable.proofs.Freeing.{freed-counted}
 use Rattle.variable.proofs.Setting.{assigned-no-entry, assigned-no-run}
+use Rattle.variable.specs.Limits.{maxVariables, memorySize}
 use Rattle.machine.specs.Suppositions.{lacksSpace}
 use Rattle.buffer.proofs.Disjunctions.{any-none, or-first, or-second}
 
@@ -36,14 +37,14 @@ module _ (v : Variables) (name i : ℕ) (x : Value) where
       go : (q : Placing) → assigned v name i x .placing ≡ q → (a : ℕ) × (assigned v name i x .placing ≡ Address a)
       go (Address a) e = (a, e)
       go NoEntry e =
-          let full : leb 25 (length others) ≡ true =
-          le-leb 25 (length others) (subst (λ (n : ℕ). 25 ≤ n) freed-count-is (assigned-no-entry v name i x e)) in
+          let full : leb maxVariables (length others) ≡ true =
+          le-leb maxVariables (length others) (subst (λ (n : ℕ). maxVariables ≤ n) freed-count-is (assigned-no-entry v name i x e)) in
           absurd (true-not-false (or-first _ full) h)
       go NoRun e =
           let runs : freed v (isOf name i) .count ≡ length others = freed-count-is in
-          let none : (a : ℕ) → fits (map runOf others) 0 256 (x .size) a ≡ false = λ a.
-          subst (λ (l : List Variable). fits (map runOf l) 0 256 (x .size) a ≡ false) (freed-counted v (isOf name i))
+          let none : (a : ℕ) → fits (map runOf others) 0 memorySize (x .size) a ≡ false = λ a.
+          subst (λ (l : List Variable). fits (map runOf l) 0 memorySize (x .size) a ≡ false) (freed-counted v (isOf name i))
           (assigned-no-run v name i x e a) in
           absurd (true-not-false
-          (or-second (leb 25 (length others))
-          (not-is-true (any-none (fits (map runOf others) 0 256 (x .size)) (tab (λ a. a) 256) none))) h)
+          (or-second (leb maxVariables (length others))
+          (not-is-true (any-none (fits (map runOf others) 0 memorySize (x .size)) (tab (λ a. a) memorySize) none))) h)

@@ -11,6 +11,7 @@ use Rattle.buffer.specs.Buffer.{overwrite}
 use Rattle.buffer.specs.Lists.{all}
 use Rattle.machine.specs.Answer.{Answer, Buffers, answer, round, turnedAnswer}
 use Rattle.machine.specs.Area.{Whole, kernelOf}
+use Rattle.machine.specs.Limits.{roundRoom}
 use Rattle.machine.specs.Refusals.{Passes}
 use Rattle.machine.specs.Operations.{turnsOf}
 use Rattle.machine.specs.Trace.{Event, IsItsEvents, Storage, lending, tenSlots, outputText, turnEvents}
@@ -30,7 +31,7 @@ round-events s out clock n whole done =
     b : Buffers
     b = lending s out
 
-    passed : Passes (s .disc) (s .area) × (leb 320 (length out) ≡ true)
+    passed : Passes (s .disc) (s .area) × (leb roundRoom (length out) ≡ true)
     passed = round-passed b clock n done
 
     u : Turned

@@ -11,6 +11,7 @@ use Rattle.buffer.specs.Lists.{all, consIf, flat}
 use Rattle.buffer.proofs.Bools.{and-left, and-right}
 use Rattle.machine.specs.Answer.{Answer, Buffers, turn, answer, refused}
 use Rattle.machine.specs.Area.{Whole, kernelBytes, kernelOf}
+use Rattle.machine.specs.Limits.{slotCount, turnRoom}
 use Rattle.machine.specs.Operations.{turnIfRunning, turnsOf}
 use Rattle.machine.specs.Refusals.{Passes}
 use Rattle.machine.specs.State.{isRunning, processAt}
@@ -30,11 +31,11 @@ record Taken (s : Storage) (slot clock : ℕ) (a : Answer) (t : Turned) : Type 0
   count : counts (a .number) ≡ length (t .out)
   text : outputText a ≡ t .out
 
-abbrev lent32 : Storage → Buffers
-lent32 s = lending s (replicate 32 0)
+abbrev lent : Storage → Buffers
+lent s = lending s (replicate turnRoom 0)
 
-taken : (s : Storage) (slot clock : ℕ) → ltb slot 10 ≡ true → Passes (s .disc) (s .area)
-    → Taken s slot clock (answer (turn slot clock) (lent32 s)) (turnIfRunning (kernelOf (s .area)) slot clock (s .disc))
+taken : (s : Storage) (slot clock : ℕ) → ltb slot slotCount ≡ true → Passes (s .disc) (s .area)
+    → Taken s slot clock (answer (turn slot clock) (lent s)) (turnIfRunning (kernelOf (s .area)) slot clock (s .disc))
 unfolding turnIfRunning
 taken s slot clock low passes = go (isRunning (processAt k slot)) refl
   where
@@ -45,9 +46,9 @@ taken s slot clock low passes = go (isRunning (processAt k slot)) refl
     t = turned k slot clock (s .disc)
 
     go : (f : Bool) → isRunning (processAt k slot) ≡ f
-        → Taken s slot clock (answer (turn slot clock) (lent32 s)) (cond f t (record { kernel = k; disc = s .disc; out = [] }))
+        → Taken s slot clock (answer (turn slot clock) (lent s)) (cond f t (record { kernel = k; disc = s .disc; out = [] }))
     go true h =
-        subst⁻¹ (λ (a : Answer). Taken s slot clock a t) (turn-running (lent32 s) slot clock passes refl low h)
+        subst⁻¹ (λ (a : Answer). Taken s slot clock a t) (turn-running (lent s) slot clock passes refl low h)
         (record {
           kernel = good-back (t .kernel) (t .disc) (turn-good k slot clock (s .disc) (passes-good (s .disc) (s .area) passes) h);
           disc = refl;
@@ -56,22 +57,22 @@ taken s slot clock low passes = go (isRunning (processAt k slot)) refl
         })
     go false h =
         subst⁻¹ (λ (a : Answer). Taken s slot clock a (record { kernel = k; disc = s .disc; out = [] }))
-        (turn-not-running (lent32 s) slot clock passes refl low h)
+        (turn-not-running (lent s) slot clock passes refl low h)
         (record { kernel = refl; disc = refl; count = refl; text = refl })
 
-whole-kept : (s : Storage) (slot clock : ℕ) → ltb slot 10 ≡ true → Passes (s .disc) (s .area) → Whole (s .area)
-    → Whole (answer (turn slot clock) (lent32 s) .area)
+whole-kept : (s : Storage) (slot clock : ℕ) → ltb slot slotCount ≡ true → Passes (s .disc) (s .area) → Whole (s .area)
+    → Whole (answer (turn slot clock) (lent s) .area)
 whole-kept s slot clock low passes whole = go (isRunning (processAt k slot)) refl
   where
     k : Kernel
     k = kernelOf (s .area)
 
-    go : (f : Bool) → isRunning (processAt k slot) ≡ f → Whole (answer (turn slot clock) (lent32 s) .area)
+    go : (f : Bool) → isRunning (processAt k slot) ≡ f → Whole (answer (turn slot clock) (lent s) .area)
     go true h =
         let t : Turned = turned k slot clock (s .disc) in
-        subst⁻¹ (λ (a : Answer). Whole (a .area)) (turn-running (lent32 s) slot clock passes refl low h)
+        subst⁻¹ (λ (a : Answer). Whole (a .area)) (turn-running (lent s) slot clock passes refl low h)
         (ap kernelBytes (good-back (t .kernel) (t .disc) (turn-good k slot clock (s .disc) (passes-good (s .disc) (s .area) passes) h)))
-    go false h = subst⁻¹ (λ (a : Answer). Whole (a .area)) (turn-not-running (lent32 s) slot clock passes refl low h) whole
+    go false h = subst⁻¹ (λ (a : Answer). Whole (a .area)) (turn-not-running (lent s) slot clock passes refl low h) whole
 
 -- what the events of these turns come to
 pub record Parts (s : Storage) (es : List Event) (u : Turned) : Type 0 where
@@ -83,7 +84,7 @@ pub record Parts (s : Storage) (es : List Event) (u : Turned) : Type 0 where
   pub area : Whole (s .area) → lastStorage s es .area ≡ kernelBytes (u .kernel)
 
 -- text is what these turns print, joined
-pub turn-parts : (l : List ℕ) (clock : ℕ) (s : Storage) (text : List ℕ) → all (λ slot. ltb slot 10) l ≡ true → Passes (s .disc) (s .area)
+pub turn-parts : (l : List ℕ) (clock : ℕ) (s : Storage) (text : List ℕ) → all (λ slot. ltb slot slotCount) l ≡ true → Passes (s .disc) (s .area)
     → text ≡ turnsOf l (kernelOf (s .area)) clock (s .disc) .out
     → Parts s (turnEvents l clock s text) (turnsOf l (kernelOf (s .area)) clock (s .disc))
 unfolding turnEvents turnsOf Leads all flat total lastStorage PrintsItsPart
@@ -91,17 +92,17 @@ turn-parts [] clock s text low passes e =
     record { leads = (refl, refl); texts = refl; sum = refl; parts = tt; disc = refl; area = λ whole. sym whole }
 turn-parts (slot ∷ l) clock s text low passes e =
     go (isRunning (processAt k slot)) refl
-    (turn-parts l clock (storageOf a) (drop (counts (a .number)) text) (and-right (ltb slot 10) _ low)
-    (good-kept (lent32 s) passes (turn slot clock)) printed)
+    (turn-parts l clock (storageOf a) (drop (counts (a .number)) text) (and-right (ltb slot slotCount) _ low)
+    (good-kept (lent s) passes (turn slot clock)) printed)
   where
     k : Kernel
     k = kernelOf (s .area)
 
-    here : ltb slot 10 ≡ true
-    here = and-left (ltb slot 10) _ low
+    here : ltb slot slotCount ≡ true
+    here = and-left (ltb slot slotCount) _ low
 
     a : Answer
-    a = answer (turn slot clock) (lent32 s)
+    a = answer (turn slot clock) (lent s)
 
     t : Turned
     t = turnIfRunning k slot clock (s .disc)
@@ -132,13 +133,13 @@ turn-parts (slot ∷ l) clock s text low passes e =
         let r : Parts (storageOf a) later rest = subst (λ (u : Turned). Parts (storageOf a) later u) onward p in
         let own : take (counts (a .number)) text ≡ outputText a = part ∙ sym (facts .text) in
         let done : a .number ≡ pos (counts (a .number)) =
-        subst⁻¹ (λ (b : Answer). b .number ≡ pos (counts (b .number))) (turn-running (lent32 s) slot clock passes refl here h) refl in
+        subst⁻¹ (λ (b : Answer). b .number ≡ pos (counts (b .number))) (turn-running (lent s) slot clock passes refl here h) refl in
         record {
           leads = (
             refl,
             refl,
             passes,
-            record { out = replicate 32 0; same = refl; reports = record { turns = (refl, own); commands = tt; single = refl } },
+            record { out = replicate turnRoom 0; same = refl; reports = record { turns = (refl, own); commands = tt; single = refl } },
             r .leads,
           );
           texts = λ z. part z ++ r .texts z;
@@ -149,7 +150,7 @@ turn-parts (slot ∷ l) clock s text low passes e =
         }
     go false h p =
         let r : Parts (storageOf a) later rest = subst (λ (u : Turned). Parts (storageOf a) later u) onward p in
-        let refuses : a ≡ refused 16 (lent32 s) = turn-not-running (lent32 s) slot clock passes refl here h in
+        let refuses : a ≡ refused 16 (lent s) = turn-not-running (lent s) slot clock passes refl here h in
         let silent : t .out ≡ [] = sym (facts .text) ∙ ap outputText refuses in
         let same : storageOf a ≡ s = ap storageOf refuses in
         record {

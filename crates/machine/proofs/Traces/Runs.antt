@@ -10,6 +10,7 @@ use Rattle.buffer.specs.Lists.{all}
 use Rattle.machine.specs.Answer.{Answer, Buffers, Call, turn, round, command, run, other}
 use Rattle.machine.specs.Answer.{answer, turnedAnswer}
 use Rattle.machine.specs.Area.{kernelOf}
+use Rattle.machine.specs.Limits.{roundRoom}
 use Rattle.machine.specs.Operations.{slots, turnsOf}
 use Rattle.machine.specs.Refusals.{Passes}
 use Rattle.machine.specs.Trace.{Invocation, Storage, answerOf, events, eventsBy, lending, roundEvents, storageOf, tenSlots}
@@ -28,7 +29,7 @@ module _ (s : Storage) (out : List ℕ) (passes : Passes (s .disc) (s .area)) wh
       (roundEvents (answer (round clock) (lending s out) .number) clock s (outputText (answer (round clock) (lending s out))))
       (kernelOf (answer (round clock) (lending s out) .area)) (answer (round clock) (lending s out) .disc)
   unfolding Leads all
-  round-leads clock = go (leb 320 (length out)) refl
+  round-leads clock = go (leb roundRoom (length out)) refl
     where
       k : Kernel
       k = kernelOf (s .area)
@@ -42,7 +43,7 @@ module _ (s : Storage) (out : List ℕ) (passes : Passes (s .disc) (s .area)) wh
       Right : Answer → Type 0
       Right a = Leads k (s .disc) (roundEvents (a .number) clock s (outputText a)) (kernelOf (a .area)) (a .disc)
 
-      go : (f : Bool) → leb 320 (length out) ≡ f → Right (answer (round clock) b)
+      go : (f : Bool) → leb roundRoom (length out) ≡ f → Right (answer (round clock) b)
       go true h =
           subst⁻¹ Right (round-done b clock passes h)
           (subst⁻¹ (λ (j : Kernel). Leads k (s .disc) (turnEvents tenSlots clock s (outputText (turnedAnswer u b))) j (u .disc))
