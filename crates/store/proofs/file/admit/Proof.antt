@@ -68,9 +68,8 @@ placed c =
     let s = start (few (new c)) in
     let a = s .args in
     let n = few (new c) .before .file-count in
-    c .find-place .ensures
-    ∙ ap (λ (l : List Run). place l dataStart (length (a .disc .now)) (a .n))
-    (taken-first (a .disc .now) _ (n .result) (s .pre .few) (n .ensures) (c .before .taken-runs .ensures))
+    let e = taken-first (a .disc .now) _ (n .result) (s .pre .few) (n .ensures) (c .before .taken-runs .ensures) in
+    rw (← e) (c .find-place .ensures)
 
 returns : tie.Need-returns
 unfolding admission

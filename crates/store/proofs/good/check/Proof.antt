@@ -1,10 +1,11 @@
 use Prim.Native.Nat.{_≤_}
 use mathlib.Core.Path.{_≡_, sym, _∙_}
 use mathlib.Core.Bool.{true}
-use borrow.Author.Tests.{eqb-true, not-true, not-false}
+use borrow.Author.Tests.{not-true, not-false}
 use lib.ListN.{length}
 use Rattle.store.specs.Answer.{checked}
 use Rattle.store.specs.Directory.{isDiscLength}
+use Rattle.store.proofs.Checks.{disc-length-is}
 use native.Mathlib.Omega.{arith}
 use borrow.Author.Needs.{needs}
 use Rattle.store.proofs.good.check.Statement.{statement}
@@ -13,15 +14,12 @@ use Rattle.store.proofs.good.check.Tie as tie
 right : (c : tie.Else1) → isDiscLength (length (c .before .before .before .args .disc .now)) ≡ true
 right c = sym (c .before .is-disc-length .ensures) ∙ not-false _ (c .if1 .left)
 
-long : (c : tie.Else1) → 161 ≤ length (c .before .before .before .args .disc .now)
-long c = let e : length (c .before .before .before .args .disc .now) ≡ 1024 = eqb-true _ _ (right c) in omega arith
-
 returns : tie.Need-returns
 unfolding checked
 returns c = rw (sym (c .before .is-disc-length .ensures) ∙ not-true _ (c .if1 .taken))
 
 is-good-disc-requires : tie.Need-is-good-disc-requires
-is-good-disc-requires c κs = long c
+is-good-disc-requires c κs = disc-length-is _ (right c) .low
 
 returns-2 : tie.Need-returns-2
 unfolding checked

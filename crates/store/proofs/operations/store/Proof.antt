@@ -10,7 +10,7 @@ use Rattle.store.specs.File.{writtenAt}
 use Rattle.store.specs.declared.Admission.{Admission}
 use Rattle.store.specs.declared.Answer.the-variants.{Done}
 use Rattle.store.proofs.Admissions.{Admitted, admitted}
-use Rattle.store.proofs.Fields.{good-name-length}
+use Rattle.store.proofs.Names.{good-name-is}
 use native.Mathlib.Omega.{arith}
 use borrow.Author.Needs.{needs}
 use Rattle.store.proofs.operations.store.Statement.{statement}
@@ -48,8 +48,7 @@ enter-requires : tie.Need-enter-requires
 enter-requires c κs =
     let t = c .before in
     let a = let-in t in
-    let n = good-name-length _ (a .good) in
-    (fit (t .before .before .before .before .before) .ready, (a .few, omega arith, omega (arith, short t), omega (arith, short t)))
+    (fit (t .before .before .before .before .before) .ready, (a .few, omega (arith, good-name-is _ (a .good) .short), omega (arith, short t), omega (arith, short t)))
 
 cast-t20 : tie.Need-cast-t20
 cast-t20 c = omega (arith, short (c .before .before .before .before))
