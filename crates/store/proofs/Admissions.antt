@@ -51,7 +51,8 @@ Verdict disc name n (Denied r) = Denial disc name n r
 module _ (disc name : List ℕ) (n : ℕ) where
   verdict : Verdict disc name n (admission disc name n)
   unfolding admission placeOf
-  verdict = go (goodName name) refl (goodSize disc n) refl (ltb (fileCount disc) maxFiles) refl (lookup disc name) refl (placeOf disc n) refl
+  verdict =
+      go (goodName name) refl (goodSize disc n) refl (ltb (fileCount disc) maxFiles) refl (lookup disc name) refl (placeOf disc n) refl
     where
       go : (a : Bool) → goodName name ≡ a → (b : Bool) → goodSize disc n ≡ b → (c : Bool) → ltb (fileCount disc) maxFiles ≡ c → (f : Found)
           → lookup disc name ≡ f → (g : Found) → placeOf disc n ≡ g

@@ -171,7 +171,8 @@ module _ (disc : List ℕ) (n : ℕ) where
   free-space-fits e h = go (placeOf disc n) refl
     where
       some : isAt (placeOf disc n) ≡ true
-      some = subst (λ (k : ℕ). 0 < k → isAt (placeOf disc k) ≡ true) (free-space-is e .1) (longest-fits (taken disc) dataStart (length disc)) h
+      some = subst (λ (k : ℕ). 0 < k → isAt (placeOf disc k) ≡ true) (free-space-is e .1)
+          (longest-fits (taken disc) dataStart (length disc)) h
 
       go : (f : Found) → placeOf disc n ≡ f → (s : ℕ) × (placeOf disc n ≡ At s)
       go (At s) q = (s, q)

@@ -86,15 +86,16 @@ module _ {disc name : List ℕ} (n start : ℕ) (room : Room disc name) where
 
   pub entered-new : entryAt (entered disc name n start) (fileCount disc) ≡ newEntry name n start
   entered-new =
-      same-entry (entered disc name n start) (overwrite disc (fileCount disc * entrySize) (entryBytes (newEntry name n start))) (fileCount disc)
-      (fileCount disc) (entering .parts (fileCount disc * entrySize) entrySize (omega arith))
+      same-entry (entered disc name n start) (overwrite disc (fileCount disc * entrySize) (entryBytes (newEntry name n start)))
+      (fileCount disc) (fileCount disc) (entering .parts (fileCount disc * entrySize) entrySize (omega arith))
       ∙ entry-laid disc (fileCount disc) (newEntry name n start) (padded-length name (room .short)) (omega arith)
 
   pub entered-old : (i : ℕ) → i < fileCount disc → entryAt (entered disc name n start) i ≡ entryAt disc i
   entered-old i k =
       same-entry (entered disc name n start) disc i i
       (entering .parts (i * entrySize) entrySize (omega arith)
-      ∙ part-before disc (entryBytes (newEntry name n start)) (fileCount disc * entrySize) (omega (arith, entry-length)) (i * entrySize) entrySize (omega arith))
+      ∙ part-before disc (entryBytes (newEntry name n start)) (fileCount disc * entrySize) (omega (arith, entry-length)) (i * entrySize)
+      entrySize (omega arith))
 
   pub entered-files : files (entered disc name n start) ≡ files disc ++ (newEntry name n start ∷ [])
   entered-files =
@@ -122,7 +123,8 @@ module _ {disc : List ℕ} {i : ℕ} (file : Present disc i) where
 
   erasing : DirectoryChange disc (i * entrySize) (later ++ replicate entrySize 0) (fileCount disc - 1) (erased disc i)
   unfolding erased later
-  erasing = directory-change disc (later ++ replicate entrySize 0) (i * entrySize) (fileCount disc - 1) (omega (arith, moved-length)) (file .low)
+  erasing =
+      directory-change disc (later ++ replicate entrySize 0) (i * entrySize) (fileCount disc - 1) (omega (arith, moved-length)) (file .low)
 
   pub erased-length : length (erased disc i) ≡ length disc
   erased-length = erasing .same-length
@@ -134,11 +136,13 @@ module _ {disc : List ℕ} {i : ℕ} (file : Present disc i) where
   erased-data = erasing .same-data
 
   -- every byte but the count and those from the erased entry to the last is as it was
-  pub erased-byte : (j : ℕ) → (j < i * entrySize) ⊎ (fileCount disc * entrySize ≤ j) → (j ≡ countAt → ⊥) → getD (erased disc i) j 0 ≡ getD disc j 0
+  pub erased-byte : (j : ℕ) → (j < i * entrySize) ⊎ (fileCount disc * entrySize ≤ j) → (j ≡ countAt → ⊥)
+      → getD (erased disc i) j 0 ≡ getD disc j 0
   erased-byte j o k = erasing .same-bytes j (rw moved-length o) k
 
   -- a part of what moved up
-  moved : (at n : ℕ) → at + n ≤ (fileCount disc - i) * entrySize → part (erased disc i) (i * entrySize + at) n ≡ part (later ++ replicate entrySize 0) at n
+  moved : (at n : ℕ) → at + n ≤ (fileCount disc - i) * entrySize
+      → part (erased disc i) (i * entrySize + at) n ≡ part (later ++ replicate entrySize 0) at n
   moved at n k =
       erasing .parts (i * entrySize + at) n (omega arith)
       ∙ part-inside disc (later ++ replicate entrySize 0) (i * entrySize) (omega (arith, moved-length)) at n (omega (arith, moved-length))
@@ -154,7 +158,8 @@ module _ {disc : List ℕ} {i : ℕ} (file : Present disc i) where
   erased-earlier j k =
       same-entry (erased disc i) disc j j
       (erasing .parts (j * entrySize) entrySize (omega arith)
-      ∙ part-before disc (later ++ replicate entrySize 0) (i * entrySize) (omega (arith, moved-length)) (j * entrySize) entrySize (omega arith))
+      ∙ part-before disc (later ++ replicate entrySize 0) (i * entrySize) (omega (arith, moved-length)) (j * entrySize) entrySize
+      (omega arith))
 
   pub erased-later : (j : ℕ) → i ≤ j → j < fileCount disc - 1 → entryAt (erased disc i) j ≡ entryAt disc (suc j)
   unfolding later

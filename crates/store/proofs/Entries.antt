@@ -78,7 +78,8 @@ same-count d e h = same-byte d e dataStart countAt h (omega arith)
 pub same-files : (d e : List ℕ) → take dataStart d ≡ take dataStart e → fileCount e ≤ maxFiles → files d ≡ files e
 same-files d e h k =
     rw (same-count d e h)
-    (tab-same (entryAt d) (entryAt e) (fileCount e) (λ i n. same-entry d e i i (same-part d e dataStart (i * entrySize) entrySize h (omega arith))))
+    (tab-same (entryAt d) (entryAt e) (fileCount e)
+    (λ i n. same-entry d e i i (same-part d e dataStart (i * entrySize) entrySize h (omega arith))))
 
 -- ---- the runs that files take, read off the array that holds them
 pub taken-first : (disc : List ℕ) (runs : List Run) (count : ℕ) → fileCount disc ≤ maxFiles → count ≡ fileCount disc

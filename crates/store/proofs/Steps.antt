@@ -26,20 +26,14 @@ module _ (d : List ℕ) (h : dataStart ≤ length d) where
   entered-steps p name n s count q l e = overwrite-set p countAt (count + 1) (omega arith) ∙ rw (e, q)
 
   pub erased-steps : (m z : List ℕ) (i last : ℕ) → last ≡ fileCount d - 1 → i ≤ last → last < maxFiles → length z ≡ length d
-      → m ≡ overwrite d (i * entrySize) (part d (i * entrySize + entrySize) ((last - i) * entrySize)) → z ≡ overwrite m (last * entrySize) (replicate entrySize 0)
-      → set z countAt last ≡ erased d i
+      → m ≡ overwrite d (i * entrySize) (part d (i * entrySize + entrySize) ((last - i) * entrySize))
+      → z ≡ overwrite m (last * entrySize) (replicate entrySize 0) → set z countAt last ≡ erased d i
   unfolding erased
   erased-steps m z i last q a b l e f =
-      let n : length (part d (i * entrySize + entrySize) ((last - i) * entrySize)) ≡ (last - i) * entrySize =
-      part-length d (i * entrySize + entrySize) ((last - i) * entrySize) (omega arith) in
-      overwrite-set z countAt last (omega arith)
-      ∙ rw (
-        f,
-        e,
-        overwrite-joined d (part d (i * entrySize + entrySize) ((last - i) * entrySize)) (replicate entrySize 0) (i * entrySize) (last * entrySize) (omega arith)
-            (omega arith),
-        q,
-      )
+      let later = part d (i * entrySize + entrySize) ((last - i) * entrySize) in
+      let n = part-length d (i * entrySize + entrySize) ((last - i) * entrySize) (omega arith) in
+      let laid = overwrite-joined d later (replicate entrySize 0) (i * entrySize) (last * entrySize) (omega arith) (omega arith) in
+      overwrite-set z countAt last (omega arith) ∙ rw (f, e, laid, q)
 
 -- a line that is appended piece by piece
 pub line-appended : (t : Text) (a b c d : List ℕ) → t .len + length a + length b + length c ≤ length (t .bytes)

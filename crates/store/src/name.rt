@@ -50,7 +50,8 @@ pub fn pad(name: &[u8]) -> [u8; NAME_SIZE]
 
 // How many bytes stand before the first zero.
 pub fn text_length(bytes: &[u8]) -> usize
-    ensures { λ r. ⌜ (r ≤ length (now (bytes .entry))) × (take r (now (bytes .entry)) ≡ trimmed (now (bytes .entry))) ⌝ }
+    ensures { λ r. ⌜ (r ≤ length (now (bytes .entry)))
+        × (take r (now (bytes .entry)) ≡ trimmed (now (bytes .entry))) ⌝ }
 {
     let mut n: usize = 0;
     while n < bytes.len() {

@@ -12,11 +12,11 @@ use Rattle.store.proofs.good.is_good_entry.Tie as tie
 abbrev start : tie.Else1 → tie.Start
 start c = c .before .before .before
 
-abbrev named : tie.After-struct-known → tie.Else1
-named c = c .before
+abbrev named : tie.Else2 → tie.Else1
+named c = c .before .before
 
-abbrev some : tie.After-struct-known2 → tie.Else2
-some c = c .before
+abbrev some : tie.Else3 → tie.Else2
+some c = c .before .before
 
 abbrev low : tie.After-struct-known4 → tie.Else3
 low c = c .before .before
@@ -30,20 +30,20 @@ returns c = rw (sym (c .before .is-good-field .ensures) ∙ not-true _ (c .if1 .
 
 returns-2 : tie.Need-returns-2
 unfolding goodEntry
-returns-2 c = rw (field (named (c .before)), lt-leb _ _ (c .if2 .taken))
+returns-2 c = rw (field (c .before .before), lt-leb _ _ (c .if2 .taken))
 
 returns-3 : tie.Need-returns-3
 unfolding goodEntry
 returns-3 c =
-    let s = some (c .before) in
-    rw (field (named (s .before)), le-leb _ _ (s .if2 .left), lt-leb _ _ (c .if3 .taken))
+    let s = c .before .before in
+    rw (field (named s), le-leb _ _ (s .if2 .left), lt-leb _ _ (c .if3 .taken))
 
 returns-4 : tie.Need-returns-4
 unfolding goodEntry
 returns-4 c =
     let l = low c in
-    let s = some (l .before) in
-    rw (field (named (s .before)), le-leb _ _ (s .if2 .left), le-leb _ _ (l .if3 .left))
+    let s = some l in
+    rw (field (named s), le-leb _ _ (s .if2 .left), le-leb _ _ (l .if3 .left))
 
 pub is-good-entry-spec : {M : Type 1} → statement M
 is-good-entry-spec =

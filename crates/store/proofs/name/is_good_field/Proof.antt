@@ -1,9 +1,6 @@
 -- `name::is_good_field` meets its contract: the bytes before the first zero are a good name, and padded they are the field.
-use Prim.Native.Nat.{ℕ}
 use mathlib.Core.Path.{_≡_, sym, ap, _∙_}
-use mathlib.Core.List.{List}
 use borrow.Author.Tests.{not-true, not-false}
-use lib.ListN.{length}
 use lib.Seq.{length-take-le}
 use Rattle.buffer.specs.Lists.{same}
 use Rattle.store.specs.Name.{goodField, goodName, padded, trimmed}

@@ -3,9 +3,7 @@ use Prim.Native.Nat.{ℕ, _+_, _<_}
 use mathlib.Core.Path.{_≡_, sym, ap, _∙_}
 use mathlib.Core.List.{List}
 use lib.ListN.{length}
-use Rattle.place.specs.Place.{runFrom}
 use Rattle.store.specs.Answer.{checked, storeAnswer, storeAt, updated}
-use Rattle.store.specs.File.{writtenAt}
 use Rattle.store.specs.declared.Admission.{Admission}
 use Rattle.store.specs.declared.Answer.the-variants.{Done}
 use Rattle.store.specs.declared.Checked.the-variants.{Usable}
