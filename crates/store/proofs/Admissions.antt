@@ -14,6 +14,7 @@ use Rattle.place.specs.Place.{fits}
 use Rattle.place.proofs.Place.{Fits, no-place-none-fits, place-fits}
 use Rattle.store.specs.Directory.{fileCount, goodDisc, isDiscLength, lookup, taken}
 use Rattle.store.specs.File.{admission, denyIfFound, goodSize, placeOf, startOr, unless}
+use Rattle.store.specs.Layout.{dataStart, maxFiles}
 use Rattle.store.specs.Name.{goodName}
 use Rattle.store.specs.declared.Admission.{Admission}
 use Rattle.store.specs.declared.Admission.the-variants.{Start, Denied}
@@ -26,9 +27,9 @@ use Rattle.store.proofs.Goodness.{good-disc-is}
 pub record Admitted (disc name : List ℕ) (n s : ℕ) : Type 0 where
   pub good : goodName name ≡ true
   pub some : 1 ≤ n
-  pub few : fileCount disc < 10
+  pub few : fileCount disc < maxFiles
   pub new : lookup disc name ≡ Nowhere
-  pub placed : Fits (taken disc) 161 (length disc) n s
+  pub placed : Fits (taken disc) dataStart (length disc) n s
 
 -- what each refusal says where a file is to be stored: "1: a buffer has the wrong length. 2: disc not good.", then
 -- "5 bad name, 6 data length 0 or above 863, 8 ten files already, 7 name exists, 9 no free run long enough", and no other
@@ -37,9 +38,9 @@ Denial disc name n WrongLength = isDiscLength (length disc) ≡ false
 Denial disc name n BadDisc = goodDisc disc ≡ false
 Denial disc name n BadName = goodName name ≡ false
 Denial disc name n BadSize = goodSize disc n ≡ false
-Denial disc name n DirectoryFull = 10 ≤ fileCount disc
+Denial disc name n DirectoryFull = maxFiles ≤ fileCount disc
 Denial disc name n NameExists = (i : ℕ) × (lookup disc name ≡ At i)
-Denial disc name n NoRun = (s : ℕ) → fits (taken disc) 161 (length disc) n s ≡ false
+Denial disc name n NoRun = (s : ℕ) → fits (taken disc) dataStart (length disc) n s ≡ false
 Denial disc name n ShortOutput = ⊥
 Denial disc name n NoSuchFile = ⊥
 
@@ -50,24 +51,25 @@ Verdict disc name n (Denied r) = Denial disc name n r
 module _ (disc name : List ℕ) (n : ℕ) where
   verdict : Verdict disc name n (admission disc name n)
   unfolding admission placeOf
-  verdict = go (goodName name) refl (goodSize disc n) refl (ltb (fileCount disc) 10) refl (lookup disc name) refl (placeOf disc n) refl
+  verdict =
+      go (goodName name) refl (goodSize disc n) refl (ltb (fileCount disc) maxFiles) refl (lookup disc name) refl (placeOf disc n) refl
     where
-      go : (a : Bool) → goodName name ≡ a → (b : Bool) → goodSize disc n ≡ b → (c : Bool) → ltb (fileCount disc) 10 ≡ c → (f : Found)
+      go : (a : Bool) → goodName name ≡ a → (b : Bool) → goodSize disc n ≡ b → (c : Bool) → ltb (fileCount disc) maxFiles ≡ c → (f : Found)
           → lookup disc name ≡ f → (g : Found) → placeOf disc n ≡ g
           → Verdict disc name n
           (unless a (Denied BadName) (unless b (Denied BadSize) (unless c (Denied DirectoryFull) (denyIfFound f (startOr g)))))
       go false p b q c r f t g u = p
       go true p false q c r f t g u = q
-      go true p true q false r f t g u = ltb-false (fileCount disc) 10 r
+      go true p true q false r f t g u = ltb-false (fileCount disc) maxFiles r
       go true p true q true r (At i) t g u = (i, t)
-      go true p true q true r Nowhere t Nowhere u = no-place-none-fits (taken disc) 161 (length disc) n u
+      go true p true q true r Nowhere t Nowhere u = no-place-none-fits (taken disc) dataStart (length disc) n u
       go true p true q true r Nowhere t (At s) u =
           record {
             good = p;
-            some = leb-true 1 n (and-left (leb 1 n) (leb n (length disc - 161)) q);
-            few = ltb-true (fileCount disc) 10 r;
+            some = leb-true 1 n (and-left (leb 1 n) (leb n (length disc - dataStart)) q);
+            few = ltb-true (fileCount disc) maxFiles r;
             new = t;
-            placed = place-fits (taken disc) 161 (length disc) n s u;
+            placed = place-fits (taken disc) dataStart (length disc) n s u;
           }
 
   pub admitted : (s : ℕ) → admission disc name n ≡ Start s → Admitted disc name n s
@@ -77,19 +79,19 @@ module _ (disc name : List ℕ) (n : ℕ) where
   denied r e = subst (λ (a : Admission). Verdict disc name n a) e verdict
 
   -- refusal 8 only with ten files
-  pub denied-full : goodDisc disc ≡ true → admission disc name n ≡ Denied DirectoryFull → fileCount disc ≡ 10
-  denied-full g e = let full : 10 ≤ fileCount disc = denied DirectoryFull e in omega (arith, good-disc-is disc g .few)
+  pub denied-full : goodDisc disc ≡ true → admission disc name n ≡ Denied DirectoryFull → fileCount disc ≡ maxFiles
+  denied-full g e = let full : maxFiles ≤ fileCount disc = denied DirectoryFull e in omega (arith, good-disc-is disc g .few)
 
   -- what nothing speaks against is admitted
-  pub admits : (s : ℕ) → goodName name ≡ true → goodSize disc n ≡ true → fileCount disc < 10 → lookup disc name ≡ Nowhere
-      → fits (taken disc) 161 (length disc) n s ≡ true
+  pub admits : (s : ℕ) → goodName name ≡ true → goodSize disc n ≡ true → fileCount disc < maxFiles → lookup disc name ≡ Nowhere
+      → fits (taken disc) dataStart (length disc) n s ≡ true
       → (k : ℕ) × (admission disc name n ≡ Start k)
   unfolding admission placeOf
   admits s g z f l h = go (placeOf disc n) refl
     where
       start : (k : ℕ) → placeOf disc n ≡ At k → admission disc name n ≡ Start k
-      start k e = rw (g, z, lt-ltb (fileCount disc) 10 f, l, e)
+      start k e = rw (g, z, lt-ltb (fileCount disc) maxFiles f, l, e)
 
       go : (f : Found) → placeOf disc n ≡ f → (k : ℕ) × (admission disc name n ≡ Start k)
       go (At k) e = (k, start k e)
-      go Nowhere e = absurd (true-not-false h (no-place-none-fits (taken disc) 161 (length disc) n e s))
+      go Nowhere e = absurd (true-not-false h (no-place-none-fits (taken disc) dataStart (length disc) n e s))

@@ -8,7 +8,6 @@ use lib.Dec.{leb, ltb→lt}
 use lib.IntN.{ℤ, pos, negℤ, negℤ-negℤ}
 use lib.ListN.{length, getD}
 use lib.Signed.{_<ℤ_}
-use borrow.Author.Tests.{eqb-true}
 use Rattle.buffer.specs.Buffer.{overwrite}
 use Rattle.buffer.specs.Lists.{flat}
 use Rattle.buffer.specs.declared.Found.{Found}
@@ -20,13 +19,14 @@ use Rattle.store.specs.Answer.{Reported, Updated, answerNumber, fileLine
 use Rattle.store.specs.Answer.{refusalNumber, reported, retrieveAnswer, retrieveAt, storeAnswer, storeAt, updated}
 use Rattle.store.specs.Directory.{contents, entryAt, fileCount, files, goodDisc, isDiscLength, lookup, runOf, taken}
 use Rattle.store.specs.File.{admission, entered, placeOf, unless, writtenAt}
+use Rattle.store.specs.Layout.{dataStart, maxFiles}
 use Rattle.store.specs.declared.Admission.{Admission}
 use Rattle.store.specs.declared.Admission.the-variants.{Start, Denied}
 use Rattle.store.specs.declared.Answer.the-variants.{Done, Refused}
 use Rattle.store.specs.declared.Refusal.{Refusal}
 use Rattle.store.specs.declared.Refusal.the-variants.{WrongLength, BadDisc, ShortOutput, BadName, BadSize, NameExists, DirectoryFull}
 use Rattle.store.specs.declared.Refusal.the-variants.{NoRun, NoSuchFile}
-use Rattle.store.proofs.Checks.{by-checks, is-usable}
+use Rattle.store.proofs.Checks.{by-checks, disc-length-is, is-usable}
 use Rattle.store.proofs.Admissions.{Admitted, Denial, admitted, denied}
 use Rattle.store.proofs.Goodness.{good-disc-is}
 
@@ -146,21 +146,21 @@ store-admission disc name bytes l g = rw (is-usable disc l g)
 
 -- refusal 8 only with ten files, refusal 9 only where no start fits
 pub store-refused-full : (disc name bytes : List ℕ) → goodDisc disc ≡ true → storeAnswer disc name bytes .number ≡ negℤ (pos 8)
-    → fileCount disc ≡ 10
+    → fileCount disc ≡ maxFiles
 store-refused-full disc name bytes good e =
-    let full : 10 ≤ fileCount disc = store-refused-for disc name bytes DirectoryFull e in
+    let full : maxFiles ≤ fileCount disc = store-refused-for disc name bytes DirectoryFull e in
     omega (arith, good-disc-is disc good .few)
 
 pub store-refused-no-run : (disc name bytes : List ℕ) → storeAnswer disc name bytes .number ≡ negℤ (pos 9) → (s : ℕ)
-    → fits (taken disc) 161 (length disc) (length bytes) s ≡ false
+    → fits (taken disc) dataStart (length disc) (length bytes) s ≡ false
 store-refused-no-run disc name bytes e = store-refused-for disc name bytes NoRun e
 
 -- ---- free space
 module _ (disc : List ℕ) (n : ℕ) where
-  free-space-is : freeSpaceAnswer disc ≡ pos n → (isDiscLength (length disc) ≡ true) × (longest (taken disc) 161 (length disc) ≡ n)
+  free-space-is : freeSpaceAnswer disc ≡ pos n → (isDiscLength (length disc) ≡ true) × (longest (taken disc) dataStart (length disc) ≡ n)
   unfolding freeSpaceAnswer
   free-space-is =
-      by-checks disc (λ z. z ≡ pos n → (isDiscLength (length disc) ≡ true) × (longest (taken disc) 161 (length disc) ≡ n)) _ _
+      by-checks disc (λ z. z ≡ pos n → (isDiscLength (length disc) ≡ true) × (longest (taken disc) dataStart (length disc) ≡ n)) _ _
       (λ e h. absurd (refused-not-done WrongLength n h))
       (λ e h. absurd (refused-not-done BadDisc n h))
       (λ e f h. (e, cc))
@@ -171,7 +171,8 @@ module _ (disc : List ℕ) (n : ℕ) where
   free-space-fits e h = go (placeOf disc n) refl
     where
       some : isAt (placeOf disc n) ≡ true
-      some = subst (λ (k : ℕ). 0 < k → isAt (placeOf disc k) ≡ true) (free-space-is e .1) (longest-fits (taken disc) 161 (length disc)) h
+      some = subst (λ (k : ℕ). 0 < k → isAt (placeOf disc k) ≡ true) (free-space-is e .1)
+          (longest-fits (taken disc) dataStart (length disc)) h
 
       go : (f : Found) → placeOf disc n ≡ f → (s : ℕ) × (placeOf disc n ≡ At s)
       go (At s) q = (s, q)
@@ -182,5 +183,4 @@ module _ (disc : List ℕ) (n : ℕ) where
   unfolding placeOf
   free-space-most e m h =
       let f = free-space-is e in
-      let l : length disc ≡ 1024 = eqb-true (length disc) 1024 (f .0) in
-      longest-most (taken disc) 161 (length disc) (omega arith) m (omega (arith, f .1))
+      longest-most (taken disc) dataStart (length disc) (disc-length-is (length disc) (f .0) .low) m (omega (arith, f .1))

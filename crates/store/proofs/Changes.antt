@@ -18,6 +18,7 @@ use Rattle.buffer.proofs.Tables.{tab-without}
 use Rattle.place.specs.declared.Run.{Run}
 use Rattle.store.specs.Directory.{entryAt, entryBytes, fileCount, files}
 use Rattle.store.specs.File.{entered, erased, newEntry, writtenAt}
+use Rattle.store.specs.Layout.{countAt, dataStart, entrySize, maxFiles, nameSize}
 use Rattle.store.proofs.Entries.{entry-bytes-length, entry-laid, same-count, same-entry, same-files}
 use Rattle.store.proofs.Names.{padded-length}
 
@@ -25,48 +26,48 @@ use Rattle.store.proofs.Names.{padded-length}
 record DirectoryChange (disc : List ℕ) (at : ℕ) (s : List ℕ) (count : ℕ) (after : List ℕ) : Type 0 where
   same-length : length after ≡ length disc
   new-count : fileCount after ≡ count
-  same-data : drop 161 after ≡ drop 161 disc
-  parts : (i n : ℕ) → i + n ≤ 160 → part after i n ≡ part (overwrite disc at s) i n
-  same-bytes : (i : ℕ) → (i < at) ⊎ (at + length s ≤ i) → (i ≡ 160 → ⊥) → getD after i 0 ≡ getD disc i 0
+  same-data : drop dataStart after ≡ drop dataStart disc
+  parts : (i n : ℕ) → i + n ≤ countAt → part after i n ≡ part (overwrite disc at s) i n
+  same-bytes : (i : ℕ) → (i < at) ⊎ (at + length s ≤ i) → (i ≡ countAt → ⊥) → getD after i 0 ≡ getD disc i 0
 
-directory-change : (disc s : List ℕ) (at count : ℕ) → at + length s ≤ 160 → 161 ≤ length disc
-    → DirectoryChange disc at s count (overwrite (overwrite disc at s) 160 (count ∷ []))
+directory-change : (disc s : List ℕ) (at count : ℕ) → at + length s ≤ countAt → dataStart ≤ length disc
+    → DirectoryChange disc at s count (overwrite (overwrite disc at s) countAt (count ∷ []))
 directory-change disc s at count h l =
     let inside : at + length s ≤ length disc = omega arith in
     let same : length (overwrite disc at s) ≡ length disc = overwrite-length disc s at inside in
-    let room : 160 + 1 ≤ length (overwrite disc at s) = omega arith in
+    let room : countAt + 1 ≤ length (overwrite disc at s) = omega arith in
     record {
-      same-length = overwrite-length (overwrite disc at s) (count ∷ []) 160 room ∙ same;
-      new-count = byte-inside (overwrite disc at s) (count ∷ []) 160 room 0 (omega arith);
-      same-data = overwrite-drop (overwrite disc at s) (count ∷ []) 160 room 161 (omega arith)
-          ∙ overwrite-drop disc s at inside 161 (omega arith);
-      parts = λ i n k. part-before (overwrite disc at s) (count ∷ []) 160 room i n k;
+      same-length = overwrite-length (overwrite disc at s) (count ∷ []) countAt room ∙ same;
+      new-count = byte-inside (overwrite disc at s) (count ∷ []) countAt room 0 (omega arith);
+      same-data = overwrite-drop (overwrite disc at s) (count ∷ []) countAt room dataStart (omega arith)
+          ∙ overwrite-drop disc s at inside dataStart (omega arith);
+      parts = λ i n k. part-before (overwrite disc at s) (count ∷ []) countAt room i n k;
       same-bytes = λ i o k. byte-but (overwrite disc at s) count i room k
           ∙ ⊎-elim (byte-before disc s at inside i) (byte-behind disc s at inside i) o;
     }
   where
-    byte-but : (d : List ℕ) (b i : ℕ) → 160 + 1 ≤ length d → (i ≡ 160 → ⊥) → getD (overwrite d 160 (b ∷ [])) i 0 ≡ getD d i 0
-    byte-but d b i room k = go (ltb i 160) refl
+    byte-but : (d : List ℕ) (b i : ℕ) → countAt + 1 ≤ length d → (i ≡ countAt → ⊥) → getD (overwrite d countAt (b ∷ [])) i 0 ≡ getD d i 0
+    byte-but d b i room k = go (ltb i countAt) refl
       where
-        go : (t : Bool) → ltb i 160 ≡ t → getD (overwrite d 160 (b ∷ [])) i 0 ≡ getD d i 0
-        go true e = byte-before d (b ∷ []) 160 room i (ltb-true i 160 e)
-        go false e = let m : 160 ≤ i = ltb-false i 160 e in byte-behind d (b ∷ []) 160 room i (omega arith)
+        go : (t : Bool) → ltb i countAt ≡ t → getD (overwrite d countAt (b ∷ [])) i 0 ≡ getD d i 0
+        go true e = byte-before d (b ∷ []) countAt room i (ltb-true i countAt e)
+        go false e = let m : countAt ≤ i = ltb-false i countAt e in byte-behind d (b ∷ []) countAt room i (omega arith)
 
 -- ---- a file enters
 -- a directory with room for one more entry, and a name that goes into it
 pub record Room (disc name : List ℕ) : Type 0 where
-  pub low : 161 ≤ length disc
-  pub few : fileCount disc < 10
-  pub short : length name ≤ 12
+  pub low : dataStart ≤ length disc
+  pub few : fileCount disc < maxFiles
+  pub short : length name ≤ nameSize
 
 module _ {disc name : List ℕ} (n start : ℕ) (room : Room disc name) where
-  entry-length : length (entryBytes (newEntry name n start)) ≡ 16
+  entry-length : length (entryBytes (newEntry name n start)) ≡ entrySize
   entry-length = entry-bytes-length (newEntry name n start) (padded-length name (room .short))
 
-  entering : DirectoryChange disc (fileCount disc * 16) (entryBytes (newEntry name n start)) (fileCount disc + 1)
+  entering : DirectoryChange disc (fileCount disc * entrySize) (entryBytes (newEntry name n start)) (fileCount disc + 1)
       (entered disc name n start)
   unfolding entered
-  entering = directory-change disc (entryBytes (newEntry name n start)) (fileCount disc * 16) (fileCount disc + 1)
+  entering = directory-change disc (entryBytes (newEntry name n start)) (fileCount disc * entrySize) (fileCount disc + 1)
       (omega (arith, entry-length)) (room .low)
 
   pub entered-length : length (entered disc name n start) ≡ length disc
@@ -75,25 +76,26 @@ module _ {disc name : List ℕ} (n start : ℕ) (room : Room disc name) where
   pub entered-count : fileCount (entered disc name n start) ≡ fileCount disc + 1
   entered-count = entering .new-count
 
-  pub entered-data : drop 161 (entered disc name n start) ≡ drop 161 disc
+  pub entered-data : drop dataStart (entered disc name n start) ≡ drop dataStart disc
   entered-data = entering .same-data
 
   -- every byte but the new entry's sixteen and the count is as it was
-  pub entered-byte : (i : ℕ) → (i < fileCount disc * 16) ⊎ (fileCount disc * 16 + 16 ≤ i) → (i ≡ 160 → ⊥)
+  pub entered-byte : (i : ℕ) → (i < fileCount disc * entrySize) ⊎ (fileCount disc * entrySize + entrySize ≤ i) → (i ≡ countAt → ⊥)
       → getD (entered disc name n start) i 0 ≡ getD disc i 0
   entered-byte i o k = entering .same-bytes i (rw entry-length o) k
 
   pub entered-new : entryAt (entered disc name n start) (fileCount disc) ≡ newEntry name n start
   entered-new =
-      same-entry (entered disc name n start) (overwrite disc (fileCount disc * 16) (entryBytes (newEntry name n start))) (fileCount disc)
-      (fileCount disc) (entering .parts (fileCount disc * 16) 16 (omega arith))
+      same-entry (entered disc name n start) (overwrite disc (fileCount disc * entrySize) (entryBytes (newEntry name n start)))
+      (fileCount disc) (fileCount disc) (entering .parts (fileCount disc * entrySize) entrySize (omega arith))
       ∙ entry-laid disc (fileCount disc) (newEntry name n start) (padded-length name (room .short)) (omega arith)
 
   pub entered-old : (i : ℕ) → i < fileCount disc → entryAt (entered disc name n start) i ≡ entryAt disc i
   entered-old i k =
       same-entry (entered disc name n start) disc i i
-      (entering .parts (i * 16) 16 (omega arith)
-      ∙ part-before disc (entryBytes (newEntry name n start)) (fileCount disc * 16) (omega (arith, entry-length)) (i * 16) 16 (omega arith))
+      (entering .parts (i * entrySize) entrySize (omega arith)
+      ∙ part-before disc (entryBytes (newEntry name n start)) (fileCount disc * entrySize) (omega (arith, entry-length)) (i * entrySize)
+      entrySize (omega arith))
 
   pub entered-files : files (entered disc name n start) ≡ files disc ++ (newEntry name n start ∷ [])
   entered-files =
@@ -104,24 +106,25 @@ module _ {disc name : List ℕ} (n start : ℕ) (room : Room disc name) where
 -- ---- a file goes
 -- the directory has a file at place i
 pub record Present (disc : List ℕ) (i : ℕ) : Type 0 where
-  pub low : 161 ≤ length disc
-  pub few : fileCount disc ≤ 10
+  pub low : dataStart ≤ length disc
+  pub few : fileCount disc ≤ maxFiles
   pub inside : i < fileCount disc
 
 module _ {disc : List ℕ} {i : ℕ} (file : Present disc i) where
   later : List ℕ
-  later = part disc (i * 16 + 16) ((fileCount disc - 1 - i) * 16)
+  later = part disc (i * entrySize + entrySize) ((fileCount disc - 1 - i) * entrySize)
 
-  later-length : length later ≡ (fileCount disc - 1 - i) * 16
+  later-length : length later ≡ (fileCount disc - 1 - i) * entrySize
   unfolding later
-  later-length = part-length disc (i * 16 + 16) ((fileCount disc - 1 - i) * 16) (omega arith)
+  later-length = part-length disc (i * entrySize + entrySize) ((fileCount disc - 1 - i) * entrySize) (omega arith)
 
-  moved-length : i * 16 + length (later ++ replicate 16 0) ≡ fileCount disc * 16
-  moved-length = omega (arith, length-append later (replicate 16 0), later-length)
+  moved-length : i * entrySize + length (later ++ replicate entrySize 0) ≡ fileCount disc * entrySize
+  moved-length = omega (arith, length-append later (replicate entrySize 0), later-length)
 
-  erasing : DirectoryChange disc (i * 16) (later ++ replicate 16 0) (fileCount disc - 1) (erased disc i)
+  erasing : DirectoryChange disc (i * entrySize) (later ++ replicate entrySize 0) (fileCount disc - 1) (erased disc i)
   unfolding erased later
-  erasing = directory-change disc (later ++ replicate 16 0) (i * 16) (fileCount disc - 1) (omega (arith, moved-length)) (file .low)
+  erasing =
+      directory-change disc (later ++ replicate entrySize 0) (i * entrySize) (fileCount disc - 1) (omega (arith, moved-length)) (file .low)
 
   pub erased-length : length (erased disc i) ≡ length disc
   erased-length = erasing .same-length
@@ -129,43 +132,46 @@ module _ {disc : List ℕ} {i : ℕ} (file : Present disc i) where
   pub erased-count : fileCount (erased disc i) ≡ fileCount disc - 1
   erased-count = erasing .new-count
 
-  pub erased-data : drop 161 (erased disc i) ≡ drop 161 disc
+  pub erased-data : drop dataStart (erased disc i) ≡ drop dataStart disc
   erased-data = erasing .same-data
 
   -- every byte but the count and those from the erased entry to the last is as it was
-  pub erased-byte : (j : ℕ) → (j < i * 16) ⊎ (fileCount disc * 16 ≤ j) → (j ≡ 160 → ⊥) → getD (erased disc i) j 0 ≡ getD disc j 0
+  pub erased-byte : (j : ℕ) → (j < i * entrySize) ⊎ (fileCount disc * entrySize ≤ j) → (j ≡ countAt → ⊥)
+      → getD (erased disc i) j 0 ≡ getD disc j 0
   erased-byte j o k = erasing .same-bytes j (rw moved-length o) k
 
   -- a part of what moved up
-  moved : (at n : ℕ) → at + n ≤ (fileCount disc - i) * 16 → part (erased disc i) (i * 16 + at) n ≡ part (later ++ replicate 16 0) at n
+  moved : (at n : ℕ) → at + n ≤ (fileCount disc - i) * entrySize
+      → part (erased disc i) (i * entrySize + at) n ≡ part (later ++ replicate entrySize 0) at n
   moved at n k =
-      erasing .parts (i * 16 + at) n (omega arith)
-      ∙ part-inside disc (later ++ replicate 16 0) (i * 16) (omega (arith, moved-length)) at n (omega (arith, moved-length))
+      erasing .parts (i * entrySize + at) n (omega arith)
+      ∙ part-inside disc (later ++ replicate entrySize 0) (i * entrySize) (omega (arith, moved-length)) at n (omega (arith, moved-length))
 
-  pub erased-vacated : part (erased disc i) ((fileCount disc - 1) * 16) 16 ≡ replicate 16 0
+  pub erased-vacated : part (erased disc i) ((fileCount disc - 1) * entrySize) entrySize ≡ replicate entrySize 0
   erased-vacated =
-      let q : i * 16 + (length later + 0) ≡ (fileCount disc - 1) * 16 = omega (arith, later-length) in
-      ap (λ (a : ℕ). part (erased disc i) a 16) (sym q)
-      ∙ moved (length later + 0) 16 (omega (arith, later-length))
-      ∙ part-of-append-right later (replicate 16 0) 0 16
+      let q : i * entrySize + (length later + 0) ≡ (fileCount disc - 1) * entrySize = omega (arith, later-length) in
+      ap (λ (a : ℕ). part (erased disc i) a entrySize) (sym q)
+      ∙ moved (length later + 0) entrySize (omega (arith, later-length))
+      ∙ part-of-append-right later (replicate entrySize 0) 0 entrySize
 
   pub erased-earlier : (j : ℕ) → j < i → entryAt (erased disc i) j ≡ entryAt disc j
   erased-earlier j k =
       same-entry (erased disc i) disc j j
-      (erasing .parts (j * 16) 16 (omega arith)
-      ∙ part-before disc (later ++ replicate 16 0) (i * 16) (omega (arith, moved-length)) (j * 16) 16 (omega arith))
+      (erasing .parts (j * entrySize) entrySize (omega arith)
+      ∙ part-before disc (later ++ replicate entrySize 0) (i * entrySize) (omega (arith, moved-length)) (j * entrySize) entrySize
+      (omega arith))
 
   pub erased-later : (j : ℕ) → i ≤ j → j < fileCount disc - 1 → entryAt (erased disc i) j ≡ entryAt disc (suc j)
   unfolding later
   erased-later j a b =
-      let p : i * 16 + (j - i) * 16 ≡ j * 16 = omega arith in
-      let q : i * 16 + 16 + (j - i) * 16 ≡ suc j * 16 = omega arith in
+      let p : i * entrySize + (j - i) * entrySize ≡ j * entrySize = omega arith in
+      let q : i * entrySize + entrySize + (j - i) * entrySize ≡ suc j * entrySize = omega arith in
       same-entry (erased disc i) disc j (suc j)
-      (ap (λ (x : ℕ). part (erased disc i) x 16) (sym p)
-      ∙ moved ((j - i) * 16) 16 (omega arith)
-      ∙ part-of-append-left later (replicate 16 0) ((j - i) * 16) 16 (omega (arith, later-length))
-      ∙ part-of-part disc (i * 16 + 16) ((fileCount disc - 1 - i) * 16) ((j - i) * 16) 16 (omega arith)
-      ∙ ap (λ (x : ℕ). part disc x 16) q)
+      (ap (λ (x : ℕ). part (erased disc i) x entrySize) (sym p)
+      ∙ moved ((j - i) * entrySize) entrySize (omega arith)
+      ∙ part-of-append-left later (replicate entrySize 0) ((j - i) * entrySize) entrySize (omega (arith, later-length))
+      ∙ part-of-part disc (i * entrySize + entrySize) ((fileCount disc - 1 - i) * entrySize) ((j - i) * entrySize) entrySize (omega arith)
+      ∙ ap (λ (x : ℕ). part disc x entrySize) q)
 
   -- what stands in the directory then stood there before, at another place than i; and what stood there still stands there
   pub erased-from : (k : ℕ) → k < fileCount disc - 1 → (j : ℕ) × (j < fileCount disc) × (j ≡ i → ⊥)
@@ -198,7 +204,7 @@ module _ {disc : List ℕ} {i : ℕ} (file : Present disc i) where
 -- ---- bytes are written inside a file
 -- n bytes from an offset on lie in the run, and that among the data bytes
 pub record Inside (disc : List ℕ) (run : Run) (offset n : ℕ) : Type 0 where
-  pub low : 161 ≤ run .start
+  pub low : dataStart ≤ run .start
   pub high : run .start + run .len ≤ length disc
   pub fits : offset + n ≤ run .len
 
@@ -207,16 +213,16 @@ module _ {disc : List ℕ} {run : Run} {offset : ℕ} (bytes : List ℕ) (inside
   unfolding writtenAt
   written-length = overwrite-length disc bytes (run .start + offset) (omega arith)
 
-  pub written-directory : take 161 (writtenAt disc run offset bytes) ≡ take 161 disc
+  pub written-directory : take dataStart (writtenAt disc run offset bytes) ≡ take dataStart disc
   unfolding writtenAt
-  written-directory = overwrite-take disc bytes (run .start + offset) (omega arith) 161 (omega arith)
+  written-directory = overwrite-take disc bytes (run .start + offset) (omega arith) dataStart (omega arith)
 
   pub written-count : fileCount (writtenAt disc run offset bytes) ≡ fileCount disc
   written-count = same-count (writtenAt disc run offset bytes) disc written-directory
 
-  pub written-files : fileCount disc ≤ 10 → files (writtenAt disc run offset bytes) ≡ files disc
+  pub written-files : fileCount disc ≤ maxFiles → files (writtenAt disc run offset bytes) ≡ files disc
   written-files few = same-files (writtenAt disc run offset bytes) disc written-directory few
 
-  pub written-entry : (i : ℕ) → i < 10 → entryAt (writtenAt disc run offset bytes) i ≡ entryAt disc i
+  pub written-entry : (i : ℕ) → i < maxFiles → entryAt (writtenAt disc run offset bytes) i ≡ entryAt disc i
   written-entry i h = same-entry (writtenAt disc run offset bytes) disc i i
-      (same-part (writtenAt disc run offset bytes) disc 161 (i * 16) 16 written-directory (omega arith))
+      (same-part (writtenAt disc run offset bytes) disc dataStart (i * entrySize) entrySize written-directory (omega arith))

@@ -1,17 +1,32 @@
--- The tests that every operation on the disc makes first.
+-- The tests that every operation on the disc makes first. What the test of the length says is read here and nowhere else.
 use mathlib.Core.Path.{_≡_, refl}
 use mathlib.Core.Bool.{Bool, true, false}
 use mathlib.Core.List.{List}
-use Prim.Native.Nat.{ℕ}
+use Prim.Native.Nat.{ℕ, _≤_}
 use native.Mathlib.Omega.{arith}
 use lib.ListN.{length}
+use borrow.Author.Tests.{eqb-true}
 use Rattle.store.specs.Answer.{checked, ifUsable}
 use Rattle.store.specs.Directory.{Readable, goodDisc, isDiscLength}
 use Rattle.store.specs.File.{unless}
+use Rattle.store.specs.Layout.{dataStart, discLength}
 use Rattle.store.specs.declared.Checked.the-variants.{Usable, Unusable}
 use Rattle.store.specs.declared.Refusal.{Refusal}
 use Rattle.store.specs.declared.Refusal.the-variants.{WrongLength, BadDisc}
-use Rattle.store.proofs.Goodness.{readable}
+use Rattle.store.proofs.Goodness.{good-disc-is}
+
+-- as long as a disc has to be for its directory, and as short as for places of 16 bits
+pub record DiscLength (n : ℕ) : Type 0 where
+  pub low : dataStart ≤ n
+  pub high : n ≤ 65535
+
+pub disc-length-is : (n : ℕ) → isDiscLength n ≡ true → DiscLength n
+disc-length-is n e = let q : n ≡ discLength = eqb-true n discLength e in record { low = omega arith; high = omega arith }
+
+pub readable : (disc : List ℕ) → isDiscLength (length disc) ≡ true → goodDisc disc ≡ true → Readable disc
+readable disc l g =
+    let n = disc-length-is (length disc) l in
+    record { low = n .low; high = n .high; few = good-disc-is disc g .few }
 
 pub by-checks : {A : Type 0} (disc : List ℕ) (P : A → Type 0) (refuse : Refusal → A) (rest : A)
     → (isDiscLength (length disc) ≡ false → P (refuse WrongLength))

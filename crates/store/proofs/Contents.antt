@@ -15,6 +15,7 @@ use Rattle.place.specs.declared.Run.{Run}
 use Rattle.place.proofs.Place.{apart-is}
 use Rattle.store.specs.Directory.{contents, entryAt, fileCount, goodDisc, runOf}
 use Rattle.store.specs.File.{entered, erased, readAt, writtenAt}
+use Rattle.store.specs.Layout.{dataStart}
 use Rattle.store.proofs.Changes.{Inside, Present, Room, entered-data, erased-data}
 use Rattle.store.proofs.Goodness.{beside-at, good-entry-at}
 use Rattle.store.proofs.Invariant.{file-inside}
@@ -28,19 +29,19 @@ pub file-length : (disc : List ℕ) → goodDisc disc ≡ true → (i : ℕ) →
 file-length disc good i h = contents-length disc (runOf (entryAt disc i)) (good-entry-at disc good i h .high)
 
 -- ---- what leaves the data bytes as they are keeps what a run of them holds
-same-contents : (d e : List ℕ) (run : Run) → drop 161 d ≡ drop 161 e → 161 ≤ run .start → contents d run ≡ contents e run
-same-contents d e run q h = sym (from d) ∙ ap (λ (l : List ℕ). part l (run .start - 161) (run .len)) q ∙ from e
+same-contents : (d e : List ℕ) (run : Run) → drop dataStart d ≡ drop dataStart e → dataStart ≤ run .start → contents d run ≡ contents e run
+same-contents d e run q h = sym (from d) ∙ ap (λ (l : List ℕ). part l (run .start - dataStart) (run .len)) q ∙ from e
   where
-    from : (l : List ℕ) → part (drop 161 l) (run .start - 161) (run .len) ≡ contents l run
+    from : (l : List ℕ) → part (drop dataStart l) (run .start - dataStart) (run .len) ≡ contents l run
     from l =
-        let m : 161 + (run .start - 161) ≡ run .start = omega arith in
-        ap (λ (r : List ℕ). take (run .len) r) (drop-drop (run .start - 161) 161 l) ∙ ap (λ (k : ℕ). part l k (run .len)) m
+        let m : dataStart + (run .start - dataStart) ≡ run .start = omega arith in
+        ap (λ (r : List ℕ). take (run .len) r) (drop-drop (run .start - dataStart) dataStart l) ∙ ap (λ (k : ℕ). part l k (run .len)) m
 
-pub entered-contents : {disc name : List ℕ} (n s : ℕ) → Room disc name → (run : Run) → 161 ≤ run .start
+pub entered-contents : {disc name : List ℕ} (n s : ℕ) → Room disc name → (run : Run) → dataStart ≤ run .start
     → contents (entered disc name n s) run ≡ contents disc run
 entered-contents {disc} {name} n s room run h = same-contents (entered disc name n s) disc run (entered-data n s room) h
 
-pub erased-contents : {disc : List ℕ} {i : ℕ} → Present disc i → (run : Run) → 161 ≤ run .start
+pub erased-contents : {disc : List ℕ} {i : ℕ} → Present disc i → (run : Run) → dataStart ≤ run .start
     → contents (erased disc i) run ≡ contents disc run
 erased-contents {disc} {i} file run h = same-contents (erased disc i) disc run (erased-data file) h
 

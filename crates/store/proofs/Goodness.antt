@@ -5,7 +5,6 @@ use mathlib.Core.Logic.{⊎-elim}
 use mathlib.Core.Bool.{Bool, true, false, _&&_, not}
 use mathlib.Core.List.{List, [], _∷_, _++_}
 use native.Mathlib.Nat.{eq-or-lt-of-le}
-use native.Mathlib.Omega.{arith}
 use lib.Dec.{eqb, leb, ltb}
 use lib.ListN.{length}
 use borrow.Author.Tests.{eqb-false, eqb-true, leb-true, le-leb, ltb-false, ltb-true, not-true}
@@ -15,7 +14,8 @@ use Rattle.buffer.proofs.Lists.{all-snoc, all-without, pairs-snoc, pairs-withou
 use Rattle.buffer.proofs.Tables.{all-tab-at, pairs-tab-at}
 use Rattle.place.specs.Place.{apart}
 use Rattle.place.proofs.Place.{apart-sym}
-use Rattle.store.specs.Directory.{Readable, beside, entryAt, fileCount, files, goodDisc, goodEntry, goodFiles, isDiscLength, runOf}
+use Rattle.store.specs.Directory.{beside, entryAt, fileCount, files, goodDisc, goodEntry, goodFiles, runOf}
+use Rattle.store.specs.Layout.{dataStart, maxFiles}
 use Rattle.store.specs.Name.{goodField}
 use Rattle.store.specs.declared.Entry.{Entry}
 
@@ -23,20 +23,20 @@ use Rattle.store.specs.declared.Entry.{Entry}
 pub record GoodEntry (end : ℕ) (e : Entry) : Type 0 where
   pub field : goodField (e .name) ≡ true
   pub some : 1 ≤ e .len
-  pub low : 161 ≤ e .start
+  pub low : dataStart ≤ e .start
   pub high : e .start + e .len ≤ end
 
 pub good-entry-is : (end : ℕ) (e : Entry) → goodEntry end e ≡ true → GoodEntry end e
 unfolding goodEntry
 good-entry-is end e t =
-    let r = and-right (goodField (e .name)) (leb 1 (e .len) && (leb 161 (e .start) && leb (e .start + e .len) end)) t in
-    let s = and-right (leb 1 (e .len)) (leb 161 (e .start) && leb (e .start + e .len) end) r in
+    let r = and-right (goodField (e .name)) (leb 1 (e .len) && (leb dataStart (e .start) && leb (e .start + e .len) end)) t in
+    let s = and-right (leb 1 (e .len)) (leb dataStart (e .start) && leb (e .start + e .len) end) r in
     record {
       field = and-left (goodField (e .name)) _ t;
       some = leb-true _ _ (and-left (leb 1 (e .len)) _ r);
       low =
-          leb-true _ _ (and-left (leb 161 (e .start)) _ s);
-      high = leb-true _ _ (and-right (leb 161 (e .start)) _ s);
+          leb-true _ _ (and-left (leb dataStart (e .start)) _ s);
+      high = leb-true _ _ (and-right (leb dataStart (e .start)) _ s);
     }
 
 pub is-good-entry : (end : ℕ) (e : Entry) → GoodEntry end e → goodEntry end e ≡ true
@@ -98,16 +98,16 @@ good-files-less end es i t =
 
 -- ---- the disc
 pub record GoodDisc (disc : List ℕ) : Type 0 where
-  pub few : fileCount disc ≤ 10
+  pub few : fileCount disc ≤ maxFiles
   pub entries : goodFiles (length disc) (files disc) ≡ true
 
 pub good-disc-is : (disc : List ℕ) → goodDisc disc ≡ true → GoodDisc disc
 unfolding goodDisc
 good-disc-is disc t =
     record {
-      few = leb-true _ _ (and-left (leb (fileCount disc) 10) (goodFiles (length disc) (files disc)) t);
+      few = leb-true _ _ (and-left (leb (fileCount disc) maxFiles) (goodFiles (length disc) (files disc)) t);
       entries =
-          and-right (leb (fileCount disc) 10) (goodFiles (length disc) (files disc)) t;
+          and-right (leb (fileCount disc) maxFiles) (goodFiles (length disc) (files disc)) t;
     }
 
 pub is-good-disc : (disc : List ℕ) → GoodDisc disc → goodDisc disc ≡ true
@@ -142,8 +142,3 @@ module _ (disc : List ℕ) (good : goodDisc disc ≡ true) where
       go : (t : Bool) → eqb i j ≡ t → i ≡ j
       go true q = eqb-true i j q
       go false q = absurd (beside-at i j h k (eqb-false i j q) .differ e)
-
-pub readable : (disc : List ℕ) → isDiscLength (length disc) ≡ true → goodDisc disc ≡ true → Readable disc
-readable disc l g =
-    let n : length disc ≡ 1024 = eqb-true (length disc) 1024 l in
-    record { low = omega arith; high = omega arith; few = good-disc-is disc g .few }

@@ -5,7 +5,6 @@ pub mod Checks
 pub mod Contents
 pub mod Effects
 pub mod Entries
-pub mod Fields
 pub mod Goodness
 pub mod Invariant
 pub mod LookupChanges

@@ -14,31 +14,26 @@ use Rattle.buffer.proofs.Texts.{appended-joined}
 use Rattle.store.specs.Directory.{contents, entryBytes, fileCount, runOf}
 use Rattle.store.specs.Answer.{reported, retrieveFile, textAnswer}
 use Rattle.store.specs.File.{entered, erased, newEntry}
+use Rattle.store.specs.Layout.{countAt, dataStart, entrySize, maxFiles}
 use Rattle.store.specs.declared.Answer.the-variants.{Done, Refused}
 use Rattle.store.specs.declared.Entry.{Entry}
 use Rattle.store.specs.declared.Refusal.the-variants.{ShortOutput}
 
-module _ (d : List ℕ) (h : 161 ≤ length d) where
+module _ (d : List ℕ) (h : dataStart ≤ length d) where
   pub entered-steps : (p name : List ℕ) (n s count : ℕ) → count ≡ fileCount d → length p ≡ length d
-      → p ≡ overwrite d (count * 16) (entryBytes (newEntry name n s)) → set p 160 (count + 1) ≡ entered d name n s
+      → p ≡ overwrite d (count * entrySize) (entryBytes (newEntry name n s)) → set p countAt (count + 1) ≡ entered d name n s
   unfolding entered
-  entered-steps p name n s count q l e = overwrite-set p 160 (count + 1) (omega arith) ∙ rw (e, q)
+  entered-steps p name n s count q l e = overwrite-set p countAt (count + 1) (omega arith) ∙ rw (e, q)
 
-  pub erased-steps : (m z : List ℕ) (i last : ℕ) → last ≡ fileCount d - 1 → i ≤ last → last < 10 → length z ≡ length d
-      → m ≡ overwrite d (i * 16) (part d (i * 16 + 16) ((last - i) * 16)) → z ≡ overwrite m (last * 16) (replicate 16 0)
-      → set z 160 last ≡ erased d i
+  pub erased-steps : (m z : List ℕ) (i last : ℕ) → last ≡ fileCount d - 1 → i ≤ last → last < maxFiles → length z ≡ length d
+      → m ≡ overwrite d (i * entrySize) (part d (i * entrySize + entrySize) ((last - i) * entrySize))
+      → z ≡ overwrite m (last * entrySize) (replicate entrySize 0) → set z countAt last ≡ erased d i
   unfolding erased
   erased-steps m z i last q a b l e f =
-      let n : length (part d (i * 16 + 16) ((last - i) * 16)) ≡ (last - i) * 16 =
-      part-length d (i * 16 + 16) ((last - i) * 16) (omega arith) in
-      overwrite-set z 160 last (omega arith)
-      ∙ rw (
-        f,
-        e,
-        overwrite-joined d (part d (i * 16 + 16) ((last - i) * 16)) (replicate 16 0) (i * 16) (last * 16) (omega arith)
-            (omega arith),
-        q,
-      )
+      let later = part d (i * entrySize + entrySize) ((last - i) * entrySize) in
+      let n = part-length d (i * entrySize + entrySize) ((last - i) * entrySize) (omega arith) in
+      let laid = overwrite-joined d later (replicate entrySize 0) (i * entrySize) (last * entrySize) (omega arith) (omega arith) in
+      overwrite-set z countAt last (omega arith) ∙ rw (f, e, laid, q)
 
 -- a line that is appended piece by piece
 pub line-appended : (t : Text) (a b c d : List ℕ) → t .len + length a + length b + length c ≤ length (t .bytes)

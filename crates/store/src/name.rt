@@ -48,13 +48,14 @@ pub fn pad(name: &[u8]) -> [u8; NAME_SIZE]
     field
 }
 
-// How many bytes of the field stand before its first zero.
-pub fn trimmed_length(field: [u8; NAME_SIZE]) -> usize
-    ensures { λ r. ⌜ (r ≤ nameSize) × (take r field ≡ trimmed field) ⌝ }
+// How many bytes stand before the first zero.
+pub fn text_length(bytes: &[u8]) -> usize
+    ensures { λ r. ⌜ (r ≤ length (now (bytes .entry)))
+        × (take r (now (bytes .entry)) ≡ trimmed (now (bytes .entry))) ⌝ }
 {
     let mut n: usize = 0;
-    while n < NAME_SIZE {
-        if field[n] == 0 {
+    while n < bytes.len() {
+        if bytes[n] == 0 {
             return n;
         }
         n += 1;
@@ -66,14 +67,14 @@ pub fn append_name(text: Text, field: [u8; NAME_SIZE]) -> Text
     requires { ⌜ text .len + nameSize ≤ textSize ⌝ }
     ensures { λ r. ⌜ (r ≡ appended text (trimmed field)) × (r .len ≤ text .len + nameSize) ⌝ }
 {
-    let n = trimmed_length(field);
+    let n = text_length(&field);
     buffer::text::append(text, &field[..n])
 }
 
 pub fn is_good_field(field: [u8; NAME_SIZE]) -> bool
     ensures { λ r. ⌜ r ≡ goodField field ⌝ }
 {
-    let n = trimmed_length(field);
+    let n = text_length(&field);
     let name = &field[..n];
     if !is_good_name(name) {
         return false;

@@ -1,10 +1,10 @@
+-- `directory::file_count` meets its contract: a byte fits a usize.
 use native.Mathlib.Omega.{arith}
 use borrow.Author.Needs.{needs}
+use Rattle.store.specs.Layout.{countAt}
 use Rattle.store.proofs.directory.file_count.Statement.{statement}
 use Rattle.store.proofs.directory.file_count.Tie as tie
 
-cast-result : tie.Need-cast-result
-cast-result c = omega (arith, c .shared-slice-known .given 160)
-
 pub file-count-spec : {M : Type 1} → statement M
-file-count-spec = tie.close (tie.spec (λ c. search needs) cast-result (λ c. search needs))
+file-count-spec =
+    tie.close (tie.spec (λ c. search needs) (λ c. omega (arith, c .shared-slice-known .given countAt)) (λ c. search needs))

@@ -1,18 +1,13 @@
 -- `file::admit` meets its contract: its tests are those of `admission`, in their order.
 use mathlib.Core.Path.{_≡_, sym, ap, _∙_}
 use mathlib.Core.Bool.{true}
-use mathlib.Core.List.{List}
 use borrow.Author.Tests.{le-leb, lt-leb, le-ltb, lt-ltb, not-true, not-false}
 use lib.Dec.{ltb}
-use lib.ListN.{length}
 use Rattle.buffer.specs.declared.Found.{Found}
-use Rattle.place.specs.Place.{place}
-use Rattle.place.specs.declared.Run.{Run}
 use Rattle.store.specs.Directory.{fileCount, lookup}
 use Rattle.store.specs.File.{admission, denyIfFound, goodSize, placeOf, startOr}
-use Rattle.store.specs.Layout.{dataStart, maxFiles}
+use Rattle.store.specs.Layout.{maxFiles}
 use Rattle.store.specs.Name.{goodName}
-use Rattle.store.specs.declared.Admission.{Admission}
 use Rattle.store.proofs.Entries.{taken-first}
 use native.Mathlib.Omega.{arith}
 use borrow.Author.Needs.{needs}
@@ -50,7 +45,8 @@ room c = lt-ltb (fileCount (start c .args .disc .now)) maxFiles (omega (arith, c
 
 -- what is left of the definition behind these tests
 rest : (c : tie.Else4) → let a = start c .args in
-    admission (a .disc .now) (a .name .now) (a .n) ≡ denyIfFound (lookup (a .disc .now) (a .name .now)) (startOr (placeOf (a .disc .now) (a .n)))
+    admission (a .disc .now) (a .name .now) (a .n)
+    ≡ denyIfFound (lookup (a .disc .now) (a .name .now)) (startOr (placeOf (a .disc .now) (a .n)))
 unfolding admission
 rest c = rw (good-name (named (sized c)), good-size (sized c), room c)
 
@@ -68,9 +64,8 @@ placed c =
     let s = start (few (new c)) in
     let a = s .args in
     let n = few (new c) .before .file-count in
-    c .find-place .ensures
-    ∙ ap (λ (l : List Run). place l dataStart (length (a .disc .now)) (a .n))
-    (taken-first (a .disc .now) _ (n .result) (s .pre .few) (n .ensures) (c .before .taken-runs .ensures))
+    let e = taken-first (a .disc .now) _ (n .result) (s .pre .few) (n .ensures) (c .before .taken-runs .ensures) in
+    rw (← e) (c .find-place .ensures)
 
 returns : tie.Need-returns
 unfolding admission

@@ -1,3 +1,4 @@
+-- `file::write_at` meets its contract: `overwrite_at` does what `writtenAt` says.
 use Rattle.store.specs.File.{writtenAt}
 use borrow.Author.Needs.{needs}
 use Rattle.store.proofs.file.write_at.Statement.{statement}

@@ -1,27 +1,24 @@
-use Prim.Native.Nat.{_≤_}
+-- `good::check` meets its contract: first the length, then the goodness.
 use mathlib.Core.Path.{_≡_, sym, _∙_}
 use mathlib.Core.Bool.{true}
-use borrow.Author.Tests.{eqb-true, not-true, not-false}
+use borrow.Author.Tests.{not-true, not-false}
 use lib.ListN.{length}
 use Rattle.store.specs.Answer.{checked}
 use Rattle.store.specs.Directory.{isDiscLength}
-use native.Mathlib.Omega.{arith}
+use Rattle.store.proofs.Checks.{disc-length-is}
 use borrow.Author.Needs.{needs}
 use Rattle.store.proofs.good.check.Statement.{statement}
 use Rattle.store.proofs.good.check.Tie as tie
 
-right : (c : tie.Else1) → isDiscLength (length (c .before .before .before .args .disc .now)) ≡ true
-right c = sym (c .before .is-disc-length .ensures) ∙ not-false _ (c .if1 .left)
+abbrev start : tie.Else1 → tie.Start
+start c = c .before .before .before
 
-long : (c : tie.Else1) → 161 ≤ length (c .before .before .before .args .disc .now)
-long c = let e : length (c .before .before .before .args .disc .now) ≡ 1024 = eqb-true _ _ (right c) in omega arith
+right : (c : tie.Else1) → isDiscLength (length (start c .args .disc .now)) ≡ true
+right c = sym (c .before .is-disc-length .ensures) ∙ not-false _ (c .if1 .left)
 
 returns : tie.Need-returns
 unfolding checked
 returns c = rw (sym (c .before .is-disc-length .ensures) ∙ not-true _ (c .if1 .taken))
-
-is-good-disc-requires : tie.Need-is-good-disc-requires
-is-good-disc-requires c κs = long c
 
 returns-2 : tie.Need-returns-2
 unfolding checked
@@ -33,4 +30,4 @@ returns-3 c = rw (right (c .before .before), sym (c .before .is-good-disc .ensur
 
 pub check-spec : {M : Type 1} → statement M
 check-spec =
-    tie.close (tie.spec (λ c κs. search needs) returns is-good-disc-requires returns-2 returns-3)
+    tie.close (tie.spec (λ c κs. search needs) returns (λ c κs. disc-length-is _ (right c) .low) returns-2 returns-3)

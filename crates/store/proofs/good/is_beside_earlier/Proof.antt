@@ -1,11 +1,12 @@
 -- The loop: the entry is beside each of the first j.
-use Prim.Native.Nat.{_≤_, _-_}
+use Prim.Native.Nat.{ℕ, _≤_, _-_}
 use mathlib.Core.Path.{_≡_, refl, sym, ap₂, subst, _∙_}
-use mathlib.Core.Bool.{true}
+use mathlib.Core.Bool.{Bool, true}
 use borrow.Author.Tests.{not-true, not-false}
 use Rattle.buffer.specs.Lists.{all, tab}
 use Rattle.buffer.proofs.Lists.{all-tab-next, all-tab-stop}
 use Rattle.store.specs.Directory.{beside, entryAt}
+use Rattle.store.specs.declared.Entry.{Entry}
 use native.Mathlib.Omega.{arith}
 use borrow.Author.Needs.{needs}
 use Rattle.store.proofs.good.is_beside_earlier.Statement.{statement}
@@ -21,37 +22,42 @@ loop-holds : tie.Need-loop-holds Inv-loop μ-loop
 unfolding all tab
 loop-holds c = (omega arith, refl)
 
+-- the states: the start, and in a turn its head
+abbrev start : tie.At-loop Inv-loop μ-loop → tie.Start Inv-loop μ-loop
+start c = c .before .before .before
+
+abbrev turn : tie.After-is-beside Inv-loop μ-loop → tie.At-loop Inv-loop μ-loop
+turn c = c .before .before .before
+
+-- the entries of the disc, and the test of one
+abbrev entry : tie.At-loop Inv-loop μ-loop → ℕ → Entry
+entry c k = entryAt (start c .args .disc .now) k
+
+abbrev test : tie.At-loop Inv-loop μ-loop → Entry → Bool
+test c e = beside e (entry c (start c .args .i))
+
 -- what the test of a turn says of the two entries of the disc
-tested : (c : tie.After-is-beside Inv-loop μ-loop)
-    → c .is-beside .result ≡ beside
-    (entryAt (c .before .before .before .before .before .before .args .disc .now) (c .before .before .before .loop .j))
-    (entryAt (c .before .before .before .before .before .before .args .disc .now)
-    (c .before .before .before .before .before .before .args .i))
-tested c = c .is-beside .ensures ∙ ap₂ beside (c .before .entry-at2 .ensures) (c .before .before .before .before .entry-at .ensures)
+tested : (c : tie.After-is-beside Inv-loop μ-loop) → let l = turn c in c .is-beside .result ≡ test l (entry l (l .loop .j))
+tested c = c .is-beside .ensures ∙ ap₂ beside (c .before .entry-at2 .ensures) (turn c .before .entry-at .ensures)
 
 returns : tie.Need-returns Inv-loop μ-loop
 returns c =
-    let l = c .before .before .before .before in
-    let a = l .before .before .before .args in
-    sym (all-tab-stop (entryAt (a .disc .now)) (λ e. beside e (entryAt (a .disc .now) (a .i))) (l .loop .j) (a .i) (omega arith)
+    let l = turn (c .before) in
+    sym (all-tab-stop (entry l) (test l) (l .loop .j) (start l .args .i) (omega arith)
     (sym (tested (c .before)) ∙ not-true _ (c .if1 .taken)))
 
 loop-again : tie.Need-loop-again Inv-loop μ-loop
 loop-again c =
-    let l = c .before .before .before .before in
-    let a = l .before .before .before .args in (
+    let l = turn (c .before) in (
       omega arith,
-      all-tab-next (entryAt (a .disc .now)) (λ e. beside e (entryAt (a .disc .now) (a .i))) (l .loop .j) (l .loop .inv .1)
-          (sym (tested (c .before)) ∙ not-false _ (c .if1 .left)),
+      all-tab-next (entry l) (test l) (l .loop .j) (l .loop .inv .1) (sym (tested (c .before)) ∙ not-false _ (c .if1 .left)),
     )
 
 returns-2 : tie.Need-returns-2 Inv-loop μ-loop
 returns-2 c =
     let l = c .before in
-    let a = l .before .before .before .args in
-    let q : l .loop .j ≡ a .i = omega arith in
-    sym (subst (λ (k : Prim.Native.Nat.ℕ). all (λ e. beside e (entryAt (a .disc .now) (a .i))) (tab (entryAt (a .disc .now)) k) ≡ true) q
-    (l .loop .inv .1))
+    let q : l .loop .j ≡ start l .args .i = omega arith in
+    sym (subst (λ (k : ℕ). all (test l) (tab (entry l) k) ≡ true) q (l .loop .inv .1))
 
 pub is-beside-earlier-spec : {M : Type 1} → statement M
 is-beside-earlier-spec =

@@ -1,9 +1,28 @@
-use mathlib.Core.Path.{sym, _∙_}
+-- `good::is_good_entry` meets its contract: its tests are those of `goodEntry`, in their order.
+use mathlib.Core.Path.{_≡_, sym, _∙_}
+use mathlib.Core.Bool.{true}
 use borrow.Author.Tests.{le-leb, lt-leb, not-true, not-false}
 use Rattle.store.specs.Directory.{goodEntry}
+use Rattle.store.specs.Name.{goodField}
 use borrow.Author.Needs.{needs}
 use Rattle.store.proofs.good.is_good_entry.Statement.{statement}
 use Rattle.store.proofs.good.is_good_entry.Tie as tie
+
+-- the states: the start, the name found good, the length not 0, and the start among the data bytes
+abbrev start : tie.Else1 → tie.Start
+start c = c .before .before .before
+
+abbrev named : tie.Else2 → tie.Else1
+named c = c .before .before
+
+abbrev some : tie.Else3 → tie.Else2
+some c = c .before .before
+
+abbrev low : tie.After-struct-known4 → tie.Else3
+low c = c .before .before
+
+field : (c : tie.Else1) → goodField (start c .args .entry .name) ≡ true
+field c = sym (c .before .is-good-field .ensures) ∙ not-false _ (c .if1 .left)
 
 returns : tie.Need-returns
 unfolding goodEntry
@@ -11,29 +30,20 @@ returns c = rw (sym (c .before .is-good-field .ensures) ∙ not-true _ (c .if1 .
 
 returns-2 : tie.Need-returns-2
 unfolding goodEntry
-returns-2 c = rw (
-  sym (c .before .before .before .is-good-field .ensures)
-      ∙ not-false _ (c .before .before .if1 .left),
-  lt-leb _ _ (c .if2 .taken),
-)
+returns-2 c = rw (field (c .before .before), lt-leb _ _ (c .if2 .taken))
 
 returns-3 : tie.Need-returns-3
 unfolding goodEntry
-returns-3 c = rw (
-  sym (c .before .before .before .before .before .is-good-field .ensures)
-      ∙ not-false _ (c .before .before .before .before .if1 .left),
-  le-leb _ _ (c .before .before .if2 .left),
-  lt-leb _ _ (c .if3 .taken),
-)
+returns-3 c =
+    let s = c .before .before in
+    rw (field (named s), le-leb _ _ (s .if2 .left), lt-leb _ _ (c .if3 .taken))
 
 returns-4 : tie.Need-returns-4
 unfolding goodEntry
-returns-4 c = rw (
-  sym (c .before .before .before .before .before .before .before .is-good-field .ensures)
-      ∙ not-false _ (c .before .before .before .before .before .before .if1 .left),
-  le-leb _ _ (c .before .before .before .before .if2 .left),
-  le-leb _ _ (c .before .before .if3 .left),
-)
+returns-4 c =
+    let l = low c in
+    let s = some l in
+    rw (field (named s), le-leb _ _ (s .if2 .left), le-leb _ _ (l .if3 .left))
 
 pub is-good-entry-spec : {M : Type 1} → statement M
 is-good-entry-spec =

@@ -1,32 +1,27 @@
-use Prim.Native.Nat.{ℕ}
+-- `name::is_good_field` meets its contract: the bytes before the first zero are a good name, and padded they are the field.
 use mathlib.Core.Path.{_≡_, sym, ap, _∙_}
-use mathlib.Core.List.{List}
 use borrow.Author.Tests.{not-true, not-false}
-use lib.ListN.{length}
 use lib.Seq.{length-take-le}
 use Rattle.buffer.specs.Lists.{same}
 use Rattle.store.specs.Name.{goodField, goodName, padded, trimmed}
-use Rattle.store.proofs.Fields.{good-name-length}
+use Rattle.store.proofs.Names.{good-name-is}
 use native.Mathlib.Omega.{arith}
 use borrow.Author.Needs.{needs}
 use Rattle.store.proofs.name.is_good_field.Statement.{statement}
 use Rattle.store.proofs.name.is_good_field.Tie as tie
 
-sizes : (s : tie.Start) → length (s .args .t1) ≡ 12
-sizes s = search needs
+-- the states: the start, the name's length known, and a good name filled up
+abbrev start : tie.After-text-length → tie.Start
+start c = c .before .before
 
-array-share-prefix-field : tie.Need-array-share-prefix-field
-array-share-prefix-field c =
-    let z = sizes (c .before) in
-    omega arith
+abbrev known : tie.After-is-good-name → tie.After-text-length
+known c = c .before .before
 
-slice-aggregate-name : tie.Need-slice-aggregate-name
-slice-aggregate-name c =
-    let z = sizes (c .before .before) in
-    sym (length-take-le _ _ (omega arith))
+abbrev filled : tie.After-same-bytes → tie.After-pad
+filled c = c .before .before .before
 
-judged : (c : tie.After-is-good-name) → c .is-good-name .result ≡ goodName (trimmed (c .before .before .before .args .t1))
-judged c = c .is-good-name .ensures ∙ ap goodName (c .before .before .trimmed-length .ensures .1)
+judged : (c : tie.After-is-good-name) → c .is-good-name .result ≡ goodName (trimmed (start (known c) .args .t1))
+judged c = c .is-good-name .ensures ∙ ap goodName (known c .text-length .ensures .1)
 
 returns : tie.Need-returns
 unfolding goodField
@@ -34,27 +29,26 @@ returns c = rw (sym (judged (c .before)) ∙ not-true _ (c .if1 .taken))
 
 pad-requires : tie.Need-pad-requires
 pad-requires c κs =
-    let j = c .before in
-    let h = good-name-length _ (sym (j .is-good-name .ensures) ∙ not-false _ (c .if1 .left)) in
-    omega arith
+    let g = good-name-is _ (sym (c .before .is-good-name .ensures) ∙ not-false _ (c .if1 .left)) in
+    omega (arith, g .short)
 
 returns-2 : tie.Need-returns-2
 unfolding goodField
 returns-2 c =
-    let j = c .before .before .before .before .before in
-    let f = j .before .before .before .args .t1 in
-    rw (sym (judged j) ∙ not-false _ (c .before .before .before .before .if1 .left))
+    let g = filled c .before in
+    let t = known (g .before) in
+    rw (sym (judged (g .before)) ∙ not-false _ (g .if1 .left))
     (c .same-bytes .ensures
-    ∙ ap (λ (l : List ℕ). same f l) (c .before .before .before .pad .ensures
-    ∙ ap padded (j .before .before .trimmed-length .ensures .1)))
+    ∙ ap (same (start t .args .t1)) (filled c .pad .ensures ∙ ap padded (t .text-length .ensures .1)))
 
 pub is-good-field-spec : {M : Type 1} → statement M
 is-good-field-spec =
     tie.close
     (tie.spec
+    (λ c. search needs)
     (λ c κs. search needs)
-    array-share-prefix-field
-    slice-aggregate-name
+    (λ c. c .text-length .ensures .0)
+    (λ c. sym (length-take-le _ _ (c .before .text-length .ensures .0)))
     (λ c κs. search needs)
     returns
     pad-requires

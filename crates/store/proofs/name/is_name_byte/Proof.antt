@@ -1,3 +1,4 @@
+-- `name::is_name_byte` meets its contract: two comparisons.
 use borrow.Author.Tests.{le-leb, lt-leb}
 use Rattle.store.proofs.name.is_name_byte.Statement.{statement}
 use Rattle.store.proofs.name.is_name_byte.Tie as tie

@@ -1,3 +1,4 @@
+-- `name::pad` meets its contract: a name laid over zeros is the name and zeros behind it.
 use Prim.Native.Nat.{ℕ}
 use mathlib.Core.Path.{ap, _∙_}
 use mathlib.Core.List.{List, _++_}
@@ -9,9 +10,12 @@ use Rattle.store.specs.Layout.{nameSize}
 use Rattle.store.proofs.name.pad.Statement.{statement}
 use Rattle.store.proofs.name.pad.Tie as tie
 
+abbrev start : tie.After-overwrite-at → tie.Start
+start c = c .before .before .before
+
 returns : tie.Need-returns
 returns c =
-    let n = c .before .before .before .before .args .name .now in
+    let n = start (c .before) .args .name .now in
     c .before .overwrite-at .ensures ∙ rw zero-add (ap (λ (l : List ℕ). n ++ l) (drop-replicate 0 nameSize (length n)))
 
 pub pad-spec : {M : Type 1} → statement M

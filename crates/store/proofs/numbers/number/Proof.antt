@@ -1,3 +1,4 @@
+-- `numbers::number` meets its contract: a number of 16 bits as it is, a refusal below 0.
 use mathlib.Core.Path.{sym, ap, _∙_}
 use mir.Facts.{toZ-ofZ, toZ-pos}
 use mir.Syntax.{w32}

@@ -1,6 +1,6 @@
 -- The loop: the text holds the lines of the first i files.
 use Prim.Native.Nat.{ℕ, _*_, _-_, _≤_}
-use mathlib.Core.Path.{_≡_, refl, sym, ap, ap₂, subst, _∙_}
+use mathlib.Core.Path.{_≡_, sym, ap, ap₂, _∙_}
 use mathlib.Core.List.{List}
 use Rattle.buffer.specs.Lists.{flat, tab}
 use Rattle.buffer.specs.Text.{appended, emptyText}

@@ -1,14 +1,14 @@
-use mathlib.Core.Path.{_≡_, sym, ap, subst, _∙_}
+-- `operations::retrieve` meets its contract: behind the tests of the disc, the file found is copied, if the output has room.
 use Prim.Native.Nat.{ℕ, _+_, _-_}
-use lib.ListN.{length}
-use Rattle.store.specs.declared.Checked.the-variants.{Usable}
-use Rattle.store.proofs.Checks.{Fit, usable}
-use lib.ListN.{length-drop, length-take}
+use mathlib.Core.Path.{_≡_, sym, ap, subst, _∙_}
+use mathlib.Core.List.{List}
+use lib.ListN.{length, length-drop, length-take}
 use Rattle.buffer.specs.Buffer.{overwrite, part}
 use Rattle.buffer.specs.declared.Found.{Found}
 use Rattle.store.specs.Answer.{checked, retrieveAnswer, retrieveAt, retrieveFile}
-use Rattle.store.specs.Directory.{lookup}
+use Rattle.store.specs.declared.Checked.the-variants.{Usable}
 use Rattle.store.specs.declared.Entry.{Entry}
+use Rattle.store.proofs.Checks.{Fit, usable}
 use Rattle.store.proofs.Goodness.{GoodEntry, good-entry-at}
 use Rattle.store.proofs.Lookups.{Located, lookup-at}
 use Rattle.store.proofs.Steps.{file-done, file-short}
@@ -17,90 +17,100 @@ use borrow.Author.Needs.{needs}
 use Rattle.store.proofs.operations.retrieve.Statement.{statement}
 use Rattle.store.proofs.operations.retrieve.Tie as tie
 
--- the disc has passed the tests
-passed : (c : tie.After-enum-told) → checked (c .before .before .before .before .before .before .args .disc .now) ≡ Usable
-passed c = sym (c .before .before .check .ensures) ∙ c .enum-told .given .1
+-- the states: the start, the disc tested, the file found, its entry read, the output found long enough, the bytes copied
+abbrev start : tie.After-slice-known → tie.Start
+start c = c .before .before .before
 
-fit : (c : tie.After-enum-told) → Fit (c .before .before .before .before .before .before .args .disc .now)
-fit c = usable (c .before .before .before .before .before .before .args .disc .now) (passed c)
+abbrev tested : tie.After-enum-told → tie.After-check
+tested c = c .before .before
+
+abbrev searched : tie.After-i → tie.After-find
+searched c = c .before .before
+
+abbrev found : tie.After-entry-at → tie.After-i
+found c = c .before .before
+
+abbrev read : tie.Else1 → tie.After-entry-at
+read c = c .before .before .before
+
+abbrev fits : tie.After-overwrite-at → tie.Else1
+fits c = c .before .before .before
+
+-- what was passed
+abbrev disc : tie.After-enum-told → List ℕ
+disc c = start (tested c .before) .args .disc .now
+
+abbrev name : tie.After-enum-told → List ℕ
+name c = start (tested c .before) .args .name .now
+
+abbrev out : tie.After-enum-told → List ℕ
+out c = start (tested c .before) .args .out .now
+
+-- the disc has passed the tests
+passed : (c : tie.After-enum-told) → checked (disc c) ≡ Usable
+passed c = sym (tested c .check .ensures) ∙ c .enum-told .given .1
+
+fit : (c : tie.After-enum-told) → Fit (disc c)
+fit c = usable (disc c) (passed c)
 
 -- the file found, and that it lies inside the disc
-located : (c : tie.After-known-told2)
-    → Located (c .before .before .before .before .before .before .before .before .before .before .args .disc .now)
-    (c .before .before .before .before .before .before .before .before .before .before .args .name .now) (c .before .i .given .0 .0)
-located c = lookup-at _ _ _ (sym (c .before .before .before .find .ensures) ∙ c .before .i .given .1)
+located : (c : tie.After-i) → let u = searched c .before in Located (disc u) (name u) (c .i .given .0 .0)
+located c = lookup-at _ _ _ (sym (searched c .find .ensures) ∙ c .i .given .1)
 
-inside : (c : tie.After-entry-at)
-    → GoodEntry (length (c .before .before .before .before .before .before .before .before .before .before .before .args .disc .now))
-    (c .entry-at .result)
-inside c = subst (GoodEntry
-    (length (c .before .before .before .before .before .before .before .before .before .before .before .args .disc .now)))
-    (sym (c .entry-at .ensures))
-    (good-entry-at (c .before .before .before .before .before .before .before .before .before .before .before .args .disc .now)
-    (fit (c .before .before .before .before .before) .sound) (c .before .before .i .given .0 .0) (located (c .before) .inside))
+inside : (c : tie.After-entry-at) → GoodEntry (length (disc (searched (found c) .before))) (c .entry-at .result)
+inside c =
+    let u = searched (found c) .before in
+    subst (GoodEntry (length (disc u))) (sym (c .entry-at .ensures))
+    (good-entry-at (disc u) (fit u .sound) (found c .i .given .0 .0) (located (found c) .inside))
 
 -- the entry that was read is the one that the definition finds
 chosen : (c : tie.After-entry-at)
-    → retrieveFile (c .entry-at .result)
-    (c .before .before .before .before .before .before .before .before .before .before .before .args .disc .now)
-    (c .before .before .before .before .before .before .before .before .before .before .before .args .out .now) ≡ retrieveAt
-    (lookup (c .before .before .before .before .before .before .before .before .before .before .before .args .disc .now)
-    (c .before .before .before .before .before .before .before .before .before .before .before .args .name .now))
-    (c .before .before .before .before .before .before .before .before .before .before .before .args .disc .now)
-    (c .before .before .before .before .before .before .before .before .before .before .before .args .out .now)
+    → let u = searched (found c) .before in retrieveAnswer (disc u) (name u) (out u) ≡ retrieveFile (c .entry-at .result) (disc u) (out u)
+unfolding retrieveAnswer
 chosen c =
-    let a = c .before .before .before .before .before .before .before .before .before .before .before .args in
-    ap (λ (e : Entry). retrieveFile e (a .disc .now) (a .out .now)) (c .entry-at .ensures)
-    ∙ ap (λ (f : Found). retrieveAt f (a .disc .now) (a .out .now)) (sym (c .before .before .i .given .1)
-    ∙ c .before .before .before .before .find .ensures)
+    let f = found c in
+    let u = searched f .before in
+    rw (passed u)
+    (ap (λ (x : Found). retrieveAt x (disc u) (out u)) (sym (searched f .find .ensures) ∙ f .i .given .1)
+    ∙ ap (λ (e : Entry). retrieveFile e (disc u) (out u)) (sym (c .entry-at .ensures)))
 
 returns : tie.Need-returns
 unfolding retrieveAnswer
 returns c = rw (sym (c .before .before .before .check .ensures) ∙ c .before .refusal .given .1)
 
-find-requires : tie.Need-find-requires
-find-requires c κs = fit c .ready
-
 entry-at-requires : tie.Need-entry-at-requires
 entry-at-requires c κs =
-    let r = fit (c .before .before .before .before) .ready in
-    (r .low, omega (arith, located c .inside, r .few))
+    let r = fit (searched (c .before) .before) .ready in
+    (r .low, omega (arith, located (c .before) .inside, r .few))
 
 returns-2 : tie.Need-returns-2
-unfolding retrieveAnswer
 returns-2 c =
     let t = c .before .before .before in
-    let a = t .before .before .before .before .before .before .before .before .before .before .before .args in
-    rw (passed (t .before .before .before .before .before)) (file-short (t .entry-at .result) (a .disc .now) (a .out .now) (c .if1 .taken)
-    ∙ chosen t)
-
-part-overwrite-at-end : tie.Need-part-overwrite-at-end
-part-overwrite-at-end c = omega (arith, inside (c .before .before .before .before) .high)
+    let u = searched (found t) .before in
+    file-short (t .entry-at .result) (disc u) (out u) (c .if1 .taken) ∙ sym (chosen t)
 
 overwrite-at-requires : tie.Need-overwrite-at-requires
 overwrite-at-requires c κs =
-    let h = inside (c .before .before .before .before .before) .high in
+    let h = inside (read (c .before .before)) .high in
     simp (length-take, length-drop) (omega arith)
 
 returns-3 : tie.Need-returns-3
 unfolding retrieveAnswer
 returns-3 c =
-    let s = c .before .before .before in
-    let a = s .before .before .before .before .before .before .args in
-    rw (passed s) (ap (λ (f : Found). retrieveAt f (a .disc .now) (a .out .now)) (sym (c .enum-told2 .given .1)
-    ∙ c .before .before .find .ensures))
+    let f = c .before .before in
+    let u = f .before in
+    rw (passed u) (ap (λ (x : Found). retrieveAt x (disc u) (out u)) (sym (c .enum-told2 .given .1) ∙ f .find .ensures))
 
 returns-4 : tie.Need-returns-4
-unfolding retrieveAnswer
 returns-4 c =
-    let t = c .before .before .before .before .before .before .before .before in
-    let a = t .before .before .before .before .before .before .before .before .before .before .before .args in
+    let o = c .before .before in
+    let t = read (fits o) in
+    let u = searched (found t) .before in
     let e = t .entry-at .result in
     let z : e .start + e .len - e .start ≡ e .len = omega arith in
-    rw (passed (t .before .before .before .before .before))
-    (file-done e (a .disc .now) (a .out .now) _ (c .before .before .before .before .before .if1 .left)
-    (c .before .before .overwrite-at .ensures ∙ ap (λ (n : ℕ). overwrite (a .out .now) 0 (part (a .disc .now) (e .start) n)) z)
-    ∙ chosen t)
+    file-done e (disc u) (out u) _ (fits o .if1 .left)
+    (o .overwrite-at .ensures ∙ ap (λ (n : ℕ). overwrite (out u) 0 (part (disc u) (e .start) n)) z)
+    ∙ sym (chosen t)
 
 pub retrieve-spec : {M : Type 1} → statement M
 retrieve-spec =
@@ -110,7 +120,7 @@ retrieve-spec =
     (λ c. search needs)
     returns
     (λ c. search needs)
-    find-requires
+    (λ c κs. fit c .ready)
     (λ c. search needs)
     (λ c. search needs)
     entry-at-requires
@@ -120,7 +130,7 @@ retrieve-spec =
     (λ c. search needs)
     (λ c. search needs)
     (λ c. omega arith)
-    part-overwrite-at-end
+    (λ c. omega (arith, inside (read (c .before)) .high))
     overwrite-at-requires
     returns-3
     (λ c. search needs)

@@ -1,87 +1,109 @@
+-- `operations::store` meets its contract: behind the tests of the disc and of the file, it is entered and written.
+use Prim.Native.Nat.{ℕ, _+_, _<_}
 use mathlib.Core.Path.{_≡_, sym, ap, _∙_}
 use mathlib.Core.List.{List}
-use Prim.Native.Nat.{ℕ, _+_, _<_}
 use lib.ListN.{length}
-use Rattle.store.specs.declared.Checked.the-variants.{Usable}
-use Rattle.store.proofs.Checks.{Fit, usable}
-use Rattle.place.specs.Place.{runFrom}
 use Rattle.store.specs.Answer.{checked, storeAnswer, storeAt, updated}
-use Rattle.store.specs.File.{writtenAt}
 use Rattle.store.specs.declared.Admission.{Admission}
 use Rattle.store.specs.declared.Answer.the-variants.{Done}
+use Rattle.store.specs.declared.Checked.the-variants.{Usable}
 use Rattle.store.proofs.Admissions.{Admitted, admitted}
-use Rattle.store.proofs.Fields.{good-name-length}
+use Rattle.store.proofs.Calls.{stored}
+use Rattle.store.proofs.Checks.{Fit, usable}
+use Rattle.store.proofs.Names.{good-name-is}
 use native.Mathlib.Omega.{arith}
 use borrow.Author.Needs.{needs}
 use Rattle.store.proofs.operations.store.Statement.{statement}
 use Rattle.store.proofs.operations.store.Tie as tie
 
--- the disc has passed the tests
-passed : (c : tie.After-enum-told) → checked (c .before .before .before .before .before .before .before .args .disc .now) ≡ Usable
-passed c = sym (c .before .before .check .ensures) ∙ c .enum-told .given .1
+-- the states: the start, the disc tested and found usable, the file admitted, entered, lent anew, and written
+abbrev start : tie.After-shared-slice-known2 → tie.Start
+start c = c .before .before .before
 
-fit : (c : tie.After-enum-told) → Fit (c .before .before .before .before .before .before .before .args .disc .now)
-fit c = usable (c .before .before .before .before .before .before .before .args .disc .now) (passed c)
+abbrev tested : tie.After-enum-told → tie.After-check
+tested c = c .before .before
+
+abbrev fine : tie.After-admit → tie.After-enum-told
+fine c = c .before .before
+
+abbrev asked : tie.After-start → tie.After-admit
+asked c = c .before .before
+
+abbrev placed : tie.After-enter → tie.After-start
+placed c = c .before .before .before
+
+abbrev entered : tie.After-slice-known2 → tie.After-enter
+entered c = c .before .before
+
+abbrev written : tie.After-slice-known3 → tie.After-write-at
+written c = c .before .before
+
+abbrev lent : tie.After-write-at → tie.After-slice-known2
+lent c = c .before .before
+
+-- what was passed
+abbrev disc : tie.After-enum-told → List ℕ
+disc c = start (tested c .before .before) .args .disc .now
+
+abbrev name : tie.After-enum-told → List ℕ
+name c = start (tested c .before .before) .args .name .now
+
+abbrev bytes : tie.After-enum-told → List ℕ
+bytes c = start (tested c .before .before) .args .«data» .now
+
+-- the disc has passed the tests
+passed : (c : tie.After-enum-told) → checked (disc c) ≡ Usable
+passed c = sym (tested c .check .ensures) ∙ c .enum-told .given .1
+
+fit : (c : tie.After-enum-told) → Fit (disc c)
+fit c = usable (disc c) (passed c)
+
+-- what is left of the definition behind the tests, and what the code was told of it
+rest : (c : tie.After-admit) → let u = fine c in
+    storeAnswer (disc u) (name u) (bytes u) ≡ storeAt (c .admit .result) (disc u) (name u) (bytes u)
+unfolding storeAnswer
+rest c = let u = fine c in rw (passed u) (ap (λ (m : Admission). storeAt m (disc u) (name u) (bytes u)) (sym (c .admit .ensures)))
 
 -- what the admission of a start says
-let-in : (c : tie.After-known-told3)
-    → Admitted (c .before .before .before .before .before .before .before .before .before .before .before .before .args .disc .now)
-    (c .before .before .before .before .before .before .before .before .before .before .before .before .args .name .now)
-    (length (c .before .before .before .before .before .before .before .before .before .before .before .before .args .«data» .now))
-    (c .before .start .given .0 .0)
-let-in c = admitted _ _ _ _ (sym (c .before .before .before .admit .ensures) ∙ c .before .start .given .1)
+let-in : (c : tie.After-start) → let u = fine (asked c) in Admitted (disc u) (name u) (length (bytes u)) (c .start .given .0 .0)
+let-in c = admitted _ _ _ _ (sym (asked c .admit .ensures) ∙ c .start .given .1)
 
 -- place and length fit 16 bits
-short : (c : tie.After-known-told3)
-    → c .before .start .given .0 .0 + length
-    (c .before .before .before .before .before .before .before .before .before .before .before .before .args .«data» .now) < 65536
-short c = let a = let-in c in let r = fit (c .before .before .before .before .before) .ready in omega (arith, a .placed .high, r .high)
+short : (c : tie.After-start) → c .start .given .0 .0 + length (bytes (fine (asked c))) < 65536
+short c = omega (arith, let-in c .placed .high, fit (fine (asked c)) .ready .high)
 
 returns : tie.Need-returns
 unfolding storeAnswer
 returns c = rw (sym (c .before .before .before .check .ensures) ∙ c .before .refusal .given .1)
 
-admit-requires : tie.Need-admit-requires
-admit-requires c κs = fit (c .before) .ready
-
 enter-requires : tie.Need-enter-requires
 enter-requires c κs =
-    let t = c .before in
+    let t = c .before .before in
     let a = let-in t in
-    let n = good-name-length _ (a .good) in
-    (fit (t .before .before .before .before .before) .ready, (a .few, omega arith, omega (arith, short t), omega (arith, short t)))
-
-cast-t20 : tie.Need-cast-t20
-cast-t20 c = omega (arith, short (c .before .before .before .before))
-
-cast-t21 : tie.Need-cast-t21
-cast-t21 c = omega (arith, short (c .before .before .before .before))
+    let s = short t in
+    (fit (fine (asked t)) .ready, (a .few, omega (arith, good-name-is _ (a .good) .short), omega arith, omega arith))
 
 write-at-requires : tie.Need-write-at-requires
-write-at-requires c κs =
-    let a = let-in (c .before .before .before .before .before) in
-    (omega arith, omega (arith, a .placed .high))
+write-at-requires c κs = (omega arith, omega (arith, let-in (placed (entered (c .before))) .placed .high))
 
 returns-2 : tie.Need-returns-2
-unfolding storeAnswer
 returns-2 c =
-    let s = c .before .before .before .before .before in
-    let a = s .before .before .before .before .before .before .before .args in
-    rw (passed s) (ap (λ (m : Admission). storeAt m (a .disc .now) (a .name .now) (a .«data» .now)) (sym (c .before .refusal2 .given .1)
-    ∙ c .before .before .before .admit .ensures))
+    let m = c .before .before .before in
+    let u = fine m in
+    ap (λ (r : Admission). storeAt r (disc u) (name u) (bytes u)) (sym (c .before .refusal2 .given .1)) ∙ sym (rest m)
+
+-- the disc that a store leaves
+left : (c : tie.After-write-at) → let t = placed (entered (lent c)) in let u = fine (asked t) in
+    c .write-at .last .0 ≡ stored (disc u) (name u) (bytes u) (t .start .given .0 .0)
+left c = rw (← entered (lent c) .enter .ensures) (c .write-at .ensures)
 
 returns-3 : tie.Need-returns-3
-unfolding storeAnswer
 returns-3 c =
-    let t = c .before .before .before .before .before .before .before .before in
-    let s = t .before .before .before .before .before in
-    let a = s .before .before .before .before .before .before .before .args in
-    rw (passed s)
-    (ap (λ (l : List ℕ). updated (Done 0) l) (c .before .before .write-at .ensures
-    ∙ ap (λ (l : List ℕ). writtenAt l (runFrom (t .before .start .given .0 .0) (length (a .«data» .now))) 0 (a .«data» .now))
-    (c .before .before .before .before .before .before .enter .ensures))
-    ∙ ap (λ (m : Admission). storeAt m (a .disc .now) (a .name .now) (a .«data» .now)) (sym (t .before .start .given .1)
-    ∙ t .before .before .before .admit .ensures))
+    let w = written c in
+    let t = placed (entered (lent w)) in
+    let u = fine (asked t) in
+    ap (updated (Done 0)) (left w)
+    ∙ ap (λ (r : Admission). storeAt r (disc u) (name u) (bytes u)) (sym (t .start .given .1)) ∙ sym (rest (asked t))
 
 pub store-spec : {M : Type 1} → statement M
 store-spec =
@@ -92,12 +114,12 @@ store-spec =
     (λ c. search needs)
     returns
     (λ c. search needs)
-    admit-requires
+    (λ c κs. fit (c .before) .ready)
     (λ c. search needs)
     (λ c. search needs)
     enter-requires
-    cast-t20
-    cast-t21
+    (λ c. omega (arith, short (placed (entered c))))
+    (λ c. omega (arith, short (placed (entered c))))
     write-at-requires
     (λ c. search needs)
     returns-2

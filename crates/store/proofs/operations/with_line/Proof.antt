@@ -1,7 +1,7 @@
 -- `operations::with_line` meets its contract: name, space, number and newline are appended one by one.
 use Prim.Native.Nat.{ℕ}
 use mathlib.Core.Path.{_≡_, ap, _∙_}
-use mathlib.Core.List.{List, [], _∷_}
+use mathlib.Core.List.{[], _∷_}
 use lib.ListN.{length}
 use Rattle.buffer.specs.Text.{appended, textSize}
 use Rattle.buffer.specs.declared.text.Text.{Text}
