@@ -17,7 +17,7 @@ use Rattle.place.specs.Place.{filled, fits, maxRuns, noRun, place}
 use Rattle.place.specs.declared.Run.{Run}
 use Rattle.place.proofs.Place.{Fits, no-place-none-fits, place-fits}
 use Rattle.variable.specs.Assign.{added, addressOr, assignAt, assigned, entryLimit, highEnd, ifEntry, lowEnd, newCell, newVariable}
-use Rattle.variable.specs.Assign.{placeFor, placing, placingFault, takenRuns, valueBytes, withCell}
+use Rattle.variable.specs.Assign.{placeFor, placing, placingFault, takenRuns, valueBytes, assignedCells}
 use Rattle.variable.specs.Limits.{maxVariables}
 use Rattle.variable.specs.Table.{Cell, Shaped, counted, find, freed, isOf, noVariable, owned, runOf}
 use Rattle.variable.specs.declared.Placing.{Placing}
@@ -115,16 +115,16 @@ module _ (v : Variables) (name id : ℕ) (x : Value) where
       go NoEntry h = refl
       go NoRun h = refl
 
-  -- "no entry" only with 25 variables left after freeing the old one
-  pub assigned-no-entry : assigned v name id x .placing ≡ NoEntry → 25 ≤ rest .count
+  -- "no entry" only with as many variables as there can be left after freeing the old one
+  pub assigned-no-entry : assigned v name id x .placing ≡ NoEntry → maxVariables ≤ rest .count
   assigned-no-entry e = place-no-entry rest (x .size) (sym assigned-placing ∙ e)
 
   -- "no run" only where no address fits among the variables left
-  pub assigned-no-run : assigned v name id x .placing ≡ NoRun → (a : ℕ) → fits (takenRuns rest) 0 256 (x .size) a ≡ false
+  pub assigned-no-run : assigned v name id x .placing ≡ NoRun → (a : ℕ) → fits (takenRuns rest) lowEnd highEnd (x .size) a ≡ false
   assigned-no-run e = place-no-run rest (x .size) (sym assigned-placing ∙ e)
 
   -- ---- kept in either case
-  module _ (shaped : Shaped v) (few : v .count ≤ 25) (sized : length (valueBytes x) ≡ x .size) where
+  module _ (shaped : Shaped v) (few : v .count ≤ maxVariables) (sized : length (valueBytes x) ≡ x .size) where
     left : Shaped rest
     left = freed-shaped v (isOf name id) few shaped
 
@@ -148,10 +148,10 @@ module _ (v : Variables) (name id : ℕ) (x : Value) where
       placed : placeFor rest (x .size) ≡ Address a
       placed = sym assigned-placing ∙ done
 
-      room : rest .count < 25
+      room : rest .count < maxVariables
       room = place-address rest (x .size) a placed .0
 
-      pub assigned-run : Fits (takenRuns rest) 0 256 (x .size) a
+      pub assigned-run : Fits (takenRuns rest) lowEnd highEnd (x .size) a
       assigned-run = place-address rest (x .size) a placed .1
 
       pub assigned-is : assigned v name id x .variables ≡ added rest new (valueBytes x)
@@ -159,8 +159,8 @@ module _ (v : Variables) (name id : ℕ) (x : Value) where
       assigned-is = rw placed
 
       -- Document 01: "A SET without fault drops the old variable, then adds the new one"
-      pub assigned-own : owned (assigned v name id x .variables) id ≡ withCell (owned v id) (newCell name x)
-      unfolding withCell
+      pub assigned-own : owned (assigned v name id x .variables) id ≡ assignedCells (owned v id) (newCell name x)
+      unfolding assignedCells
       assigned-own =
           ap (λ (w : Variables). owned w id) assigned-is
           ∙ owned-added-own rest new (valueBytes x) left room assigned-run sized

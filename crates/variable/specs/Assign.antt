@@ -96,5 +96,5 @@ abbrev pub newCell : ℕ → Value → Cell
 newCell name x = record { name = name; kind = x .kind; bytes = valueBytes x }
 
 -- Document 01: "A SET without fault drops the old variable, then adds the new one"
-unfoldable pub withCell : List Cell → Cell → List Cell
-withCell cells new = keep (λ c. not (eqb (c .name) (new .name))) cells ++ (new ∷ [])
+unfoldable pub assignedCells : List Cell → Cell → List Cell
+assignedCells cells new = keep (λ c. not (eqb (c .name) (new .name))) cells ++ (new ∷ [])
