@@ -21,11 +21,12 @@ use Rattle.buffer.proofs.Tables.{all-map}
 use Rattle.place.specs.Place.{apart, runFrom}
 use Rattle.place.proofs.Place.{Fits, apart-is}
 use Rattle.variable.specs.Assign.{added, highEnd, lowEnd, takenRuns}
+use Rattle.variable.specs.Limits.{maxVariables}
 use Rattle.variable.specs.Table.{Cell, Shaped, cellOf, counted, find, isOf, noVariable, owned, ownedBy, runOf}
 use Rattle.variable.specs.declared.Variable.{Variable}
 use Rattle.variable.specs.declared.Variables.{Variables}
 
-module _ (v : Variables) (e : Variable) (bytes : List ℕ) (shaped : Shaped v) (room : v .count < 25)
+module _ (v : Variables) (e : Variable) (bytes : List ℕ) (shaped : Shaped v) (room : v .count < maxVariables)
     (run : Fits (takenRuns v) lowEnd highEnd (e .size) (e .address)) (sized : length bytes ≡ e .size) where
   inside : e .address + length bytes ≤ length (v .memory)
   inside =

@@ -10,6 +10,7 @@ use lib.Seq.{take-at}
 use borrow.Author.Tests.{eqb-true, ne-eqb}
 use Rattle.buffer.specs.Lists.{keep}
 use Rattle.buffer.proofs.Kept.{keep-all, keep-keep, keep-length, keep-map, keep-none, keep-swap}
+use Rattle.variable.specs.Limits.{maxVariables}
 use Rattle.variable.specs.Table.{Shaped, cellOf, counted, freed, freedAll, isOf, noVariable, owned, ownedBy}
 use Rattle.variable.specs.declared.Variable.{Variable}
 use Rattle.variable.specs.declared.Variables.{Variables}
@@ -33,7 +34,7 @@ module _ (v : Variables) (gone : Variable → Bool) where
       let b = take-bound (v .count) (v .entries) in
       omega arith
 
-  pub freed-shaped : v .count ≤ 25 → Shaped v → Shaped (freed v gone)
+  pub freed-shaped : v .count ≤ maxVariables → Shaped v → Shaped (freed v gone)
   unfolding freed
   freed-shaped h s =
       let n = s .entries in

@@ -1,13 +1,12 @@
 -- Good variables: what the test says, and that freeing and setting keep it.
 use Prim.Native.Nat.{ℕ, _+_, _≤_, _<_}
-use mathlib.Core.Path.{_≡_, refl, sym, subst, _∙_}
+use mathlib.Core.Path.{_≡_, refl, sym, _∙_}
 use mathlib.Core.Bool.{Bool, true, false, _&&_, not}
 use mathlib.Core.List.{List, [], _∷_}
 use mathlib.Core.Logic.{_⊎_, ⊎-elim}
 use native.Mathlib.Omega.{arith}
 use lib.Dec.{eqb, leb}
 use lib.ListN.{length, getD}
-use lib.Seq.{getD-take, length-take-le}
 use borrow.Author.Tests.{eqb-false, eqb-true, le-leb, leb-true, not-true}
 use Rattle.buffer.specs.Buffer.{part}
 use Rattle.buffer.specs.Lists.{all, any, pairs}
@@ -15,13 +14,14 @@ use Rattle.buffer.specs.declared.Found.the-variants.{At}
 use Rattle.buffer.proofs.Disjunctions.{or-cases}
 use Rattle.buffer.proofs.Bools.{and-both, and-left, and-right}
 use Rattle.buffer.proofs.Kept.{all-kept, keep-all, pairs-keep}
-use Rattle.buffer.proofs.Lists.{all-at, all-snoc, pairs-snoc}
+use Rattle.buffer.proofs.Lists.{all-snoc, pairs-snoc}
 use Rattle.buffer.proofs.Parts.{part-length}
 use Rattle.buffer.proofs.Tables.{all-map}
 use Rattle.place.specs.Place.{apart}
 use Rattle.place.proofs.Place.{Fits, apart-sym}
 use Rattle.variable.specs.Assign.{added, assigned, highEnd, lowEnd, newVariable, takenRuns, valueBytes}
 use Rattle.variable.specs.Good.{beside, goodSize, goodVariable, goodVariables}
+use Rattle.variable.specs.Limits.{maxString, maxVariables, memorySize}
 use Rattle.variable.specs.Table.{Shaped, counted, find, freed, freedAll, isOf, noVariable, ownedBy, runOf}
 use Rattle.variable.specs.declared.Value.{Value}
 use Rattle.variable.specs.declared.Variable.{Variable}
@@ -29,10 +29,10 @@ use Rattle.variable.specs.declared.Variables.{Variables}
 use Rattle.variable.proofs.Adding.{added-count, added-counted}
 use Rattle.variable.proofs.Freeing.{freed-count, freed-counted, freed-shaped}
 use Rattle.variable.proofs.Setting.{assigned-keeps, place-address}
-use Rattle.variable.proofs.Views.{find-found}
+use Rattle.variable.proofs.Views.{held-at}
 
 -- ---- what the tests say
-pub good-size-bounds : (kind size : ℕ) → goodSize kind size ≡ true → (1 ≤ size) × (size ≤ 30)
+pub good-size-bounds : (kind size : ℕ) → goodSize kind size ≡ true → (1 ≤ size) × (size ≤ maxString)
 unfolding goodSize
 good-size-bounds kind size h =
     ⊎-elim (fixed 1 1 (omega arith) (omega arith))
@@ -40,29 +40,29 @@ good-size-bounds kind size h =
     (or-cases _ _ h))
     (or-cases _ _ h)
   where
-    fixed : (k n : ℕ) → 1 ≤ n → n ≤ 30 → eqb kind k && eqb size n ≡ true → (1 ≤ size) × (size ≤ 30)
+    fixed : (k n : ℕ) → 1 ≤ n → n ≤ maxString → eqb kind k && eqb size n ≡ true → (1 ≤ size) × (size ≤ maxString)
     fixed k n lo hi e = let q : size ≡ n = eqb-true size n (and-right (eqb kind k) (eqb size n) e) in omega arith
 
-    text : eqb kind 3 && (leb 1 size && leb size 30) ≡ true → (1 ≤ size) × (size ≤ 30)
+    text : eqb kind 3 && (leb 1 size && leb size maxString) ≡ true → (1 ≤ size) × (size ≤ maxString)
     text e =
-        let b = and-right (eqb kind 3) (leb 1 size && leb size 30) e in
-        (leb-true 1 size (and-left (leb 1 size) (leb size 30) b), leb-true size 30 (and-right (leb 1 size) (leb size 30) b))
+        let b = and-right (eqb kind 3) (leb 1 size && leb size maxString) e in
+        (leb-true 1 size (and-left (leb 1 size) (leb size maxString) b), leb-true size maxString (and-right (leb 1 size) (leb size maxString) b))
 
 pub record GoodVariable (live : List ℕ) (e : Variable) : Type 0 where
   pub size : goodSize (e .kind) (e .size) ≡ true
-  pub inside : e .address + e .size ≤ 256
+  pub inside : e .address + e .size ≤ memorySize
   pub owner : any (eqb (e .owner)) live ≡ true
 
 pub good-variable-is : (live : List ℕ) (e : Variable) → goodVariable live e ≡ true → GoodVariable live e
 unfolding goodVariable
 good-variable-is live e h =
-    let r = and-right (goodSize (e .kind) (e .size)) (leb (e .address + e .size) 256 && any (eqb (e .owner)) live) h in
+    let r = and-right (goodSize (e .kind) (e .size)) (leb (e .address + e .size) memorySize && any (eqb (e .owner)) live) h in
     record {
-      size = and-left (goodSize (e .kind) (e .size)) (leb (e .address + e .size) 256 && any (eqb (e .owner)) live) h;
+      size = and-left (goodSize (e .kind) (e .size)) (leb (e .address + e .size) memorySize && any (eqb (e .owner)) live) h;
       inside =
-          leb-true _ _ (and-left (leb (e .address + e .size) 256) (any (eqb (e .owner)) live) r);
+          leb-true _ _ (and-left (leb (e .address + e .size) memorySize) (any (eqb (e .owner)) live) r);
       owner =
-          and-right (leb (e .address + e .size) 256) (any (eqb (e .owner)) live) r;
+          and-right (leb (e .address + e .size) memorySize) (any (eqb (e .owner)) live) r;
     }
 
 pub is-good-variable : (live : List ℕ) (e : Variable) → GoodVariable live e → goodVariable live e ≡ true
@@ -70,7 +70,7 @@ unfolding goodVariable
 is-good-variable live e g = and-both (g .size) (and-both (le-leb _ _ (g .inside)) (g .owner))
 
 pub record GoodVariables (live : List ℕ) (v : Variables) : Type 0 where
-  pub few : v .count ≤ 25
+  pub few : v .count ≤ maxVariables
   pub each : all (goodVariable live) (counted v) ≡ true
   pub pairwise : pairs beside (counted v) ≡ true
 
@@ -80,9 +80,9 @@ module _ (live : List ℕ) (v : Variables) where
   good-variables-is h =
       let each = all (goodVariable live) (counted v) in
       let pairwise = pairs beside (counted v) in
-      let r = and-right (leb (v .count) 25) (each && pairwise) h in
+      let r = and-right (leb (v .count) maxVariables) (each && pairwise) h in
       record {
-        few = leb-true _ _ (and-left (leb (v .count) 25) (each && pairwise) h);
+        few = leb-true _ _ (and-left (leb (v .count) maxVariables) (each && pairwise) h);
         each = and-left each pairwise r;
         pairwise =
             and-right each pairwise r;
@@ -93,16 +93,9 @@ module _ (live : List ℕ) (v : Variables) where
   is-good-variables g = and-both (le-leb _ _ (g .few)) (and-both (g .each) (g .pairwise))
 
   -- what is found in a good table is good
-  pub found-good : (name id i : ℕ) → Shaped v → goodVariables live v ≡ true → find v name id ≡ At i
-      → GoodVariable live (getD (v .entries) i noVariable)
-  found-good name id i s h e =
-      let g = good-variables-is h in
-      let n = s .entries in
-      let f = find-found v name id i e in
-      let l : length (counted v) ≡ v .count = length-take-le (v .count) (v .entries) (omega (arith, g .few)) in
-      good-variable-is live (getD (v .entries) i noVariable)
-      (subst (λ (d : Variable). goodVariable live d ≡ true) (getD-take (v .count) (v .entries) i noVariable (f .0))
-      (all-at (goodVariable live) (counted v) i noVariable (omega (arith, f .0)) (g .each)))
+  pub found-good : (name id i : ℕ) → goodVariables live v ≡ true → find v name id ≡ At i → GoodVariable live (getD (v .entries) i noVariable)
+  found-good name id i h e = good-variable-is live (getD (v .entries) i noVariable)
+      (held-at v name id i e (goodVariable live) (good-variables-is h .each) .holds)
 
 -- a good variable's value is as long as its entry says
 pub value-length : (live : List ℕ) (v : Variables) (e : Variable) → Shaped v → GoodVariable live e
@@ -154,7 +147,7 @@ all-both p q r (x ∷ l) h a b =
     and-both (h x (and-left (p x) (all p l) a) (and-left (q x) (all q l) b))
     (all-both p q r l h (and-right (p x) (all p l) a) (and-right (q x) (all q l) b))
 
-module _ (live : List ℕ) (v : Variables) (e : Variable) (bytes : List ℕ) (shaped : Shaped v) (room : v .count < 25)
+module _ (live : List ℕ) (v : Variables) (e : Variable) (bytes : List ℕ) (shaped : Shaped v) (room : v .count < maxVariables)
     (run : Fits (takenRuns v) lowEnd highEnd (e .size) (e .address)) (sized : length bytes ≡ e .size) where
   -- a new variable of a live process, in a free run and with a new name
   pub added-good : goodVariables live v ≡ true → goodSize (e .kind) (e .size) ≡ true → any (eqb (e .owner)) live ≡ true

@@ -1,95 +1,71 @@
 -- GET: what the table's lookup finds is what a process finds by name among its own variables.
 use Prim.Native.Nat.{ℕ}
-use mathlib.Core.Path.{_≡_, refl, sym, ap, subst, _∙_}
+use mathlib.Core.Path.{_≡_, refl, sym, ap, _∙_}
 use mathlib.Core.Bool.{Bool, true, false, _&&_}
 use mathlib.Core.List.{List, [], _∷_, map}
 use lib.Dec.{eqb}
 use lib.ListN.{getD}
-use lib.Seq.{getD-take}
-use Rattle.buffer.specs.Lists.{consIf, hereOr, index, keep}
+use Rattle.buffer.specs.Lists.{consIf, hereOr, index, keep, later}
 use Rattle.buffer.specs.declared.Found.{Found}
 use Rattle.buffer.specs.declared.Found.the-variants.{At, Nowhere}
+use Rattle.buffer.proofs.Bools.{true-not-false}
 use Rattle.variable.specs.Table.{Cell, cellOf, counted, find, noVariable, owned, ownedBy}
-use Rattle.variable.specs.declared.Variable.{Variable}
 use Rattle.variable.specs.declared.Variables.{Variables}
-use Rattle.variable.proofs.Views.{find-found}
 
--- ---- a search by two tests, and one by the second among those that the first keeps
-module _ {A B : Type 0} (p : A → Bool) (f : A → B) (r : B → Bool) (d : A) where
-  -- both find nothing, or both the same element
-  abbrev Agree : List B → List A → Found → Found → Type 0
-  Agree m l (At i) (At k) = getD m k (f d) ≡ f (getD l i d)
-  Agree m l (At i) Nowhere = ⊥
-  Agree m l Nowhere (At k) = ⊥
-  Agree m l Nowhere Nowhere = _≡_ {A = Found} Nowhere Nowhere
+-- what is made of a search in l: `next` of what it found, or `none`
+abbrev pub foundIn : {A C : Type 0} → List A → A → (A → C) → C → Found → C
+foundIn l d next none (At i) = next (getD l i d)
+foundIn l d next none Nowhere = none
 
-  among : Bool → Bool → Found → Found
-  among true b h = hereOr b h
-  among false b h = h
+found-later : {A C : Type 0} (x : A) (l : List A) (d : A) (next : A → C) (none : C) (f : Found)
+    → foundIn (x ∷ l) d next none (later f) ≡ foundIn l d next none f
+found-later x l d next none (At i) = refl
+found-later x l d next none Nowhere = refl
 
-  agree : (l : List A) → Agree (map f (keep p l)) l (index (λ x. r (f x) && p x) l) (index r (map f (keep p l)))
-  unfolding among index keep
-  agree [] = refl
-  agree (x ∷ l) =
-      subst (Agree (map f (consIf (p x) x (keep p l))) (x ∷ l) (hereOr (r (f x) && p x) (index (λ y. r (f y) && p y) l)))
-      (sym (first (p x)))
-      (go (p x) (r (f x)) (index (λ y. r (f y) && p y) l) (index r (map f (keep p l))) (agree l))
+-- a search by r among what p keeps, and one by both tests in the whole list, find the same element
+module _ {A B C : Type 0} (p : A → Bool) (f : A → B) (r : B → Bool) (d : A) (e : B) (next : B → C) (none : C) where
+  abbrev kept : List A → List B
+  kept l = map f (keep p l)
+
+  abbrev both : A → Bool
+  both x = r (f x) && p x
+
+  found-kept : (l : List A) → foundIn (kept l) e next none (index r (kept l)) ≡ foundIn l d (λ x. next (f x)) none (index both l)
+  unfolding index keep
+  found-kept [] = refl
+  found-kept (x ∷ l) = go (r (f x)) refl (p x) (found-kept l)
     where
-      first : (a : Bool) → index r (map f (consIf a x (keep p l))) ≡ among a (r (f x)) (index r (map f (keep p l)))
-      first true = refl
-      first false = refl
+      behind : foundIn (x ∷ l) d (λ y. next (f y)) none (later (index both l)) ≡ foundIn l d (λ y. next (f y)) none (index both l)
+      behind = found-later x l d (λ y. next (f y)) none (index both l)
 
-      go : (a b : Bool) (g h : Found) → Agree (map f (keep p l)) l g h
-          → Agree (map f (consIf a x (keep p l))) (x ∷ l) (hereOr (b && a) g) (among a b h)
-      go true true g h e = refl
-      go true false (At i) (At k) e = e
-      go true false (At i) Nowhere e = e
-      go true false Nowhere (At k) e = e
-      go true false Nowhere Nowhere e = e
-      go false true (At i) (At k) e = e
-      go false true (At i) Nowhere e = e
-      go false true Nowhere (At k) e = e
-      go false true Nowhere Nowhere e = e
-      go false false (At i) (At k) e = e
-      go false false (At i) Nowhere e = e
-      go false false Nowhere (At k) e = e
-      go false false Nowhere Nowhere e = e
+      go : (b : Bool) → r (f x) ≡ b → (a : Bool)
+          → foundIn (kept l) e next none (index r (kept l)) ≡ foundIn l d (λ y. next (f y)) none (index both l)
+          → foundIn (map f (consIf a x (keep p l))) e next none (index r (map f (consIf a x (keep p l))))
+          ≡ foundIn (x ∷ l) d (λ y. next (f y)) none (hereOr (b && a) (index both l))
+      go true q true h = rw q
+      go false q true h = rw q (found-later (f x) (kept l) e next none (index r (kept l)) ∙ h ∙ sym behind)
+      go true q false h = h ∙ sym behind
+      go false q false h = h ∙ sym behind
 
 module _ (v : Variables) (name id : ℕ) where
   abbrev named : Cell → Bool
   named c = eqb (c .name) name
 
-  -- the place in the process's own list, and what it holds
-  pub record Own (e : Variable) : Type 0 where
-    pub place : ℕ
-    pub found : index named (owned v id) ≡ At place
-    pub cell : getD (owned v id) place (cellOf (v .memory) noVariable) ≡ cellOf (v .memory) e
-
-  agreed : Agree (ownedBy id) (cellOf (v .memory)) named noVariable (owned v id) (counted v) (find v name id) (index named (owned v id))
+  -- a process's own variable of a name is the table's first of that name and owner
+  pub variable-found : {C : Type 0} (d : Cell) (next : Cell → C) (none : C)
+      → foundIn (owned v id) d next none (index named (owned v id))
+      ≡ foundIn (counted v) noVariable (λ e. next (cellOf (v .memory) e)) none (find v name id)
   unfolding find owned
-  agreed = agree (ownedBy id) (cellOf (v .memory)) named noVariable (counted v)
+  variable-found d next none = found-kept (ownedBy id) (cellOf (v .memory)) named noVariable d next none (counted v)
 
-  pub find-own : (i : ℕ) → find v name id ≡ At i → Own (getD (v .entries) i noVariable)
-  find-own i e = go (index named (owned v id)) refl
-      (subst (λ (g : Found). Agree (ownedBy id) (cellOf (v .memory)) named noVariable (owned v id) (counted v) g (index named (owned v id)))
-      e agreed)
-    where
-      go : (h : Found) → index named (owned v id) ≡ h
-          → Agree (ownedBy id) (cellOf (v .memory)) named noVariable (owned v id) (counted v) (At i) h
-          → Own (getD (v .entries) i noVariable)
-      go (At k) q a = record {
-        place = k;
-        found = q;
-        cell = a
-            ∙ ap (cellOf (v .memory)) (getD-take (v .count) (v .entries) i noVariable (find-found v name id i e .0));
-      }
-      go Nowhere q a = absurd a
-
+  -- none in the table: none among its own
   pub find-own-none : find v name id ≡ Nowhere → index named (owned v id) ≡ Nowhere
-  find-own-none e = go (index named (owned v id))
-      (subst (λ (g : Found). Agree (ownedBy id) (cellOf (v .memory)) named noVariable (owned v id) (counted v) g (index named (owned v id)))
-      e agreed)
+  find-own-none h = go (index named (owned v id)) (variable-found noCell (λ c. false) true
+      ∙ ap (foundIn (counted v) noVariable (λ e. false) true) h)
     where
-      go : (h : Found) → Agree (ownedBy id) (cellOf (v .memory)) named noVariable (owned v id) (counted v) Nowhere h → h ≡ Nowhere
-      go (At k) a = absurd a
-      go Nowhere a = refl
+      noCell : Cell
+      noCell = record { name = 0; kind = 0; bytes = [] }
+
+      go : (f : Found) → foundIn (owned v id) noCell (λ c. false) true f ≡ true → f ≡ Nowhere
+      go (At k) e = absurd (true-not-false refl (sym e))
+      go Nowhere e = refl

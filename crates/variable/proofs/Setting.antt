@@ -115,16 +115,16 @@ module _ (v : Variables) (name id : ℕ) (x : Value) where
       go NoEntry h = refl
       go NoRun h = refl
 
-  -- "no entry" only with 25 variables left after freeing the old one
-  pub assigned-no-entry : assigned v name id x .placing ≡ NoEntry → 25 ≤ rest .count
+  -- "no entry" only with as many variables as there can be left after freeing the old one
+  pub assigned-no-entry : assigned v name id x .placing ≡ NoEntry → maxVariables ≤ rest .count
   assigned-no-entry e = place-no-entry rest (x .size) (sym assigned-placing ∙ e)
 
   -- "no run" only where no address fits among the variables left
-  pub assigned-no-run : assigned v name id x .placing ≡ NoRun → (a : ℕ) → fits (takenRuns rest) 0 256 (x .size) a ≡ false
+  pub assigned-no-run : assigned v name id x .placing ≡ NoRun → (a : ℕ) → fits (takenRuns rest) lowEnd highEnd (x .size) a ≡ false
   assigned-no-run e = place-no-run rest (x .size) (sym assigned-placing ∙ e)
 
   -- ---- kept in either case
-  module _ (shaped : Shaped v) (few : v .count ≤ 25) (sized : length (valueBytes x) ≡ x .size) where
+  module _ (shaped : Shaped v) (few : v .count ≤ maxVariables) (sized : length (valueBytes x) ≡ x .size) where
     left : Shaped rest
     left = freed-shaped v (isOf name id) few shaped
 
@@ -148,10 +148,10 @@ module _ (v : Variables) (name id : ℕ) (x : Value) where
       placed : placeFor rest (x .size) ≡ Address a
       placed = sym assigned-placing ∙ done
 
-      room : rest .count < 25
+      room : rest .count < maxVariables
       room = place-address rest (x .size) a placed .0
 
-      pub assigned-run : Fits (takenRuns rest) 0 256 (x .size) a
+      pub assigned-run : Fits (takenRuns rest) lowEnd highEnd (x .size) a
       assigned-run = place-address rest (x .size) a placed .1
 
       pub assigned-is : assigned v name id x .variables ≡ added rest new (valueBytes x)

@@ -1,7 +1,7 @@
 -- The counted entries: as a table of their places, and what a search among them found.
 use Prim.Native.Nat.{ℕ, zero, suc, _≤_, _<_}
-use mathlib.Core.Path.{_≡_, refl, sym, ap, subst, _∙_}
-use mathlib.Core.Bool.{true, not}
+use mathlib.Core.Path.{_≡_, refl, sym, ap, _∙_}
+use mathlib.Core.Bool.{Bool, true, not}
 use mathlib.Core.List.{List, [], _∷_, _++_, map}
 use native.Mathlib.Omega.{arith}
 use lib.Dec.{eqb}
@@ -11,8 +11,8 @@ use borrow.Author.Tests.{eqb-true}
 use Rattle.buffer.specs.Lists.{all, tab}
 use Rattle.buffer.specs.declared.Found.the-variants.{At, Nowhere}
 use Rattle.buffer.proofs.Bools.{and-left, and-right, not-is-true}
-use Rattle.buffer.proofs.Lists.{all-each}
-use Rattle.buffer.proofs.Tables.{index-at, index-none}
+use Rattle.buffer.proofs.Lists.{all-at, all-each}
+use Rattle.buffer.proofs.Tables.{First, index-at, index-none}
 use Rattle.variable.specs.Table.{counted, find, isOf, noVariable}
 use Rattle.variable.specs.declared.Variable.{Variable}
 use Rattle.variable.specs.declared.Variables.{Variables}
@@ -45,17 +45,33 @@ isOf-is name id e h =
     }
 
 module _ (v : Variables) (name id : ℕ) where
-  -- what is found is counted and has that name and owner
-  pub find-found : (i : ℕ) → find v name id ≡ At i → (i < v .count) × IsOf name id (getD (v .entries) i noVariable)
-  unfolding find
-  find-found i e =
-      let f = index-at (isOf name id) noVariable (counted v) i e in
-      let b = take-bound (v .count) (v .entries) in
-      let h : i < v .count = omega (arith, f .inside) in (
-        h,
-        isOf-is name id (getD (v .entries) i noVariable)
-            (subst (λ (d : Variable). isOf name id d ≡ true) (getD-take (v .count) (v .entries) i noVariable h) (f .holds)),
-      )
+  -- the entry at i is counted, and what holds of every counted entry holds of it
+  pub record Held (p : Variable → Bool) (i : ℕ) : Type 0 where
+    pub inside : i < v .count
+    pub same : getD (counted v) i noVariable ≡ getD (v .entries) i noVariable
+    pub holds : p (getD (v .entries) i noVariable) ≡ true
+
+  module _ (i : ℕ) (e : find v name id ≡ At i) where
+    first : First (isOf name id) noVariable (counted v) i
+    unfolding find
+    first = index-at (isOf name id) noVariable (counted v) i e
+
+    find-inside : i < v .count
+    find-inside = omega (arith, first .inside, take-bound (v .count) (v .entries))
+
+    same-entry : getD (counted v) i noVariable ≡ getD (v .entries) i noVariable
+    same-entry = getD-take (v .count) (v .entries) i noVariable find-inside
+
+    pub held-at : (p : Variable → Bool) → all p (counted v) ≡ true → Held p i
+    held-at p h = record {
+      inside = find-inside;
+      same = same-entry;
+      holds = ap p (sym same-entry) ∙ all-at p (counted v) i noVariable (first .inside) h;
+    }
+
+    -- what is found is counted and has that name and owner
+    pub find-found : (i < v .count) × IsOf name id (getD (v .entries) i noVariable)
+    find-found = (find-inside, isOf-is name id (getD (v .entries) i noVariable) (ap (isOf name id) (sym same-entry) ∙ first .holds))
 
   -- none found: none has them
   pub find-none : find v name id ≡ Nowhere → all (λ e. not (isOf name id e)) (counted v) ≡ true

@@ -1,5 +1,7 @@
 // What the program prints: texts, places, and the table with its memory.
 use libc::STDOUT_FILENO;
+use variable::MAX_VARIABLES;
+use variable::MEMORY_SIZE;
 use variable::Placing;
 use variable::Variable;
 use variable::Variables;
@@ -39,7 +41,7 @@ fn entry_line(e: Variable) {
 }
 
 // The first six entries, those behind the count too.
-fn entry_lines(entries: [Variable; 25]) {
+fn entry_lines(entries: [Variable; MAX_VARIABLES]) {
     let mut i: usize = 0;
     while i < 6 {
         entry_line(entries[i]);
@@ -48,7 +50,7 @@ fn entry_lines(entries: [Variable; 25]) {
 }
 
 // The first 16 bytes of memory.
-fn memory_line(memory: [u8; 256]) {
+fn memory_line(memory: [u8; MEMORY_SIZE]) {
     text(b"memory");
     let mut i: usize = 0;
     while i < 16 {

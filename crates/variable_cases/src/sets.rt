@@ -1,6 +1,9 @@
 // SETs of strings whose bytes are all alike, and freeing, from an empty memory on.
 use variable::Assigned;
+use variable::MAX_VARIABLES;
+use variable::MEMORY_SIZE;
 use variable::Placing;
+use variable::VALUE_SIZE;
 use variable::Value;
 use variable::Variable;
 use variable::Variables;
@@ -14,15 +17,15 @@ pub fn no_variables() -> Variables {
         owner: 0,
     };
     Variables {
-        memory: [0u8; 256],
-        entries: [none; 25],
+        memory: [0u8; MEMORY_SIZE],
+        entries: [none; MAX_VARIABLES],
         count: 0,
     }
 }
 
 // What a SET asks of its table and value is tested here, so that a case can be written without proof.
 fn assign(v: Variables, name: u8, owner: u16, size: u8, byte: u8) -> Assigned {
-    if 25 < v.count || size < 1 || 32 < size {
+    if MAX_VARIABLES < v.count as usize || size < 1 || VALUE_SIZE < size as usize {
         return Assigned {
             placing: Placing::NoRun,
             variables: v,
@@ -31,7 +34,7 @@ fn assign(v: Variables, name: u8, owner: u16, size: u8, byte: u8) -> Assigned {
     let value = Value {
         kind: 3,
         size: size,
-        bytes: [byte; 32],
+        bytes: [byte; VALUE_SIZE],
     };
     variable::assign::assign(v, name, owner, value)
 }
@@ -51,14 +54,14 @@ pub fn try_set(label: &[u8], v: Variables, name: u8, size: u8) {
 }
 
 pub fn freed(v: Variables, name: u8) -> Variables {
-    if 25 < v.count {
+    if MAX_VARIABLES < v.count as usize {
         return v;
     }
     variable::table::free_variable(v, name, 1)
 }
 
 pub fn ended(v: Variables, owner: u16) -> Variables {
-    if 25 < v.count {
+    if MAX_VARIABLES < v.count as usize {
         return v;
     }
     variable::table::free_all(v, owner)

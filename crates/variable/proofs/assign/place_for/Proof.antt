@@ -1,24 +1,29 @@
-use mathlib.Core.Path.{sym, ap, _∙_}
+-- No entry where all are used; otherwise what the search for a run finds.
+use mathlib.Core.Path.{_≡_, sym, ap, _∙_}
 use borrow.Author.Tests.{le-ltb, lt-ltb}
-use Rattle.variable.specs.Assign.{addressOr, entryLimit, placing}
+use Rattle.variable.specs.Assign.{addressOr, entryLimit, highEnd, lowEnd, placing}
+use lib.ListN.{take}
 use native.Mathlib.Omega.{arith}
 use borrow.Author.Needs.{needs}
 use Rattle.variable.proofs.assign.place_for.Statement.{statement}
 use Rattle.variable.proofs.assign.place_for.Tie as tie
+
+-- an entry is left: the answer is the search's
+searched : (c : tie.After-find-place) → let a = c .before .before .args in
+    placing (take (a .used) (a .runs)) lowEnd highEnd (a .used) entryLimit (a .n) ≡ addressOr (c .find-place .result)
+unfolding placing
+searched c = rw (lt-ltb (c .before .before .args .used) entryLimit (omega arith)) (ap addressOr (sym (c .find-place .ensures)))
 
 returns : tie.Need-returns
 unfolding placing
 returns c = rw (le-ltb (c .before .args .used) entryLimit (omega arith))
 
 returns-2 : tie.Need-returns-2
-unfolding placing
-returns-2 c = rw (lt-ltb (c .before .before .before .before .before .args .used) entryLimit (omega arith))
-    (ap addressOr (sym (c .before .a .given .1) ∙ c .before .before .before .find-place .ensures))
+returns-2 c = let known = c .before in
+    sym (searched (known .before .before) ∙ ap addressOr (known .a .given .1))
 
 returns-3 : tie.Need-returns-3
-unfolding placing
-returns-3 c = rw (lt-ltb (c .before .before .before .before .args .used) entryLimit (omega arith))
-    (ap addressOr (sym (c .enum-told .given .1) ∙ c .before .before .find-place .ensures))
+returns-3 c = sym (searched (c .before .before) ∙ ap addressOr (c .enum-told .given .1))
 
 pub place-for-spec : {M : Type 1} → statement M
 place-for-spec =

@@ -2,7 +2,7 @@
 use Prim.Native.Nat.{ℕ, _≤_, _-_}
 use mathlib.Core.Path.{_≡_, sym, ap, _∙_}
 use mathlib.Core.List.{List, map}
-use lib.ListN.{length, getD, set}
+use lib.ListN.{length, getD}
 use Rattle.buffer.specs.Lists.{tab}
 use Rattle.buffer.proofs.Lists.{map-tab}
 use Rattle.place.specs.Place.{filled}

@@ -1,3 +1,4 @@
+-- Apart, and of another name or owner.
 use mathlib.Core.Path.{_≡_, sym, ap, _∙_}
 use mathlib.Core.Bool.{not}
 use borrow.Author.Tests.{not-true, not-false}
@@ -9,10 +10,11 @@ use borrow.Author.Needs.{needs}
 use Rattle.variable.proofs.good.is_beside.Statement.{statement}
 use Rattle.variable.proofs.good.is_beside.Tie as tie
 
-tested : (c : tie.After-is-apart)
-    → c .is-apart .result ≡ apart (runOf (c .before .before .before .before .args .d)) (runOf (c .before .before .before .before .args .e))
-tested c = c .is-apart .ensures
-    ∙ ap (λ (r : Run). apart (runOf (c .before .before .before .before .args .d)) r) (c .before .run-of .ensures)
+abbrev start : tie.After-run-of → tie.Start
+start c = c .before .before .before
+
+tested : (c : tie.After-is-apart) → let a = start (c .before) .args in c .is-apart .result ≡ apart (runOf (a .d)) (runOf (a .e))
+tested c = c .is-apart .ensures ∙ ap (λ (r : Run). apart (runOf (start (c .before) .args .d)) r) (c .before .run-of .ensures)
 
 returns : tie.Need-returns
 unfolding beside

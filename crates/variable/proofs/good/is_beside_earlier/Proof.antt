@@ -7,6 +7,7 @@ use lib.ListN.{length, getD}
 use Rattle.buffer.specs.Lists.{all, tab}
 use Rattle.buffer.proofs.Lists.{all-tab-next, all-tab-stop}
 use Rattle.variable.specs.Good.{beside}
+use Rattle.variable.specs.Limits.{maxVariables}
 use Rattle.variable.specs.Table.{noVariable}
 use Rattle.variable.proofs.Views.{take-tab}
 use native.Mathlib.Omega.{arith}
@@ -20,8 +21,11 @@ Inv-loop i entries e j₀ j = (j ≤ i) × (all (λ d. beside d (getD entries i 
 abbrev μ-loop : tie.MeasureT-loop
 μ-loop i entries e j₀ j = i - j
 
-sizes : (s : tie.Start Inv-loop μ-loop) → length (s .args .t1) ≡ 25
+sizes : (s : tie.Start Inv-loop μ-loop) → length (s .args .t1) ≡ maxVariables
 sizes s = search needs
+
+abbrev turn : tie.After-is-beside Inv-loop μ-loop → tie.At-loop Inv-loop μ-loop
+turn c = c .before .before .before
 
 loop-holds : tie.Need-loop-holds Inv-loop μ-loop
 unfolding all tab
@@ -29,7 +33,7 @@ loop-holds c = (omega arith, refl)
 
 returns : tie.Need-returns Inv-loop μ-loop
 returns c =
-    let l = c .before .before .before .before in
+    let l = turn (c .before) in
     let s = l .before .before in
     let a = s .args in
     let n = sizes s in
@@ -39,7 +43,7 @@ returns c =
 
 loop-again : tie.Need-loop-again Inv-loop μ-loop
 loop-again c =
-    let l = c .before .before .before .before in
+    let l = turn (c .before) in
     let a = l .before .before .args in (
       omega arith,
       all-tab-next (λ k. getD (a .t1) k noVariable) (λ d. beside d (getD (a .t1) (a .i) noVariable)) (l .loop .j)

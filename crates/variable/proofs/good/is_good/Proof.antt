@@ -1,3 +1,4 @@
+-- The count, then the table.
 use borrow.Author.Tests.{le-leb, lt-leb}
 use Rattle.variable.specs.Good.{goodVariables}
 use borrow.Author.Needs.{needs}

@@ -1,3 +1,4 @@
+-- By the type.
 use mathlib.Core.Path.{sym}
 use mathlib.Core.Bool.{or-false}
 use lib.Dec.{eqb}

@@ -7,6 +7,7 @@ use lib.ListN.{length, getD}
 use Rattle.buffer.specs.Lists.{all, pairs, tab}
 use Rattle.buffer.proofs.Lists.{all-tab-next, all-tab-stop, pairs-tab-next, pairs-tab-stop}
 use Rattle.variable.specs.Good.{beside, goodVariable}
+use Rattle.variable.specs.Limits.{maxVariables}
 use Rattle.variable.specs.Table.{noVariable}
 use Rattle.variable.proofs.Views.{take-tab}
 use native.Mathlib.Omega.{arith}
@@ -21,8 +22,14 @@ Inv-loop live count entries i₀ i = (i ≤ count) × (all (goodVariable live) (
 abbrev μ-loop : tie.MeasureT-loop
 μ-loop live count entries i₀ i = count - i
 
-sizes : (s : tie.Start Inv-loop μ-loop) → length (s .args .t2) ≡ 25
+sizes : (s : tie.Start Inv-loop μ-loop) → length (s .args .t2) ≡ maxVariables
 sizes s = search needs
+
+abbrev turn : tie.After-is-good-variable Inv-loop μ-loop → tie.At-loop Inv-loop μ-loop
+turn c = c .before .before .before
+
+abbrev judged : tie.After-is-beside-earlier Inv-loop μ-loop → tie.After-is-good-variable Inv-loop μ-loop
+judged c = c .before .before
 
 loop-holds : tie.Need-loop-holds Inv-loop μ-loop
 unfolding all pairs tab
@@ -30,7 +37,7 @@ loop-holds c = (omega arith, refl, refl)
 
 returns : tie.Need-returns Inv-loop μ-loop
 returns c =
-    let l = c .before .before .before .before in
+    let l = turn (c .before) in
     let a = l .before .before .args in
     let n = sizes (l .before .before) in
     let e = sym (c .before .is-good-variable .ensures) ∙ not-true _ (c .if1 .taken) in
@@ -41,7 +48,7 @@ returns c =
 
 returns-2 : tie.Need-returns-2 Inv-loop μ-loop
 returns-2 c =
-    let l = c .before .before .before .before .before .before in
+    let l = turn (judged (c .before)) in
     let a = l .before .before .args in
     let n = sizes (l .before .before) in
     let e = rw (take-tab (a .t2) noVariable (l .loop .i) (omega arith)) at (sym (c .before .is-beside-earlier .ensures)
@@ -54,14 +61,14 @@ returns-2 c =
 
 loop-again : tie.Need-loop-again Inv-loop μ-loop
 loop-again c =
-    let l = c .before .before .before .before .before .before in
+    let l = turn (judged (c .before)) in
     let a = l .before .before .args in
     let n = sizes (l .before .before) in
     let e = rw (take-tab (a .t2) noVariable (l .loop .i) (omega arith)) at (sym (c .before .is-beside-earlier .ensures)
     ∙ not-false _ (c .if2 .left)) in (
       omega arith,
       all-tab-next (λ k. getD (a .t2) k noVariable) (goodVariable (a .live .now)) (l .loop .i) (l .loop .inv .1)
-          (sym (c .before .before .before .is-good-variable .ensures) ∙ not-false _ (c .before .before .if1 .left)),
+          (sym (judged (c .before) .is-good-variable .ensures) ∙ not-false _ (c .before .before .if1 .left)),
       pairs-tab-next (λ k. getD (a .t2) k noVariable) beside (l .loop .i) (l .loop .inv .2) e,
     )
 

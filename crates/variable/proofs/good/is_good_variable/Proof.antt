@@ -1,3 +1,4 @@
+-- Size, place and owner are tested one after the other.
 use mathlib.Core.Path.{_≡_, sym, _∙_}
 use mathlib.Core.Bool.{true}
 use borrow.Author.Tests.{le-leb, lt-leb, not-true, not-false}
@@ -6,7 +7,11 @@ use borrow.Author.Needs.{needs}
 use Rattle.variable.proofs.good.is_good_variable.Statement.{statement}
 use Rattle.variable.proofs.good.is_good_variable.Tie as tie
 
-sized : (c : tie.Else1) → goodSize (c .before .before .before .args .e .kind) (c .before .before .before .args .e .size) ≡ true
+-- the size was good
+abbrev passed : tie.After-struct-known2 → tie.Else1
+passed c = c .before .before
+
+sized : (c : tie.Else1) → let e = c .before .before .before .args .e in goodSize (e .kind) (e .size) ≡ true
 sized c = sym (c .before .is-good-size .ensures) ∙ not-false _ (c .if1 .left)
 
 returns : tie.Need-returns
@@ -15,11 +20,11 @@ returns c = rw (sym (c .before .is-good-size .ensures) ∙ not-true _ (c .if1 .t
 
 returns-2 : tie.Need-returns-2
 unfolding goodVariable
-returns-2 c = rw (sized (c .before .before .before), lt-leb _ _ (c .if2 .taken))
+returns-2 c = rw (sized (passed (c .before)), lt-leb _ _ (c .if2 .taken))
 
 returns-3 : tie.Need-returns-3
 unfolding goodVariable
-returns-3 c = rw (sized (c .before .before .before .before), le-leb _ _ (c .before .if2 .left)) (c .is-live .ensures)
+returns-3 c = rw (sized (passed (c .before .before)), le-leb _ _ (c .before .if2 .left)) (c .is-live .ensures)
 
 pub is-good-variable-spec : {M : Type 1} → statement M
 is-good-variable-spec =

@@ -4,6 +4,7 @@ use mathlib.Core.Path.{_≡_, sym, ap, _∙_}
 use mathlib.Core.Bool.{not}
 use borrow.Author.Tests.{not-true, not-false}
 use lib.ListN.{length}
+use Rattle.variable.specs.Limits.{maxVariables}
 use Rattle.variable.specs.Table.{freed, noVariable}
 use Rattle.variable.proofs.Closing.{Closed, closed-gone, closed-more, closed-none, stays}
 use native.Mathlib.Omega.{arith}
@@ -18,15 +19,19 @@ Inv-loop memory count every name owner old end entries₀ kept₀ i₀ entries k
 abbrev μ-loop : tie.MeasureT-loop
 μ-loop memory count every name owner old end entries₀ kept₀ i₀ entries kept i = end - i
 
-sizes : (s : tie.Start Inv-loop μ-loop) → length (s .args .t2) ≡ 25
+sizes : (s : tie.Start Inv-loop μ-loop) → length (s .args .t2) ≡ maxVariables
 sizes s = search needs
+
+-- the turn of the loop that asked about an entry
+abbrev turn : tie.After-is-gone Inv-loop μ-loop → tie.At-loop Inv-loop μ-loop
+turn c = let blanked = c .before in blanked .before .before .before
 
 loop-holds : tie.Need-loop-holds Inv-loop μ-loop
 loop-holds c = (omega arith, closed-none (stays (c .args .every) (c .args .name) (c .args .owner)) noVariable (c .args .t2))
 
 loop-again : tie.Need-loop-again Inv-loop μ-loop
 loop-again c =
-    let l = c .before .before .before .before .before in
+    let l = turn (c .before) in
     let a = l .before .args in
     let n = sizes (l .before) in
     let z = c .before .before .no-variable in (
@@ -37,7 +42,7 @@ loop-again c =
 
 loop-again-2 : tie.Need-loop-again-2 Inv-loop μ-loop
 loop-again-2 c =
-    let l = c .before .before .before .before .before in
+    let l = turn (c .before) in
     let a = l .before .args in
     let n = sizes (l .before) in
     let z = c .before .before .no-variable in (

@@ -5,6 +5,7 @@ use mathlib.Core.Bool.{false}
 use borrow.Author.Count.{below-more}
 use lib.ListN.{length, getD}
 use Rattle.buffer.proofs.Tables.{index-tab-is, index-tab-miss}
+use Rattle.variable.specs.Limits.{maxVariables}
 use Rattle.variable.specs.Table.{isOf, noVariable}
 use Rattle.variable.proofs.Views.{take-tab}
 use native.Mathlib.Omega.{arith}
@@ -18,15 +19,19 @@ Inv-loop count name owner entries i₀ i = (i ≤ count) × ((k : ℕ) → k < i
 abbrev μ-loop : tie.MeasureT-loop
 μ-loop count name owner entries i₀ i = count - i
 
-sizes : (s : tie.Start Inv-loop μ-loop) → length (s .args .t1) ≡ 25
+sizes : (s : tie.Start Inv-loop μ-loop) → length (s .args .t1) ≡ maxVariables
 sizes s = search needs
+
+-- the turn of the loop that asked about an entry
+abbrev turn : tie.After-is-of Inv-loop μ-loop → tie.At-loop Inv-loop μ-loop
+turn c = c .before .before .before
 
 loop-holds : tie.Need-loop-holds Inv-loop μ-loop
 loop-holds c = (omega arith, λ k h. absurd (omega arith))
 
 returns : tie.Need-returns Inv-loop μ-loop
 returns c =
-    let l = c .before .before .before .before in
+    let l = turn (c .before) in
     let a = l .before .args in
     let n = sizes (l .before) in
     rw (take-tab (a .t1) noVariable (a .count) (omega arith))
@@ -34,11 +39,7 @@ returns c =
     (sym (c .before .is-of .ensures) ∙ c .if1 .taken) (l .loop .inv .1)))
 
 loop-again : tie.Need-loop-again Inv-loop μ-loop
-loop-again c = (
-  omega arith,
-  below-more _ _ (c .before .before .before .before .loop .inv .1) (sym (c .before .is-of .ensures)
-      ∙ c .if1 .left),
-)
+loop-again c = (omega arith, below-more _ _ (turn (c .before) .loop .inv .1) (sym (c .before .is-of .ensures) ∙ c .if1 .left))
 
 returns-2 : tie.Need-returns-2 Inv-loop μ-loop
 returns-2 c =

@@ -1,3 +1,4 @@
+-- The lookup among the counted entries is the definition's.
 use Rattle.variable.specs.Table.{find}
 use borrow.Author.Needs.{needs}
 use Rattle.variable.proofs.table.find_variable.Statement.{statement}

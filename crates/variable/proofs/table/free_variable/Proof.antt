@@ -1,11 +1,6 @@
+-- Closing up without the one variable.
 use Rattle.variable.proofs.table.free_variable.Statement.{statement}
 use Rattle.variable.proofs.table.free_variable.Tie as tie
 
-close-up-requires : tie.Need-close-up-requires
-close-up-requires c κs = c .before .before .pre
-
-returns : tie.Need-returns
-returns c = c .close-up .ensures
-
 pub free-variable-spec : {M : Type 1} → statement M
-free-variable-spec = tie.close (tie.spec close-up-requires returns)
+free-variable-spec = tie.close (tie.spec (λ c κs. c .before .before .pre) (λ c. c .close-up .ensures))

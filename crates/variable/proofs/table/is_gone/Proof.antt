@@ -1,3 +1,4 @@
+-- Every variable of the owner, or the one of that name.
 use borrow.Author.Needs.{needs}
 use Rattle.variable.proofs.table.is_gone.Statement.{statement}
 use Rattle.variable.proofs.table.is_gone.Tie as tie

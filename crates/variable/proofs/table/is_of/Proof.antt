@@ -1,3 +1,4 @@
+-- Name and owner are compared.
 use borrow.Author.Tests.{eq-eqb, ne-eqb}
 use Rattle.variable.proofs.table.is_of.Statement.{statement}
 use Rattle.variable.proofs.table.is_of.Tie as tie

@@ -1,13 +1,12 @@
 -- The variable's bytes are copied to the front of an array of zeros: they and the zeros behind them are the value.
-use Prim.Native.Nat.{ℕ, _-_}
-use mathlib.Core.Path.{_≡_, sym, ap₂, _∙_}
-use mathlib.Core.List.{List, _++_}
-use lib.ListN.{length, take, drop, replicate}
+use Prim.Native.Nat.{ℕ}
+use mathlib.Core.Path.{_≡_, sym}
+use mathlib.Core.List.{List}
+use lib.ListN.{length, take, replicate}
 use lib.Seq.{length-take-le}
 use Rattle.buffer.specs.Buffer.{part}
 use Rattle.buffer.proofs.Lists.{drop-replicate}
 use Rattle.buffer.proofs.Parts.{part-length}
-use Rattle.variable.specs.Assign.{valueOf}
 use Rattle.variable.specs.Limits.{memorySize, valueSize}
 use native.Mathlib.Omega.{arith}
 use borrow.Author.Needs.{needs}
@@ -20,8 +19,9 @@ sizes s = search needs
 abbrev zeros : List ℕ
 zeros = replicate valueSize 0
 
+-- before the bytes were lent
 abbrev start : tie.After-bytes → tie.Start
-start c = c .before .before .before .before
+start c = let sized = c .before .before in sized .before .before
 
 lent : (s : tie.Start) → length (take (s .args .entry .size) zeros) ≡ s .args .entry .size
 lent s = length-take-le (s .args .entry .size) zeros (omega arith)
