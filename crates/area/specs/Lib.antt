@@ -1,0 +1,4 @@
+-- the tests of both buffers
+pub mod Tests
+-- parts of the state and their bytes
+pub mod Parts
