@@ -56,8 +56,8 @@ seenAlone stopped = refused
 abbrev pub alone : List ℕ → ℕ → Result
 alone program n = seenAlone (turns (λ s. responded (single program s (tick 0))) fresh n)
 
--- ---- of the kernel: started in slot 0, on a list of as many zeros as stand before the data and then the program. It is no good disc; `turned`
--- reads only the program's part of it.
+-- ---- of the kernel: started in slot 0, on a list of as many zeros as stand before the data and then the program. It
+-- is no good disc; `turned` reads only the program's part of it.
 abbrev pub loaded : List ℕ → Turned
 loaded program =
     let file : Entry = record { name = padded (110 ∷ []); start = dataStart; len = length program } in

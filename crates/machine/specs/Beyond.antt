@@ -96,7 +96,8 @@ module _ (k : Kernel) (slot : ℕ) (disc : List ℕ) where
 
   -- fault 4 comes after 11 and 12
   abbrev pub received : List ℕ → ℕ → Local → Answered
-  received stack n l = unlessBreaks (leb (length stack) stackSize) 4 (continues (pushed l stack) (advanced ownFile n) disc)
+  received stack n l =
+      unlessBreaks (leb (length stack) stackSize) 4 (continues (pushed l stack) (advanced ownFile n) disc)
 
   abbrev pub readNumberOf : ℕ → Local → Answered
   readNumberOf kind l =

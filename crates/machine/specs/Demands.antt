@@ -13,7 +13,8 @@ use Rattle.number.specs.declared.Number.{Number}
 use Rattle.store.specs.Directory.{fileCount, goodDisc, isDiscLength, taken, lookup}
 use Rattle.variable.specs.Table.{freed, isOf}
 use Rattle.buffer.specs.declared.Found.the-variants.{Nowhere}
-use Rattle.machine.specs.Answer.{Answer, Buffers, Call, turn, round, other, store, answer, bootAnswer, formatAnswer}
+use Rattle.machine.specs.Answer.{Answer, Buffers, Call, turn, round, other, store, answer, bootAnswer}
+use Rattle.machine.specs.Answer.{formatAnswer}
 use Rattle.machine.specs.Answer.{refused}
 use Rattle.machine.specs.Area.{AreBytes, Whole, isAreaLength, kernelOf}
 use Rattle.machine.specs.Beyond.{newFileSize}
@@ -124,7 +125,8 @@ GoodKept =
 -- ---- rounds
 -- Document 01, Round: "needs 320 bytes"; lent them on good buffers it is done
 unfoldable pub RoundNeverRefused : Type 0
-RoundNeverRefused = (b : Buffers) (clock : ℕ) → Passes (b .disc) (b .area) → leb roundRoom (length (b .out)) ≡ true → (n : ℕ)
+RoundNeverRefused = (b : Buffers) (clock : ℕ) → Passes (b .disc) (b .area) → leb roundRoom (length (b .out)) ≡ true
+    → (n : ℕ)
     × (answer (round clock) b .number ≡ pos n)
 
 -- Document 01: "a turn for slots 0 to 9, each if running when reached, under one clock reading, outputs joined". 1,056

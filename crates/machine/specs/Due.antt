@@ -51,14 +51,16 @@ StoreDue =
     → goodName name ≡ true → goodSize (b .disc) (length bytes) ≡ true → fileCount (b .disc) < maxFiles
     → lookup (b .disc) name ≡ Nowhere
     → fits (taken (b .disc)) dataStart (length (b .disc)) (length bytes) start ≡ true
-    → (answer (other (store name bytes)) b .number ≡ pos 0) × Holds (answer (other (store name bytes)) b .disc) name bytes
+    → (answer (other (store name bytes)) b .number ≡ pos 0)
+    × Holds (answer (other (store name bytes)) b .disc) name bytes
 
 -- Document 01, retrieve: "Returns the length, its bytes written."
 abbrev pub RetrieveDue : Type 0
 RetrieveDue =
     (b : Buffers) (name : List ℕ) (i : ℕ) → Usable (b .disc) → lookup (b .disc) name ≡ At i
     → entryAt (b .disc) i .len ≤ length (b .out)
-    → Writes (entryAt (b .disc) i .len) (contents (b .disc) (runOf (entryAt (b .disc) i))) b (answer (other (retrieve name)) b)
+    → Writes (entryAt (b .disc) i .len) (contents (b .disc) (runOf (entryAt (b .disc) i))) b
+    (answer (other (retrieve name)) b)
 
 -- files and list: an output that holds their text
 abbrev pub FilesDue : Type 0

@@ -56,7 +56,8 @@ land prog (At pc) stack loopstart out =
     unlessFaults (leb pc (length prog)) 3 (goes (record { stack = stack; pc = pc; loopstart = loopstart }) out)
 
 unfoldable pub settle : List ℕ → Found → List ℕ → ℕ → List ℕ → Effect
-settle prog target stack loopstart out = unlessFaults (leb (length stack) stackSize) 4 (land prog target stack loopstart out)
+settle prog target stack loopstart out =
+    unlessFaults (leb (length stack) stackSize) 4 (land prog target stack loopstart out)
 
 -- ---- popping
 abbrev pub withPopped : Popped → (Item → List ℕ → Effect) → Effect

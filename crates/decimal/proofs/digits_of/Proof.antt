@@ -47,7 +47,8 @@ loop-again c =
 returns : tie.Need-returns Inv-loop μ-loop
 returns c =
     let l = c .before .loop in
-    let digits : decimal (c .before .before .before .args .n) ≡ drop (l .start) (l .bytes) = rw (l .inv .4, lt-leb _ _ (c .loop-test .left)) in
+    let digits : decimal (c .before .before .before .args .n) ≡ drop (l .start) (l .bytes) =
+    rw (l .inv .4, lt-leb _ _ (c .loop-test .left)) in
     (sym (as-digits _ (l .bytes) (l .start) (l .inv .1) (omega arith) (l .inv .3) digits), omega arith)
 
 pub digits-of-spec : {M : Type 1} → statement M

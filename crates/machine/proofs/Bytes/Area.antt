@@ -13,7 +13,8 @@ use Rattle.buffer.proofs.Parts.{part-length, part-of-append-left, part-split}
 use Rattle.variable.specs.Table.{noVariable}
 use Rattle.variable.specs.Limits.{maxVariables, memorySize}
 use Rattle.machine.specs.Area.{AreBytes, kernelBytes, kernelOf, processBytes, processOf, variableBytes, variableOf, variablesOf}
-use Rattle.machine.specs.Limits.{areaLength, countAt, entriesAt, entrySize, nextAt, recordSize, recordsAt, slotCount, zerosAt, zerosSize}
+use Rattle.machine.specs.Limits.{areaLength, countAt, entriesAt, entrySize, nextAt, recordSize, recordsAt, slotCount, zerosAt}
+use Rattle.machine.specs.Limits.{zerosSize}
 use Rattle.machine.specs.State.{noProcess}
 use Rattle.machine.specs.declared.Kernel.{Kernel}
 use Rattle.machine.specs.declared.Process.{Process}
@@ -28,14 +29,16 @@ module _ (area : List ℕ) (bytes : AreBytes area) (size : length area ≡ areaL
   unfolding kernelOf
   entries =
       table-encode-decode variableBytes variableOf entrySize area entriesAt maxVariables
-      (λ i h. variable-encode-decode (part area (entriesAt + i * entrySize) entrySize) (part-bytes area (entriesAt + i * entrySize) entrySize (omega arith) bytes)
+      (λ i h. variable-encode-decode (part area (entriesAt + i * entrySize) entrySize)
+      (part-bytes area (entriesAt + i * entrySize) entrySize (omega arith) bytes)
       (part-length area (entriesAt + i * entrySize) entrySize (omega arith)))
 
   processes : flat processBytes (kernelOf area .processes) ≡ part area recordsAt (slotCount * recordSize)
   unfolding kernelOf
   processes =
       table-encode-decode processBytes processOf recordSize area recordsAt slotCount
-      (λ i h. process-encode-decode (part area (recordsAt + i * recordSize) recordSize) (part-bytes area (recordsAt + i * recordSize) recordSize (omega arith) bytes)
+      (λ i h. process-encode-decode (part area (recordsAt + i * recordSize) recordSize)
+      (part-bytes area (recordsAt + i * recordSize) recordSize (omega arith) bytes)
       (part-length area (recordsAt + i * recordSize) recordSize (omega arith)))
 
   count : (getD area countAt 0 ∷ []) ≡ part area countAt 1
@@ -82,7 +85,8 @@ module _ (k : Kernel) (sized : Sized k) where
   entries-length : length (flat variableBytes (k .variables .entries)) ≡ 150
   entries-length =
       let n : length (k .variables .entries) ≡ maxVariables = sized .variables .entries in
-      flat-length variableBytes variableOf entrySize (k .variables .entries) noVariable (λ i h. variable-encoded i (omega arith)) ∙ omega arith
+      flat-length variableBytes variableOf entrySize (k .variables .entries) noVariable (λ i h. variable-encoded i (omega arith))
+      ∙ omega arith
 
   processes-length : length (flat processBytes (k .processes)) ≡ 640
   processes-length =
@@ -117,7 +121,8 @@ module _ (k : Kernel) (sized : Sized k) where
 
   entries-back : tab (λ i. variableOf (part (kernelBytes k) (entriesAt + i * entrySize) entrySize)) maxVariables ≡ k .variables .entries
   entries-back =
-      simp parted (table-decode-encode variableBytes variableOf entrySize (k .variables .memory) (k .variables .entries) noVariable (tail k) entriesAt maxVariables
+      simp parted (table-decode-encode variableBytes variableOf entrySize (k .variables .memory) (k .variables .entries) noVariable
+      (tail k) entriesAt maxVariables
       (sized .variables .memory) (sized .variables .entries) variable-encoded)
 
   next-back : wordAt (kernelBytes k) nextAt ≡ k .next

@@ -82,14 +82,16 @@ module _ (p : Process) (sized : SizedProcess p) where
   byte : (i : ℕ) → getD (processBytes p) (nameSize + i) 0 ≡ getD (behindName p) i 0
   byte i = rw (append-assoc (p .name) (registerBytes p) (p .stack), ← sized .name) (getD-append-add (p .name) (behindName p) i 0)
 
-  word : (i w : ℕ) → getD (behindName p) i 0 ≡ w % 256 → getD (behindName p) (i + 1) 0 ≡ w / 256 → wordAt (processBytes p) (nameSize + i) ≡ w
+  word : (i w : ℕ) → getD (behindName p) i 0 ≡ w % 256 → getD (behindName p) (i + 1) 0 ≡ w / 256
+      → wordAt (processBytes p) (nameSize + i) ≡ w
   word i w a b = rw (byte i, add-assoc, byte (i + 1), a, b) (word-split w)
 
   name : take nameSize (processBytes p) ≡ p .name
   name = rw (append-assoc (p .name) (registerBytes p) (p .stack)) (take-at (p .name) (behindName p) nameSize (sized .name))
 
   stack : part (processBytes p) stackAt stackSize ≡ p .stack
-  stack = rw (drop-at (p .name ++ registerBytes p) (p .stack) stackAt (simp length-append (omega arith))) (take-all stackSize (p .stack) (omega arith))
+  stack = rw (drop-at (p .name ++ registerBytes p) (p .stack) stackAt (simp length-append (omega arith)))
+      (take-all stackSize (p .stack) (omega arith))
 
   pub process-decode-encode : processOf (processBytes p) ≡ p
   process-decode-encode = λ t. record {

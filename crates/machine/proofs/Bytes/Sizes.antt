@@ -47,7 +47,8 @@ decoded-sized area h =
       zeros = part-length area zerosAt zerosSize (omega arith);
       processes = simp tab-length;
       each = λ i m. rw (tab-at recordAt slotCount i noProcess m)
-          (decoded-process-sized (part area (recordsAt + i * recordSize) recordSize) (part-length area (recordsAt + i * recordSize) recordSize (omega arith)));
+          (decoded-process-sized (part area (recordsAt + i * recordSize) recordSize)
+          (part-length area (recordsAt + i * recordSize) recordSize (omega arith)));
     }
   where
     recordAt : ℕ → Process

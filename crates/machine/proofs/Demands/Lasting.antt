@@ -18,7 +18,8 @@ use Rattle.store.specs.Directory.{lookup}
 use Rattle.store.specs.File.{admission}
 use Rattle.store.specs.declared.Admission.{Admission}
 use Rattle.store.specs.declared.Admission.the-variants.{Start, Denied}
-use Rattle.machine.specs.Beyond.{advanced, Answered, answered, breaks, carriesOn, continues, created, createdAt, forked, inside, newFileSize}
+use Rattle.machine.specs.Beyond.{advanced, Answered, answered, breaks, carriesOn, continues, created, createdAt, forked, inside}
+use Rattle.machine.specs.Beyond.{newFileSize}
 use Rattle.machine.specs.Beyond.{isAwaited, opened, openedAt, pushId, pushed, received, unlessBreaks, withOpenFile}
 use Rattle.machine.specs.Effect.{Request, opens, closes, writes, reads, readsString, forks, awaits}
 use Rattle.machine.specs.Limits.{stackSize}

@@ -185,7 +185,8 @@ module _ (b : Buffers) where
   other-lengths files = (refl, refl, files-out)
   other-lengths freeSpace = (refl, refl, refl)
   other-lengths list =
-      both _ λ p. tried Same b (leb (length (listText k)) (length (b .out))) 4 _ (same 4) λ fit. (refl, refl, wrote (listText k) (leb-true _ _ fit))
+      both _ λ p. tried Same b (leb (length (listText k)) (length (b .out))) 4 _ (same 4) λ fit.
+      (refl, refl, wrote (listText k) (leb-true _ _ fit))
 
   pub lengths-kept : (c : Call) → Same (answer c b)
   unfolding answer k
@@ -196,12 +197,14 @@ module _ (b : Buffers) where
       let runs : isRunning (processAt k slot) ≡ true = and-right (ltb slot slotCount) _ may in
       let short = turn-short k slot clock (b .disc) (good p) runs in
       done-same p _ _ (turned k slot clock (b .disc) .out) (turn-good k slot clock (b .disc) (good p) runs)
-      (change-length (good p) (turn-is-change k slot clock (b .disc) (good p) runs)) (omega (arith, leb-true turnRoom (length (b .out)) fit))
+      (change-length (good p) (turn-is-change k slot clock (b .disc) (good p) runs))
+      (omega (arith, leb-true turnRoom (length (b .out)) fit))
   lengths-kept (round clock) =
       both _ λ p.
       tried Same b (leb roundRoom (length (b .out))) 4 _ (same 4) λ fit.
       let short : length (turnsOf slots k clock (b .disc) .out) ≤ slotCount * turnRoom = turns-short slots k clock (b .disc) (good p) in
-      done-same p _ _ (turnsOf slots k clock (b .disc) .out) (turns-good slots k clock (b .disc) (good p)) (turns-length slots k clock (b .disc) (good p))
+      done-same p _ _ (turnsOf slots k clock (b .disc) .out) (turns-good slots k clock (b .disc) (good p))
+      (turns-length slots k clock (b .disc) (good p))
       (omega (arith, leb-true roundRoom (length (b .out)) fit))
   lengths-kept (command c id) = both _ λ p. command-same p c id (commanded c id k) refl
   lengths-kept (run name) = both _ λ p. run-same p name (starting k (b .disc) name) refl

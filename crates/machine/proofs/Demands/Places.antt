@@ -23,7 +23,8 @@ use Rattle.store.specs.Answer.{Updated, storeAnswer}
 use Rattle.store.specs.Directory.{fileCount, goodDisc, isDiscLength, taken, lookup}
 use Rattle.store.proofs.Checks.{by-checks}
 use Rattle.store.proofs.Calls.{store-admission, store-refused-full, store-refused-no-run}
-use Rattle.variable.specs.Assign.{addressOr, assigned, assignAt, entryLimit, highEnd, ifEntry, lowEnd, placeFor, placing, placingFault, valueOf}
+use Rattle.variable.specs.Assign.{addressOr, assigned, assignAt, entryLimit, highEnd, ifEntry, lowEnd, placeFor, placing, placingFault}
+use Rattle.variable.specs.Assign.{valueOf}
 use Rattle.variable.specs.Assign.{takenRuns}
 use Rattle.variable.specs.Table.{freed, isOf}
 use Rattle.variable.specs.declared.Assigned.{Assigned}
@@ -57,7 +58,8 @@ module _ (b : Buffers) (name bytes : List ℕ) where
       (ap (λ (u : Updated). u .number) (store-admission (b .disc) name bytes l good) ∙ h))
 
   -- Document 01: "9 no free run long enough"
-  pub store-no-run : answer (other (store name bytes)) b .number ≡ negℤ (pos 9) → NoneFits (taken (b .disc)) dataStart (length (b .disc)) (length bytes)
+  pub store-no-run : answer (other (store name bytes)) b .number ≡ negℤ (pos 9)
+      → NoneFits (taken (b .disc)) dataStart (length (b .disc)) (length bytes)
   unfolding answer otherAnswer
   store-no-run h = store-refused-no-run (b .disc) name bytes h
 

@@ -61,7 +61,8 @@ written c b false n after h = declines 4 h refl
 store-outcome : (b : Buffers) (name bytes : List ℕ) → Outcome (other (store name bytes)) b (answer (other (store name bytes)) b)
 unfolding answer otherAnswer any
 store-outcome b name bytes =
-    store-cases (b .disc) name bytes (λ u. Outcome (other (store name bytes)) b (onDisc u b)) (λ r d. declines (refusalNumber r) (named r d) refl)
+    store-cases (b .disc) name bytes (λ u. Outcome (other (store name bytes)) b (onDisc u b))
+    (λ r d. declines (refusalNumber r) (named r d) refl)
     (λ s l g a. succeeds 0 refl)
   where
     named : (r : Refusal) → Denial (b .disc) name (length bytes) r → Names (other (store name bytes)) (refusalNumber r)
@@ -85,7 +86,8 @@ retrieve-outcome b name =
     found Nowhere = declines 10 refl refl
     found (At i) =
         let e = entryAt (b .disc) i in
-        written (other (retrieve name)) b (leb (e .len) (length (b .out))) (e .len) (overwrite (b .out) 0 (contents (b .disc) (runOf e))) refl
+        written (other (retrieve name)) b (leb (e .len) (length (b .out))) (e .len)
+        (overwrite (b .out) 0 (contents (b .disc) (runOf e))) refl
 
 files-outcome : (b : Buffers) → Outcome (other files) b (answer (other files) b)
 unfolding answer otherAnswer any filesAnswer
@@ -150,7 +152,8 @@ list-outcome : (b : Buffers) → Outcome (other list) b (answer (other list) b)
 unfolding answer otherAnswer any
 list-outcome b =
     let text : List ℕ = listText (kernelOf (b .area)) in
-    on-good (other list) b _ refl refl refl (test (other list) b (leb (length text) (length (b .out))) 4 _ refl (succeeds (length text) refl))
+    on-good (other list) b _ refl refl refl
+    (test (other list) b (leb (length text) (length (b .out))) 4 _ refl (succeeds (length text) refl))
 
 turn-outcome : (b : Buffers) (slot clock : ℕ) → Outcome (turn slot clock) b (answer (turn slot clock) b)
 unfolding answer any

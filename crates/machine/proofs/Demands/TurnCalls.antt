@@ -74,7 +74,8 @@ pub turn-passed : (b : Buffers) (slot clock n : ℕ) → answer (turn slot clock
 unfolding answer
 turn-passed b slot clock n =
     go (isDiscLength (length (b .disc)) && isAreaLength (length (b .area))) refl (goodDisc (b .disc)) refl
-    (goodArea (b .disc) (b .area)) refl (leb turnRoom (length (b .out))) refl (ltb slot slotCount && isRunning (processAt (stateOf b) slot)) refl
+    (goodArea (b .disc) (b .area)) refl (leb turnRoom (length (b .out))) refl (ltb slot slotCount
+    && isRunning (processAt (stateOf b) slot)) refl
   where
     go : (p : Bool) → isDiscLength (length (b .disc)) && isAreaLength (length (b .area)) ≡ p → (q : Bool) → goodDisc (b .disc) ≡ q
         → (r : Bool) → goodArea (b .disc) (b .area) ≡ r → (s : Bool) → leb turnRoom (length (b .out)) ≡ s

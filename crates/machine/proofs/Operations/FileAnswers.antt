@@ -27,7 +27,8 @@ use Rattle.store.proofs.Changes.{entered-count, entered-new}
 use Rattle.store.proofs.Goodness.{good-entry-at}
 use Rattle.store.proofs.Invariant.{room}
 use Rattle.store.proofs.Lookups.{lookup-at}
-use Rattle.machine.specs.Beyond.{advanced, Answered, breaks, continues, created, createdAt, fileRun, inside, newFileSize, opened, openedAt}
+use Rattle.machine.specs.Beyond.{advanced, Answered, breaks, continues, created, createdAt, fileRun, inside, newFileSize, opened}
+use Rattle.machine.specs.Beyond.{openedAt}
 use Rattle.machine.specs.Beyond.{ownFile, pushed, received, unlessBreaks, withOpenFile, written}
 use Rattle.machine.specs.GoodArea.{isOpenIn}
 use Rattle.machine.specs.Limits.{stackSize}

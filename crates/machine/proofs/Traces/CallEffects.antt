@@ -133,7 +133,8 @@ module _ (s : Storage) (out : List ℕ) (passes : Passes (s .disc) (s .area)) wh
 
   list-effects : Leaves (other list) (answer (other list) b)
   unfolding answer otherAnswer
-  list-effects = subst⁻¹ (Leaves (other list)) (on-good b _ passes) (tried (Leaves (other list)) b (leb (length (listText k)) (length out)) 4 _ (none refl refl) λ fit. none refl refl)
+  list-effects = subst⁻¹ (Leaves (other list)) (on-good b _ passes)
+      (tried (Leaves (other list)) b (leb (length (listText k)) (length out)) 4 _ (none refl refl) λ fit. none refl refl)
 
   turn-effects : (slot clock : ℕ) → Leaves (turn slot clock) (answer (turn slot clock) b)
   unfolding answer

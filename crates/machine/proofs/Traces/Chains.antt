@@ -52,7 +52,8 @@ module _ (s : Storage) (out : List ℕ) (passes : Passes (s .disc) (s .area)) wh
   one-event c text r = (refl, refl, passes, record { out = out; same = refl; reports = r }, (refl, refl))
 
   -- "calls lent too little output aside"
-  pub short-turn : (slot clock : ℕ) → leb turnRoom (length out) ≡ false → answer (turn slot clock) (lending s out) ≡ refused 4 (lending s out)
+  pub short-turn : (slot clock : ℕ) → leb turnRoom (length out) ≡ false
+      → answer (turn slot clock) (lending s out) ≡ refused 4 (lending s out)
   unfolding answer
   short-turn slot clock h = rw (passes .sizes, passes .disc-good, passes .area-good, h)
 

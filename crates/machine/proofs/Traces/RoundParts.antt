@@ -84,7 +84,8 @@ pub record Parts (s : Storage) (es : List Event) (u : Turned) : Type 0 where
   pub area : Whole (s .area) → lastStorage s es .area ≡ kernelBytes (u .kernel)
 
 -- text is what these turns print, joined
-pub turn-parts : (l : List ℕ) (clock : ℕ) (s : Storage) (text : List ℕ) → all (λ slot. ltb slot slotCount) l ≡ true → Passes (s .disc) (s .area)
+pub turn-parts : (l : List ℕ) (clock : ℕ) (s : Storage) (text : List ℕ) → all (λ slot. ltb slot slotCount) l ≡ true
+    → Passes (s .disc) (s .area)
     → text ≡ turnsOf l (kernelOf (s .area)) clock (s .disc) .out
     → Parts s (turnEvents l clock s text) (turnsOf l (kernelOf (s .area)) clock (s .disc))
 unfolding turnEvents turnsOf Leads all flat total lastStorage PrintsItsPart
