@@ -1,3 +1,4 @@
+-- The laws of crate buffer, by topic.
 pub mod Bools
 pub mod Buffer
 pub mod Disjunctions

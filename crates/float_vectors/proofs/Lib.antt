@@ -1,1 +1,2 @@
+-- The laws of casts that the program needs.
 pub mod Casts

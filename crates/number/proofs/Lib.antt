@@ -1,3 +1,4 @@
+-- The laws of crate number, by topic.
 pub mod Bench
 pub mod Encoding
 pub mod Magnitude

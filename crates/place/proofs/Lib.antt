@@ -1,1 +1,2 @@
+-- The laws of places.
 pub mod Place

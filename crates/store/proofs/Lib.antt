@@ -1,3 +1,4 @@
+-- The laws of crate store, by topic.
 pub mod Admissions
 pub mod Calls
 pub mod Changes

@@ -1,3 +1,4 @@
+-- The laws of crate variable, by topic.
 pub mod Views
 pub mod Closing
 pub mod Freeing

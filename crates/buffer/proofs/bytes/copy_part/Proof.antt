@@ -1,3 +1,4 @@
+-- The loop: the first i bytes are copied.
 use Prim.Native.Nat.{_≤_, _-_}
 use mathlib.Core.Path.{_≡_, refl, sym, _∙_}
 use native.Mathlib.Omega.{arith}
