@@ -68,8 +68,7 @@ seenIn p variables text number =
       variables = variables;
       pc = p .pc;
       loopstart = p .loopstart;
-      state =
-          p .state;
+      state = p .state;
       fault = p .fault;
       text = text;
       number = number;

@@ -46,8 +46,7 @@ noProcess = record {
   pc = 0;
   loopstart = 0;
   file = noFile;
-  sp =
-      0;
+  sp = 0;
   spare = 0;
   stack = [];
 }
@@ -60,8 +59,7 @@ withProcess k i p = record {
   variables = k .variables;
   next = k .next;
   zeros = k .zeros;
-  processes =
-      set (k .processes) i p;
+  processes = set (k .processes) i p;
 }
 
 abbrev pub withVariables : Kernel → Variables → Kernel

@@ -105,8 +105,7 @@ module _ (p : Process) (sized : SizedProcess p) where
     file = record {
       start = word 12 (p .file .start) refl refl t;
       len = word 14 (p .file .len) refl refl t;
-      offset =
-          word 16 (p .file .offset) refl refl t;
+      offset = word 16 (p .file .offset) refl refl t;
     };
     sp = byte 18 t;
     spare = byte 19 t;

@@ -39,8 +39,7 @@ module _ (test : Entry → Bool) (disc : List ℕ) where
       record {
         place = f .place;
         inside = h;
-        holds =
-            subst (λ (e : Entry). test e ≡ true) (tab-at (entryAt disc) (fileCount disc) (f .place) (entryAt disc 0) h) (f .holds);
+        holds = subst (λ (e : Entry). test e ≡ true) (tab-at (entryAt disc) (fileCount disc) (f .place) (entryAt disc 0) h) (f .holds);
       }
 
   pub is-listed : (i : ℕ) → i < fileCount disc → test (entryAt disc i) ≡ true → any test (files disc) ≡ true
@@ -100,8 +99,7 @@ module _ {k : Kernel} {disc : List ℕ} (after : List ℕ) (g : GoodState k disc
             (record {
               variables = area .variables;
               header = area .header;
-              each =
-                  all-each (goodProcess (files after) (k .next)) (k .processes) noProcess each;
+              each = all-each (goodProcess (files after) (k .next)) (k .processes) noProcess each;
               distinct = area .distinct;
             });
       }

@@ -63,8 +63,7 @@ still-owned live next v more t =
     (record {
       few = g .few;
       each = all-weaker (goodVariable live) (goodVariable next) (counted v) still (g .each);
-      pairwise =
-          g .pairwise;
+      pairwise = g .pairwise;
     })
   where
     still : (e : Variable) → goodVariable live e ≡ true → goodVariable next e ≡ true

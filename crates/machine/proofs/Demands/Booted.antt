@@ -1,15 +1,14 @@
 -- Boot and format leave good buffers.
-use Prim.Native.Nat.{ℕ}
-use mathlib.Core.Path.{_≡_, refl}
+use Prim.Native.Nat.{ℕ, zero, suc}
+use mathlib.Core.Path.{_≡_, refl, ap, _∙_}
 use mathlib.Core.Bool.{true, _&&_}
 use mathlib.Core.List.{List}
-use lib.ListN.{length, replicate}
-use borrow.Author.Tests.{eqb-true}
+use lib.ListN.{getD, length, length-replicate, replicate}
 use Rattle.buffer.specs.Lists.{all, any, keep, pairs, tab}
 use Rattle.buffer.proofs.Bools.{and-both, and-left, and-right}
 use Rattle.store.specs.Directory.{goodDisc, goodFiles, isDiscLength}
 use Rattle.variable.specs.Good.{goodVariables}
-use Rattle.store.specs.Layout.{discLength}
+use Rattle.store.specs.Layout.{countAt}
 use Rattle.machine.specs.Answer.{Buffers, bootAnswer, booted, formatAnswer, goodArea}
 use Rattle.machine.specs.Area.{isAreaLength, kernelOf, variablesOf}
 use Rattle.machine.specs.GoodArea.{goodHeader, goodKernel, goodProcess, otherId}
@@ -23,9 +22,15 @@ booted-good disc = refl
 booted-length : isAreaLength (length booted) ≡ true
 booted-length = refl
 
-zeros-good : goodDisc (replicate discLength 0) ≡ true
+zeros-at : (n i : ℕ) → getD {A = ℕ} (replicate n 0) i 0 ≡ 0
+zeros-at zero i = refl
+zeros-at (suc n) zero = refl
+zeros-at (suc n) (suc i) = zeros-at n i
+
+-- zeros of any length hold no file
+zeros-good : (n : ℕ) → goodDisc (replicate n 0) ≡ true
 unfolding goodDisc goodFiles all pairs tab
-zeros-good = refl
+zeros-good n = rw (zeros-at n countAt)
 
 booted-passes : (disc : List ℕ) → isDiscLength (length disc) ≡ true → goodDisc disc ≡ true → Passes disc booted
 booted-passes disc long good = record { sizes = and-both long booted-length; disc-good = good; area-good = booted-good disc }
@@ -42,4 +47,6 @@ module _ (b : Buffers) (sizes : isDiscLength (length (b .disc)) && isAreaLength 
   -- Document 01: "Format zeroes the disc, then boots."
   pub format-good : Passes (formatAnswer b .disc) (formatAnswer b .area)
   unfolding formatAnswer
-  format-good = rw (sizes, eqb-true (length (b .disc)) discLength long) (booted-passes (replicate discLength 0) refl zeros-good)
+  format-good =
+      let n : ℕ = length (b .disc) in
+      rw sizes (booted-passes (replicate n 0) (ap isDiscLength (length-replicate {A = ℕ} n 0) ∙ long) (zeros-good n))

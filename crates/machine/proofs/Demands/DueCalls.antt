@@ -168,8 +168,7 @@ list-due b passes fit =
       number = pos (length (listText (stateOf b)));
       disc = b .disc;
       area = b .area;
-      out =
-          overwrite (b .out) 0 (listText (stateOf b));
+      out = overwrite (b .out) 0 (listText (stateOf b));
     } =
     on-good b _ passes ∙ rw (le-leb _ _ fit) in
     (ap (λ (a : Answer). a .number) whole, ap (λ (a : Answer). a .out) whole)

@@ -48,8 +48,7 @@ passes-good disc area p =
     record {
       sized = decoded-sized area (eqb-true _ _ (area-length p));
       long = and-left (isDiscLength (length disc)) _ (p .sizes);
-      sound =
-          p .disc-good;
+      sound = p .disc-good;
       area = p .area-good;
     }
 

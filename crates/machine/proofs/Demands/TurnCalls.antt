@@ -90,8 +90,7 @@ turn-passed b slot clock n =
           passes = record { sizes = p; disc-good = q; area-good = r };
           room = s;
           low = and-left (ltb slot slotCount) _ t;
-          running =
-              and-right (ltb slot slotCount) _ t;
+          running = and-right (ltb slot slotCount) _ t;
         }
     go true p true q true r true s false t h = below-not-done h
     go true p true q true r false s u t h = below-not-done h

@@ -32,8 +32,7 @@ good-header-is k t =
     record {
       zeros = and-left (all (eqb 0) (k .zeros)) _ t;
       low = leb-true _ _ (and-left (leb 1 (k .next)) _ r);
-      high =
-          leb-true _ _ (and-right (leb 1 (k .next)) _ r);
+      high = leb-true _ _ (and-right (leb 1 (k .next)) _ r);
     }
 
 pub is-good-header : (k : Kernel) → GoodHeader k → goodHeader k ≡ true

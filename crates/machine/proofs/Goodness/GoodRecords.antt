@@ -75,8 +75,7 @@ pub record OpenIn (f : OpenFile) (e : Entry) : Type 0 where
 pub open-in-is : (f : OpenFile) (e : Entry) → isOpenIn f e ≡ true → OpenIn f e
 open-in-is f e t = record {
   start = eqb-true _ _ (and-left (eqb (f .start) (e .start)) _ t);
-  len =
-      eqb-true _ _ (and-right (eqb (f .start) (e .start)) _ t);
+  len = eqb-true _ _ (and-right (eqb (f .start) (e .start)) _ t);
 }
 
 pub is-open-in : (f : OpenFile) (e : Entry) → OpenIn f e → isOpenIn f e ≡ true
@@ -105,8 +104,7 @@ module _ (entries : List Entry) (f : OpenFile) where
       go false e h = inr (record {
         some = eqb-false _ _ e;
         offset = leb-true _ _ (and-left (leb (f .offset) (f .len)) _ h);
-        listed =
-            and-right (leb (f .offset) (f .len)) _ h;
+        listed = and-right (leb (f .offset) (f .len)) _ h;
       })
 
   pub is-good-file : GoodFile entries f → goodFile entries f ≡ true

@@ -49,8 +49,7 @@ starting-begins name k disc slot e = go (endedSlot k) refl (lookup disc name) re
           file = i;
           found = q;
           entry = that;
-          unspent =
-              eqb-false (k .next) idLimit r;
+          unspent = eqb-false (k .next) idLimit r;
         }
 
 -- ---- the records after a start

@@ -56,8 +56,7 @@ module _ {name : List ℕ} {k : Kernel} {disc : List ℕ} {j : Kernel} {after : 
       subst⁻¹ (λ (x : Kernel). Gone i x) e
       (record {
         given = omega (arith, gone .given);
-        none =
-            started-missing (starting-begins name k disc slot d t) i (gone .none) (λ q. omega (arith, gone .given));
+        none = started-missing (starting-begins name k disc slot d t) i (gone .none) (λ q. omega (arith, gone .given));
       })
 
   pub outside-begun : slotOf k i ≡ Nowhere → Outside name k disc j after → (slotOf j i ≡ Nowhere) ⊎ Begun name i disc j after

@@ -37,10 +37,8 @@ module _ {k : Kernel} {disc title : List ℕ} (g : GoodState k disc) where
       files-good (stored disc title bytes s) g (stored-length bytes (g .sound) a) (stored-good bytes (g .sound) a)
       (λ slot i h u. record {
         place = i;
-        inside =
-            omega (arith, lookup-at (stored disc title bytes s) title (fileCount disc) (stored-found bytes (g .sound) a) .inside);
-        same =
-            stored-old bytes (g .sound) a i h;
+        inside = omega (arith, lookup-at (stored disc title bytes s) title (fileCount disc) (stored-found bytes (g .sound) a) .inside);
+        same = stored-old bytes (g .sound) a i h;
       })
 
 -- ---- erase: "11 a live process runs it or has it open"

@@ -48,8 +48,7 @@ module _ {name : List ℕ} {k : Kernel} {disc : List ℕ} {slot : ℕ} {e : Entr
             (record {
               name = ap (λ (x : Entry). x .name) (b .entry);
               start = ap (λ (x : Entry). x .start) (b .entry);
-              len =
-                  ap (λ (x : Entry). x .len) (b .entry);
+              len = ap (λ (x : Entry). x .len) (b .entry);
             }));
         file = inl (record { len = refl; offset = refl });
       })

@@ -50,8 +50,7 @@ module _ {k : Kernel} {disc : List ℕ} (good : GoodState k disc) (slot : ℕ) (
         spare = live-record good slot live .registers .spare;
         sp = within .stack;
         pc = in-record .pc;
-        loop =
-            in-record .loop;
+        loop = in-record .loop;
       }
 
   -- with the file it has

@@ -69,8 +69,7 @@ entry-opened disc i n s h e m some =
     record {
       some = λ z. omega arith;
       offset = omega arith;
-      listed =
-          any-at (isOpenIn f) (files disc) i (entryAt disc 0) (omega (arith, tab-length (entryAt disc) (fileCount disc))) here;
+      listed = any-at (isOpenIn f) (files disc) i (entryAt disc 0) (omega (arith, tab-length (entryAt disc) (fileCount disc))) here;
     }
   where
     f : OpenFile

@@ -192,8 +192,7 @@ module _ {s : Storage} {k j : Kernel} {after : List ℕ} (g : GoodState k (s .di
   effects-untouched own live c away (none e f) =
       record {
         process = ap (λ (x : Kernel). processAt x own) e;
-        variables =
-            ap (λ (x : Kernel). owned (x .variables) (processAt k own .id)) e;
+        variables = ap (λ (x : Kernel). owned (x .variables) (processAt k own .id)) e;
       }
   effects-untouched own live c away (outside o) = let u = outside-spares g own live o in
       record { process = u .process; variables = u .variables }

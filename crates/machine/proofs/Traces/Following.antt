@@ -125,8 +125,7 @@ module _ (i : ℕ) (prog : List ℕ) (k : Kernel) (disc : List ℕ) (s : Single)
       let f = moved-follows j l cells e v in
       record {
         observed = ap seen (held-seen (moved-holds (processAt j (x .slot)) l cells (owned (j .variables) i) e v) out);
-        tracked =
-            on f;
+        tracked = on f;
       }
 
   pub own-goes : (l : Local) (out : List ℕ)
