@@ -12,22 +12,13 @@ use Rattle.store_vectors.proofs.read_part.Tie as tie
 of-more : (n : ℕ) (xs ys : List ℕ) → n ≤ length xs → Counts n (xs ++ ys)
 of-more n xs ys h = counts n (xs ++ ys) (omega (arith, h, length-append xs ys))
 
--- the states: the start, the length read, known, and the bytes read
-abbrev start : tie.After-read-full → tie.Start
-start c = c .before .before .before
-
-abbrev counted : tie.After-word → tie.After-read-full
-counted c = c .before .before
-
-abbrev known : tie.After-read-full2 → tie.After-word
-known c = c .before .before .before
-
 returns-2 : tie.Need-returns-2
 returns-2 c =
-    let b = c .before .before in
-    let w = known b in
-    of-more (b .read-full2 .result) (b .read-full2 .last .1 .0) (drop (w .word .result) (start (counted w) .args .buf .now))
-    (b .read-full2 .ensures .0)
+    let full = c .before .before in
+    let known = full .before .before .before in
+    let counted = known .before .before in
+    of-more (full .read-full2 .result) (full .read-full2 .last .1 .0)
+    (drop (known .word .result) (counted .before .before .before .args .buf .now)) (full .read-full2 .ensures .0)
 
 pub read-part-spec : {M : Type 1} → statement M
 read-part-spec =

@@ -7,24 +7,16 @@ use Rattle.store.proofs.Lookups.{lookup-at}
 use Rattle.store_cases.proofs.discs.erase.Statement.{statement}
 use Rattle.store_cases.proofs.discs.erase.Tie as tie
 
--- the states: the start, the disc found usable, and the file searched
-abbrev start : tie.After-check-arg → tie.Start
-start c = c .before .before .before
-
-abbrev tested : tie.After-enum-told2 → tie.After-check
-tested c = c .before .before
-
-abbrev searched : tie.After-erase-entry-arg → tie.After-i
-searched c = c .before .before
-
-ready : (c : tie.After-enum-told2) → Readable (start (tested c .before) .args .disc .now)
-ready c = usable _ (sym (tested c .check .ensures) ∙ c .enum-told2 .given .1) .ready
+-- what was found usable can be read
+ready : (c : tie.After-enum-told2)
+    → let lent = c .before .before .before in Readable (lent .before .before .before .args .disc .now)
+ready c = let tested = c .before .before in usable _ (sym (tested .check .ensures) ∙ c .enum-told2 .given .1) .ready
 
 erase-entry-requires : tie.Need-erase-entry-requires
 erase-entry-requires c κs =
-    let i = searched c in
-    let f = i .before .before in
-    (ready (f .before .before), lookup-at _ _ _ (sym (f .find .ensures) ∙ i .i .given .1) .inside)
+    let found = c .before .before in
+    let searched = found .before .before in
+    (ready (searched .before .before), lookup-at _ _ _ (sym (searched .find .ensures) ∙ found .i .given .1) .inside)
 
 pub erase-spec : {M : Type 1} → statement M
 erase-spec =
