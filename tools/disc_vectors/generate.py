@@ -1,19 +1,18 @@
 #!/usr/bin/env python3
-"""generate: turns the outside vectors of the disc's operations into what the program store_cases reads and must print.
+"""generate: turns the outside vectors of the disc's operations into what the program store_vectors reads and must print.
 
 usage: tools/disc_vectors/generate.py VECTORS        (VECTORS: base.txt.gz, whose README gives the form of its lines)
 
-Takes the lines of store, retrieve, files and free (free space). Writes, below crates/store_cases:
+Takes the lines of store, retrieve, files and free (free space). Writes, below crates/store_vectors:
   data/vectors   for each vector a letter (s, r, f, u), then disc, name, data and output as lent, each as its length (two bytes, low byte first) and its bytes
-  stdout         kept up to the line 'outside vectors'; then for each vector its letter, the number, and checksums of disc and output after the call
+  stdout         for each vector its letter, the number, and checksums of disc and output after the call
 It knows nothing of what the operations do: number and changes are those of the vector.
 """
 import gzip
 import os
 import sys
 
-CRATE = os.path.join(os.path.dirname(os.path.abspath(__file__)), "..", "..", "crates", "store_cases")
-MARK = "outside vectors\n"
+CRATE = os.path.join(os.path.dirname(os.path.abspath(__file__)), "..", "..", "crates", "store_vectors")
 LETTER = {"store": b"s", "retrieve": b"r", "files": b"f", "free": b"u"}
 
 
@@ -59,10 +58,8 @@ def main():
             lines.append("%s %s %08x %08x\n" % (letter.decode(), number, *after))
     with open(os.path.join(CRATE, "data", "vectors"), "wb") as file:
         file.write(b"".join(records))
-    with open(os.path.join(CRATE, "stdout")) as file:
-        cases = file.read().partition(MARK)[0]
     with open(os.path.join(CRATE, "stdout"), "w") as file:
-        file.write(cases + MARK + "".join(lines))
+        file.write("".join(lines))
     print(len(lines), "vectors")
 
 

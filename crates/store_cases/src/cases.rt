@@ -1,16 +1,20 @@
 // Document 01's cases of the disc, one function each.
 use crate::discs;
 use crate::print;
+use store::layout::COUNT_AT;
+use store::layout::DATA_START;
+use store::layout::DISC_LENGTH;
+use store::layout::ENTRY_SIZE;
 
 // A store that must leave the disc as it was.
-fn refused_store(label: &[u8], disc: [u8; 1024], name: &[u8], data: &[u8]) {
+fn refused_store(label: &[u8], disc: [u8; DISC_LENGTH], name: &[u8], data: &[u8]) {
     let mut after = disc;
     let number = discs::store(&mut after, name, data);
     print::kept_line(label, number, &disc, &after);
 }
 
 // A retrieve into 14 bytes that must leave them as they were.
-fn refused_retrieve(label: &[u8], disc: [u8; 1024], name: &[u8]) {
+fn refused_retrieve(label: &[u8], disc: [u8; DISC_LENGTH], name: &[u8]) {
     let mut out = [b'.'; 14];
     let number = discs::retrieve(&disc, name, &mut out);
     print::kept_line(label, number, &[b'.'; 14], &out);
@@ -18,13 +22,13 @@ fn refused_retrieve(label: &[u8], disc: [u8; 1024], name: &[u8]) {
 
 // Document 01: "863 bytes store on an empty disc, 864 give 6"
 pub fn sizes() {
-    let mut disc = [0u8; 1024];
+    let mut disc = [0u8; DISC_LENGTH];
     print::line(
         b"store 863 bytes",
         discs::store(&mut disc, b"all", &[1u8; 863]),
     );
-    refused_store(b"store 864 bytes", [0u8; 1024], b"all", &[1u8; 864]);
-    refused_store(b"store no bytes", [0u8; 1024], b"all", b"");
+    refused_store(b"store 864 bytes", [0u8; DISC_LENGTH], b"all", &[1u8; 864]);
+    refused_store(b"store no bytes", [0u8; DISC_LENGTH], b"all", b"");
 }
 
 // Document 01: "files of 100, 100, 100, the second erased: 100 bytes go to 261, 101 to 461"
@@ -72,13 +76,6 @@ pub fn wrong_lengths() {
         &[0u8; 1023],
         &short,
     );
-    let mut long = [0u8; 1025];
-    print::kept_line(
-        b"erase on 1025 bytes",
-        discs::erase(&mut long, b"a"),
-        &[0u8; 1025],
-        &long,
-    );
     let mut out = [b'.'; 14];
     print::kept_line(
         b"retrieve on 1023 bytes",
@@ -99,16 +96,9 @@ pub fn wrong_lengths() {
 // Document 01: "2: disc not good." One that counts eleven files is not.
 pub fn damaged_disc() {
     let mut disc = discs::with_gap();
-    disc[160] = 11;
+    disc[COUNT_AT] = 11;
     refused_store(b"store on a damaged disc", disc, b"a", b"1");
     refused_retrieve(b"retrieve on a damaged disc", disc, b"one");
-    let mut after = disc;
-    print::kept_line(
-        b"erase on a damaged disc",
-        discs::erase(&mut after, b"one"),
-        &disc,
-        &after,
-    );
     let mut text = [b'.'; 14];
     print::kept_line(
         b"files on a damaged disc",
@@ -125,8 +115,8 @@ pub fn files_text() {
     let disc = discs::with(discs::with_gap(), b"eleven.byte", b"11");
     let mut out = [b'.'; 34];
     print::line(b"files into 34 bytes", discs::files(&disc, &mut out));
-    print::text(&out);
-    print::text(b"\n");
+    printing::text(&out);
+    printing::text(b"\n");
     let mut exact = [b'.'; 32];
     print::line(b"files into 32 bytes", discs::files(&disc, &mut exact));
     let mut short = [b'.'; 31];
@@ -138,7 +128,7 @@ pub fn files_text() {
     );
     print::line(
         b"files of an empty disc into no bytes",
-        discs::files(&[0u8; 1024], &mut []),
+        discs::files(&[0u8; DISC_LENGTH], &mut []),
     );
 }
 
@@ -150,8 +140,8 @@ pub fn retrieved() {
         b"retrieve 15 bytes into 17",
         discs::retrieve(&disc, b"note", &mut out),
     );
-    print::text(&out);
-    print::text(b"\n");
+    printing::text(&out);
+    printing::text(b"\n");
     refused_retrieve(b"retrieve 15 bytes into 14", disc, b"note");
     refused_retrieve(b"retrieve no such file into 14", disc, b"notes");
     print::line(
@@ -164,9 +154,9 @@ pub fn retrieved() {
 pub fn free_space() {
     print::line(
         b"free space of an empty disc",
-        discs::free_space(&[0u8; 1024]),
+        discs::free_space(&[0u8; DISC_LENGTH]),
     );
-    let low = discs::with([0u8; 1024], b"low", &[1u8; 300]);
+    let low = discs::with([0u8; DISC_LENGTH], b"low", &[1u8; 300]);
     let middle = discs::with(low, b"middle", &[2u8; 400]);
     print::line(b"free space above two files", discs::free_space(&middle));
     let full = discs::with(middle, b"high", &[3u8; 163]);
@@ -204,8 +194,13 @@ pub fn erased_entry() {
         0,
         b"b\0\0\0\0\0\0\0\0\0\0\0\xab\0\x0a\0",
     );
-    print::part_line(b"vacated entry after an erase", after, 16, &[0u8; 16]);
+    print::part_line(
+        b"vacated entry after an erase",
+        after,
+        ENTRY_SIZE,
+        &[0u8; ENTRY_SIZE],
+    );
     print::part_line(b"later entries after an erase", after, 32, &[170u8; 128]);
-    print::part_line(b"data of the erased file", after, 161, &[b'a'; 10]);
+    print::part_line(b"data of the erased file", after, DATA_START, &[b'a'; 10]);
     print::part_line(b"data of the file behind it", after, 171, &[b'b'; 10]);
 }

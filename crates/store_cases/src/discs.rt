@@ -1,5 +1,9 @@
 // The operations by document 01's numbers, as the firmware sees them, and the discs that the cases start from.
-ghost use Prim.Native.Nat.{_≤_};
+use buffer::Found;
+use store::Checked;
+use store::layout::DISC_LENGTH;
+ghost use Prim.Native.Nat.{_<_, _≤_};
+ghost use Rattle.store.specs.Layout.{maxFiles};
 
 pub fn store(disc: &mut [u8], name: &[u8], data: &[u8]) -> i32 {
     store::numbers::number(store::operations::store(disc, name, data))
@@ -7,10 +11,6 @@ pub fn store(disc: &mut [u8], name: &[u8], data: &[u8]) -> i32 {
 
 pub fn retrieve(disc: &[u8], name: &[u8], out: &mut [u8]) -> i32 {
     store::numbers::number(store::operations::retrieve(disc, name, out))
-}
-
-pub fn erase(disc: &mut [u8], name: &[u8]) -> i32 {
-    store::numbers::number(store::operations::erase(disc, name))
 }
 
 pub fn files(disc: &[u8], out: &mut [u8]) -> i32 {
@@ -21,32 +21,42 @@ pub fn free_space(disc: &[u8]) -> i32 {
     store::numbers::number(store::operations::free_space(disc))
 }
 
+// Erases the file of that name, if the disc is good and has one. Whether it is in use, only the kernel knows.
+fn erase(disc: &mut [u8], name: &[u8]) {
+    if let Checked::Unusable(_) = store::good::check(disc) {
+        return;
+    }
+    if let Found::At(i) = store::directory::find(disc, name) {
+        store::file::erase_entry(disc, i);
+    }
+}
+
 // The disc after a store, and after an erase.
-pub fn with(disc: [u8; 1024], name: &[u8], data: &[u8]) -> [u8; 1024] {
+pub fn with(disc: [u8; DISC_LENGTH], name: &[u8], data: &[u8]) -> [u8; DISC_LENGTH] {
     let mut after = disc;
     store(&mut after, name, data);
     after
 }
 
-pub fn without(disc: [u8; 1024], name: &[u8]) -> [u8; 1024] {
+pub fn without(disc: [u8; DISC_LENGTH], name: &[u8]) -> [u8; DISC_LENGTH] {
     let mut after = disc;
     erase(&mut after, name);
     after
 }
 
 // Files of 100, 100 and 100 bytes, the second erased.
-pub fn with_gap() -> [u8; 1024] {
-    let one = with([0u8; 1024], b"one", &[1u8; 100]);
+pub fn with_gap() -> [u8; DISC_LENGTH] {
+    let one = with([0u8; DISC_LENGTH], b"one", &[1u8; 100]);
     let two = with(one, b"two", &[2u8; 100]);
     let three = with(two, b"three", &[3u8; 100]);
     without(three, b"two")
 }
 
 // So many files of ten bytes, named a, b, c and so on.
-pub fn with_files(count: u8) -> [u8; 1024]
-    requires { ⌜ count ≤ 10 ⌝ }
+pub fn with_files(count: u8) -> [u8; DISC_LENGTH]
+    requires { ⌜ count ≤ maxFiles ⌝ }
 {
-    let mut disc = [0u8; 1024];
+    let mut disc = [0u8; DISC_LENGTH];
     let mut i: u8 = 0;
     while i < count {
         let letter = b'a' + i;
@@ -58,15 +68,15 @@ pub fn with_files(count: u8) -> [u8; 1024]
 }
 
 // Two files, and garbage in the eight entries beyond the count.
-pub fn with_garbage() -> [u8; 1024] {
+pub fn with_garbage() -> [u8; DISC_LENGTH] {
     let mut disc = with_files(2);
     buffer::bytes::overwrite_at(&mut disc, 32, &[170u8; 128]);
     disc
 }
 
 // The start that the directory entry at i gives.
-pub fn start_of(disc: [u8; 1024], i: usize) -> i32
-    requires { ⌜ i ≤ 9 ⌝ }
+pub fn start_of(disc: [u8; DISC_LENGTH], i: usize) -> i32
+    requires { ⌜ i < maxFiles ⌝ }
 {
     let entry = store::directory::entry_at(&disc, i);
     entry.start as i32

@@ -1,9 +1,7 @@
-// Runs document 01's cases of the disc, and then the outside vectors, and prints what comes out. The gate compares that
-// with the file stdout.
+// Runs document 01's cases of the disc and prints what comes out. The gate compares that with the file stdout.
 mod cases;
 mod discs;
 mod print;
-mod vectors;
 
 fn main() {
     cases::sizes();
@@ -17,5 +15,4 @@ fn main() {
     cases::free_space();
     cases::uncounted_entries();
     cases::erased_entry();
-    vectors::run_all();
 }

@@ -1,27 +1,10 @@
-// What the program prints: texts, numbers, and whether bytes are as they must be.
-use libc::STDOUT_FILENO;
+// What the program prints: numbers, and whether bytes are as they must be.
+use printing::number;
+use printing::text;
+use store::layout::DISC_LENGTH;
 ghost use Prim.Native.Nat.{_+_, _≤_};
 ghost use lib.ListN.{length};
-
-pub fn text(bytes: &[u8]) {
-    io::write_all(STDOUT_FILENO, bytes);
-}
-
-// -1 - n, and not -n, since the lowest number has no negative.
-fn magnitude(n: i32) -> u64 {
-    if 0 <= n {
-        n as u64
-    } else {
-        (-1 - n) as u64 + 1
-    }
-}
-
-pub fn number(n: i32) {
-    if n < 0 {
-        text(b"-");
-    }
-    io::print_decimal(STDOUT_FILENO, magnitude(n));
-}
+ghost use Rattle.store.specs.Layout.{discLength};
 
 pub fn line(label: &[u8], n: i32) {
     text(label);
@@ -43,8 +26,8 @@ pub fn kept_line(label: &[u8], n: i32, before: &[u8], after: &[u8]) {
 }
 
 // Whether the disc has these bytes from place at on.
-pub fn part_line(label: &[u8], disc: [u8; 1024], at: usize, bytes: &[u8])
-    requires { ⌜ at + length (now bytes) ≤ 1024 ⌝ }
+pub fn part_line(label: &[u8], disc: [u8; DISC_LENGTH], at: usize, bytes: &[u8])
+    requires { ⌜ at + length (now bytes) ≤ discLength ⌝ }
 {
     text(label);
     let end = at + bytes.len();
@@ -53,9 +36,4 @@ pub fn part_line(label: &[u8], disc: [u8; 1024], at: usize, bytes: &[u8])
     } else {
         text(b": wrong\n");
     }
-}
-
-pub fn checksum(sum: u64) {
-    text(b" ");
-    io::print_hex(STDOUT_FILENO, sum, 8);
 }

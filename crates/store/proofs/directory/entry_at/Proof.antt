@@ -8,18 +8,12 @@ use borrow.Author.Needs.{needs}
 use Rattle.store.proofs.directory.entry_at.Statement.{statement}
 use Rattle.store.proofs.directory.entry_at.Tie as tie
 
-abbrev start : tie.After-copy-part → tie.Start
-start c = c .before .before .before
-
-abbrev named : tie.After-word-at2 → tie.After-copy-part
-named c = c .before .before .before
-
 returns : tie.Need-returns
 unfolding entryAt
 returns c =
-    let n = named c in
-    let a = start n .args in
-    entry-fields (a .disc .now) (a .i * entrySize) _ _ _ (omega arith) (n .copy-part .ensures) (c .before .word-at .ensures)
+    let copied = c .before .before .before in
+    let a = copied .before .before .before .args in
+    entry-fields (a .disc .now) (a .i * entrySize) _ _ _ (omega arith) (copied .copy-part .ensures) (c .before .word-at .ensures)
     (c .word-at2 .ensures)
 
 pub entry-at-spec : {M : Type 1} → statement M

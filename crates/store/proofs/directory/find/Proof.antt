@@ -32,11 +32,8 @@ ready c = c .before .before
 abbrev read : tie.After-field Inv-loop μ-loop → tie.After-entry-at Inv-loop μ-loop
 read c = c .before .before .before
 
-abbrev head : tie.After-entry-at Inv-loop μ-loop → tie.At-loop Inv-loop μ-loop
-head c = c .before .before
-
 abbrev turn : tie.After-same-bytes Inv-loop μ-loop → tie.At-loop Inv-loop μ-loop
-turn c = head (read (c .before))
+turn c = read (c .before) .before .before
 
 abbrev disc : tie.At-loop Inv-loop μ-loop → List ℕ
 disc c = start (ready c .before .before) .args .disc .now

@@ -27,16 +27,13 @@ abbrev μ-loop : tie.MeasureT-loop
 abbrev start : tie.After-no-runs Inv-loop μ-loop → tie.Start Inv-loop μ-loop
 start c = c .before .before .before
 
-abbrev turn : tie.After-run-of Inv-loop μ-loop → tie.At-loop Inv-loop μ-loop
-turn c = c .before .before .before
-
 loop-holds : tie.Need-loop-holds Inv-loop μ-loop
 unfolding tab
 loop-holds c = (omega arith, c .no-runs .ensures)
 
 loop-again : tie.Need-loop-again Inv-loop μ-loop
 loop-again c =
-    let l = turn c in
+    let l = c .before .before .before in
     let d = start (l .before) .args .disc .now in
     let e : c .run-of .result ≡ runAt d (l .loop .i) = c .run-of .ensures ∙ ap runOf (c .before .entry-at .ensures) in (
       omega arith,

@@ -11,25 +11,18 @@ use borrow.Author.Needs.{needs}
 use Rattle.store.proofs.file.enter.Statement.{statement}
 use Rattle.store.proofs.file.enter.Tie as tie
 
--- the states: the start, the files counted, the name padded, and the entry put
-abbrev start : tie.After-file-count-arg → tie.Start
-start c = c .before .before .before
-
-abbrev padded : tie.After-put-entry → tie.After-pad
-padded c = c .before .before
-
-abbrev put : tie.After-slice-known2 → tie.After-put-entry
-put c = c .before .before
-
 returns : tie.Need-returns
 returns c =
-    let p = padded (put c) in
-    let n = p .before .file-count in
-    let a = start (p .before .before) .args in
+    let put = c .before .before in
+    let padded = put .before .before in
+    let counted = padded .before in
+    let n = counted .file-count in
+    let lent = counted .before in
+    let a = lent .before .before .before .args in
     entered-steps (a .disc .now) (omega arith) _ (a .name .now) (a .n) (a .start) (n .result) (n .ensures) (omega arith)
-    (put c .put-entry .ensures
+    (put .put-entry .ensures
     ∙ ap (λ (l : List ℕ). overwrite (a .disc .now) (n .result * entrySize) (entryBytes (record { name = l; start = a .start; len = a .n })))
-    (p .pad .ensures))
+    (padded .pad .ensures))
 
 pub enter-spec : {M : Type 1} → statement M
 enter-spec =

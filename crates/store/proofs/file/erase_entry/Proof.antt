@@ -7,29 +7,16 @@ use borrow.Author.Needs.{needs}
 use Rattle.store.proofs.file.erase_entry.Statement.{statement}
 use Rattle.store.proofs.file.erase_entry.Tie as tie
 
--- the states: the start, the files counted, entries moved, lent anew, and zeros laid
-abbrev start : tie.After-file-count → tie.Start
-start c = c .before .before .before
-
-abbrev counted : tie.After-move-up → tie.After-file-count
-counted c = c .before .before
-
-abbrev moved : tie.After-slice-known2 → tie.After-move-up
-moved c = c .before .before
-
-abbrev lent : tie.After-overwrite-at → tie.After-slice-known2
-lent c = c .before .before .before
-
-abbrev zeroed : tie.After-slice-known3 → tie.After-overwrite-at
-zeroed c = c .before .before
-
 returns : tie.Need-returns
 returns c =
-    let m = moved (lent (zeroed c)) in
-    let n = counted m .file-count in
-    let a = start (counted m) .args in
+    let zeroed = c .before .before in
+    let lent = zeroed .before .before .before in
+    let moved = lent .before .before in
+    let counted = moved .before .before in
+    let n = counted .file-count in
+    let a = counted .before .before .before .args in
     erased-steps (a .disc .now) (omega arith) _ _ (a .i) (n .result - 1) (omega (arith, n .ensures)) (omega (arith, n .ensures))
-    (omega (arith, n .ensures)) (omega arith) (m .move-up .ensures) (zeroed c .overwrite-at .ensures)
+    (omega (arith, n .ensures)) (omega arith) (moved .move-up .ensures) (zeroed .overwrite-at .ensures)
 
 pub erase-entry-spec : {M : Type 1} → statement M
 erase-entry-spec =

@@ -8,17 +8,13 @@ use borrow.Author.Needs.{needs}
 use Rattle.store.proofs.file.read_at.Statement.{statement}
 use Rattle.store.proofs.file.read_at.Tie as tie
 
-abbrev start : tie.After-struct-known → tie.Start
-start c = c .before .before .before
-
-abbrev copied : tie.After-slice-known2 → tie.After-copy-part
-copied c = c .before .before
-
 returns : tie.Need-returns
 unfolding readAt
 returns c =
-    let a = start (copied c .before .before) .args in
-    copied c .copy-part .ensures
+    let copied = c .before .before in
+    let known = copied .before .before in
+    let a = known .before .before .before .args in
+    copied .copy-part .ensures
     ∙ sym (part-of-part (a .disc .now) (a .run .start) (a .run .len) (a .offset) (length (a .out .now)) (omega arith))
 
 pub read-at-spec : {M : Type 1} → statement M

@@ -10,10 +10,7 @@ use borrow.Author.Needs.{needs}
 use Rattle.store.proofs.good.check.Statement.{statement}
 use Rattle.store.proofs.good.check.Tie as tie
 
-abbrev start : tie.Else1 → tie.Start
-start c = c .before .before .before
-
-right : (c : tie.Else1) → isDiscLength (length (start c .args .disc .now)) ≡ true
+right : (c : tie.Else1) → isDiscLength (length (c .before .before .before .args .disc .now)) ≡ true
 right c = sym (c .before .is-disc-length .ensures) ∙ not-false _ (c .if1 .left)
 
 returns : tie.Need-returns

@@ -6,16 +6,6 @@ use borrow.Author.Needs.{needs}
 use Rattle.store.proofs.good.is_beside.Statement.{statement}
 use Rattle.store.proofs.good.is_beside.Tie as tie
 
--- the states: the start, the names lent, and found to differ
-abbrev start : tie.After-one2 → tie.Start
-start c = c .before .before .before
-
-abbrev lent : tie.After-same-bytes → tie.After-one2
-lent c = c .before .before
-
-abbrev other : tie.After-run-of → tie.Else1
-other c = c .before .before .before
-
 returns : tie.Need-returns
 unfolding beside
 returns c = rw (sym (c .before .same-bytes .ensures) ∙ c .if1 .taken)
@@ -23,10 +13,13 @@ returns c = rw (sym (c .before .same-bytes .ensures) ∙ c .if1 .taken)
 returns-2 : tie.Need-returns-2
 unfolding beside
 returns-2 c =
-    let e = other (c .before) in
-    let a = start (lent (e .before)) .args .a in
-    rw (sym (e .before .same-bytes .ensures) ∙ e .if1 .left)
-    (c .is-apart .ensures ∙ ap (apart (runFrom (a .start) (a .len))) (c .before .run-of .ensures))
+    let made = c .before in
+    let other = made .before .before .before in
+    let tested = other .before in
+    let lent = tested .before .before in
+    let a = lent .before .before .before .args .a in
+    rw (sym (tested .same-bytes .ensures) ∙ other .if1 .left)
+    (c .is-apart .ensures ∙ ap (apart (runFrom (a .start) (a .len))) (made .run-of .ensures))
 
 pub is-beside-spec : {M : Type 1} → statement M
 is-beside-spec =

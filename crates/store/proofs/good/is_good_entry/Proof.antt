@@ -8,20 +8,7 @@ use borrow.Author.Needs.{needs}
 use Rattle.store.proofs.good.is_good_entry.Statement.{statement}
 use Rattle.store.proofs.good.is_good_entry.Tie as tie
 
--- the states: the start, the name found good, the length not 0, and the start among the data bytes
-abbrev start : tie.Else1 → tie.Start
-start c = c .before .before .before
-
-abbrev named : tie.Else2 → tie.Else1
-named c = c .before .before
-
-abbrev some : tie.Else3 → tie.Else2
-some c = c .before .before
-
-abbrev low : tie.After-struct-known4 → tie.Else3
-low c = c .before .before
-
-field : (c : tie.Else1) → goodField (start c .args .entry .name) ≡ true
+field : (c : tie.Else1) → goodField (c .before .before .before .args .entry .name) ≡ true
 field c = sym (c .before .is-good-field .ensures) ∙ not-false _ (c .if1 .left)
 
 returns : tie.Need-returns
@@ -35,15 +22,15 @@ returns-2 c = rw (field (c .before .before), lt-leb _ _ (c .if2 .taken))
 returns-3 : tie.Need-returns-3
 unfolding goodEntry
 returns-3 c =
-    let s = c .before .before in
-    rw (field (named s), le-leb _ _ (s .if2 .left), lt-leb _ _ (c .if3 .taken))
+    let some = c .before .before in
+    rw (field (some .before .before), le-leb _ _ (some .if2 .left), lt-leb _ _ (c .if3 .taken))
 
 returns-4 : tie.Need-returns-4
 unfolding goodEntry
 returns-4 c =
-    let l = low c in
-    let s = some l in
-    rw (field (named s), le-leb _ _ (s .if2 .left), le-leb _ _ (l .if3 .left))
+    let low = c .before .before in
+    let some = low .before .before in
+    rw (field (some .before .before), le-leb _ _ (some .if2 .left), le-leb _ _ (low .if3 .left))
 
 pub is-good-entry-spec : {M : Type 1} → statement M
 is-good-entry-spec =

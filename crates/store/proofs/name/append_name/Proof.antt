@@ -12,11 +12,8 @@ use borrow.Author.Needs.{needs}
 use Rattle.store.proofs.name.append_name.Statement.{statement}
 use Rattle.store.proofs.name.append_name.Tie as tie
 
-abbrev start : tie.After-text-length → tie.Start
-start c = c .before .before
-
 abbrev field : tie.After-text-length → List ℕ
-field c = start c .args .t2
+field c = c .before .before .args .t2
 
 sizes : (s : tie.Start) → length (s .args .t2) ≡ nameSize
 sizes s = search needs
@@ -31,13 +28,13 @@ short c = c .text-length .ensures .0
 append-requires : tie.Need-append-requires
 append-requires c κs =
     let t = c .before in
-    omega (arith, named t, short t, sizes (start t))
+    omega (arith, named t, short t, sizes (t .before .before))
 
 returns : tie.Need-returns
 returns c =
     let t = c .before .before in (
-      c .append .ensures ∙ ap (appended (start t .args .text)) (t .text-length .ensures .1),
-      omega (arith, ap (λ (r : Text). r .len) (c .append .ensures), named t, short t, sizes (start t)),
+      c .append .ensures ∙ ap (appended (t .before .before .args .text)) (t .text-length .ensures .1),
+      omega (arith, ap (λ (r : Text). r .len) (c .append .ensures), named t, short t, sizes (t .before .before)),
     )
 
 pub append-name-spec : {M : Type 1} → statement M

@@ -10,18 +10,9 @@ use borrow.Author.Needs.{needs}
 use Rattle.store.proofs.name.is_good_field.Statement.{statement}
 use Rattle.store.proofs.name.is_good_field.Tie as tie
 
--- the states: the start, the name's length known, and a good name filled up
-abbrev start : tie.After-text-length → tie.Start
-start c = c .before .before
-
-abbrev known : tie.After-is-good-name → tie.After-text-length
-known c = c .before .before
-
-abbrev filled : tie.After-same-bytes → tie.After-pad
-filled c = c .before .before .before
-
-judged : (c : tie.After-is-good-name) → c .is-good-name .result ≡ goodName (trimmed (start (known c) .args .t1))
-judged c = c .is-good-name .ensures ∙ ap goodName (known c .text-length .ensures .1)
+judged : (c : tie.After-is-good-name)
+    → let known = c .before .before in c .is-good-name .result ≡ goodName (trimmed (known .before .before .args .t1))
+judged c = c .is-good-name .ensures ∙ ap goodName (c .before .before .text-length .ensures .1)
 
 returns : tie.Need-returns
 unfolding goodField
@@ -35,11 +26,12 @@ pad-requires c κs =
 returns-2 : tie.Need-returns-2
 unfolding goodField
 returns-2 c =
-    let g = filled c .before in
-    let t = known (g .before) in
-    rw (sym (judged (g .before)) ∙ not-false _ (g .if1 .left))
+    let filled = c .before .before .before in
+    let good = filled .before in
+    let known = good .before .before .before in
+    rw (sym (judged (good .before)) ∙ not-false _ (good .if1 .left))
     (c .same-bytes .ensures
-    ∙ ap (same (start t .args .t1)) (filled c .pad .ensures ∙ ap padded (t .text-length .ensures .1)))
+    ∙ ap (same (known .before .before .args .t1)) (filled .pad .ensures ∙ ap padded (known .text-length .ensures .1)))
 
 pub is-good-field-spec : {M : Type 1} → statement M
 is-good-field-spec =

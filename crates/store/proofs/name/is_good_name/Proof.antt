@@ -21,15 +21,11 @@ Inv-loop name i₀ i = (i ≤ length name) × (all isNameByte (take i name) ≡ 
 abbrev μ-loop : tie.MeasureT-loop
 μ-loop name i₀ i = length name - i
 
--- the states: the start, and in a turn its head
-abbrev start : tie.Else1 Inv-loop μ-loop → tie.Start Inv-loop μ-loop
-start c = c .before .before
-
 abbrev turn : tie.After-is-name-byte Inv-loop μ-loop → tie.At-loop Inv-loop μ-loop
 turn c = c .before .before .before
 
 abbrev name : tie.At-loop Inv-loop μ-loop → List ℕ
-name c = start (c .before .before) .args .name .now
+name c = let s = c .before .before in s .before .before .args .name .now
 
 returns : tie.Need-returns Inv-loop μ-loop
 unfolding goodName

@@ -10,13 +10,11 @@ use Rattle.store.specs.Layout.{nameSize}
 use Rattle.store.proofs.name.pad.Statement.{statement}
 use Rattle.store.proofs.name.pad.Tie as tie
 
-abbrev start : tie.After-overwrite-at → tie.Start
-start c = c .before .before .before
-
 returns : tie.Need-returns
 returns c =
-    let n = start (c .before) .args .name .now in
-    c .before .overwrite-at .ensures ∙ rw zero-add (ap (λ (l : List ℕ). n ++ l) (drop-replicate 0 nameSize (length n)))
+    let laid = c .before in
+    let n = laid .before .before .before .args .name .now in
+    laid .overwrite-at .ensures ∙ rw zero-add (ap (λ (l : List ℕ). n ++ l) (drop-replicate 0 nameSize (length n)))
 
 pub pad-spec : {M : Type 1} → statement M
 pad-spec = tie.close (tie.spec (λ c. search needs) (λ c κs. search needs) returns)

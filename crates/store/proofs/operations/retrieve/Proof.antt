@@ -17,7 +17,7 @@ use borrow.Author.Needs.{needs}
 use Rattle.store.proofs.operations.retrieve.Statement.{statement}
 use Rattle.store.proofs.operations.retrieve.Tie as tie
 
--- the states: the start, the disc tested, the file found, its entry read, the output found long enough, the bytes copied
+-- the states: the start, the disc tested, the file found, its entry read
 abbrev start : tie.After-slice-known → tie.Start
 start c = c .before .before .before
 
@@ -32,9 +32,6 @@ found c = c .before .before
 
 abbrev read : tie.Else1 → tie.After-entry-at
 read c = c .before .before .before
-
-abbrev fits : tie.After-overwrite-at → tie.Else1
-fits c = c .before .before .before
 
 -- what was passed
 abbrev disc : tie.After-enum-told → List ℕ
@@ -104,11 +101,12 @@ returns-3 c =
 returns-4 : tie.Need-returns-4
 returns-4 c =
     let o = c .before .before in
-    let t = read (fits o) in
+    let fits = o .before .before .before in
+    let t = read fits in
     let u = searched (found t) .before in
     let e = t .entry-at .result in
     let z : e .start + e .len - e .start ≡ e .len = omega arith in
-    file-done e (disc u) (out u) _ (fits o .if1 .left)
+    file-done e (disc u) (out u) _ (fits .if1 .left)
     (o .overwrite-at .ensures ∙ ap (λ (n : ℕ). overwrite (out u) 0 (part (disc u) (e .start) n)) z)
     ∙ sym (chosen t)
 

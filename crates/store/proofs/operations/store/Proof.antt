@@ -16,7 +16,7 @@ use borrow.Author.Needs.{needs}
 use Rattle.store.proofs.operations.store.Statement.{statement}
 use Rattle.store.proofs.operations.store.Tie as tie
 
--- the states: the start, the disc tested and found usable, the file admitted, entered, lent anew, and written
+-- the states: the start, the disc tested and found usable, the file admitted, placed and entered
 abbrev start : tie.After-shared-slice-known2 → tie.Start
 start c = c .before .before .before
 
@@ -34,12 +34,6 @@ placed c = c .before .before .before
 
 abbrev entered : tie.After-slice-known2 → tie.After-enter
 entered c = c .before .before
-
-abbrev written : tie.After-slice-known3 → tie.After-write-at
-written c = c .before .before
-
-abbrev lent : tie.After-write-at → tie.After-slice-known2
-lent c = c .before .before
 
 -- what was passed
 abbrev disc : tie.After-enum-told → List ℕ
@@ -93,14 +87,14 @@ returns-2 c =
     ap (λ (r : Admission). storeAt r (disc u) (name u) (bytes u)) (sym (c .before .refusal2 .given .1)) ∙ sym (rest m)
 
 -- the disc that a store leaves
-left : (c : tie.After-write-at) → let t = placed (entered (lent c)) in let u = fine (asked t) in
+left : (c : tie.After-write-at) → let t = placed (entered (c .before .before)) in let u = fine (asked t) in
     c .write-at .last .0 ≡ stored (disc u) (name u) (bytes u) (t .start .given .0 .0)
-left c = rw (← entered (lent c) .enter .ensures) (c .write-at .ensures)
+left c = rw (← entered (c .before .before) .enter .ensures) (c .write-at .ensures)
 
 returns-3 : tie.Need-returns-3
 returns-3 c =
-    let w = written c in
-    let t = placed (entered (lent w)) in
+    let w = c .before .before in
+    let t = placed (entered (w .before .before)) in
     let u = fine (asked t) in
     ap (updated (Done 0)) (left w)
     ∙ ap (λ (r : Admission). storeAt r (disc u) (name u) (bytes u)) (sym (t .start .given .1)) ∙ sym (rest (asked t))

@@ -14,19 +14,6 @@ use borrow.Author.Needs.{needs}
 use Rattle.store.proofs.operations.with_line.Statement.{statement}
 use Rattle.store.proofs.operations.with_line.Tie as tie
 
--- the states: the start, and the text with the name, the space and the number
-abbrev start : tie.After-append-name → tie.Start
-start c = c .before .before
-
-abbrev named : tie.After-append → tie.After-append-name
-named c = c .before .before
-
-abbrev spaced : tie.After-append-decimal → tie.After-append
-spaced c = c .before .before
-
-abbrev counted : tie.After-append2 → tie.After-append-decimal
-counted c = c .before .before
-
 sizes : (s : tie.Start) → length (s .args .text .bytes) ≡ textSize
 sizes s = search needs
 
@@ -34,22 +21,26 @@ abbrev len : Text → ℕ
 len t = t .len
 
 append-decimal-requires : tie.Need-append-decimal-requires
-append-decimal-requires c κs = omega (arith, ap len (c .before .append .ensures), named (c .before) .append-name .ensures .1)
+append-decimal-requires c κs =
+    let spaced = c .before in
+    let named = spaced .before .before in
+    omega (arith, ap len (spaced .append .ensures), named .append-name .ensures .1)
 
 append-requires : tie.Need-append-requires-2
 append-requires c κs =
-    let d = c .before in
-    let s = spaced d in
-    omega (arith, d .append-decimal .ensures .1, ap len (s .append .ensures), named s .append-name .ensures .1)
+    let counted = c .before in
+    let spaced = counted .before .before in
+    let named = spaced .before .before in
+    omega (arith, counted .append-decimal .ensures .1, ap len (spaced .append .ensures), named .append-name .ensures .1)
 
 returns : tie.Need-returns
 unfolding fileLine
 returns c =
-    let d = counted c in
-    let s = spaced d in
-    let n = named s in
-    let a = start n .args in
-    let z = sizes (start n) in
+    let d = c .before .before in
+    let s = d .before .before in
+    let n = s .before .before in
+    let a = n .before .before .args in
+    let z = sizes (n .before .before) in
     let e = ap len (c .append2 .ensures) in
     let f = ap len (d .append-decimal .ensures .0) in
     let g = ap len (s .append .ensures) in

@@ -1,7 +1,6 @@
-// The outside vectors: calls and answers of another implementation, from data/vectors, which tools/disc_vectors.py
-// writes.
-use crate::discs;
-use crate::print;
+// Runs the outside vectors, calls and answers of another implementation, from data/vectors, and prints what comes out.
+// tools/disc_vectors/generate.py writes that file, and the file stdout that the gate compares with.
+use store::Answer;
 ghost use Rattle.io.specs.Counts.{Counts};
 
 // Reads the next buffer of a vector, its length in two bytes and then its bytes, and answers the length. One that has
@@ -30,23 +29,25 @@ fn checksum(bytes: &[u8]) -> u64 {
 }
 
 // The operation of a vector, told by its first letter; free space has 'u', for unused.
-fn perform(operation: u8, disc: &mut [u8], name: &[u8], bytes: &[u8], out: &mut [u8]) -> i32 {
+fn perform(operation: u8, disc: &mut [u8], name: &[u8], bytes: &[u8], out: &mut [u8]) -> Answer {
     match operation {
-        b's' => discs::store(disc, name, bytes),
-        b'r' => discs::retrieve(disc, name, out),
-        b'f' => discs::files(disc, out),
-        _ => discs::free_space(disc),
+        b's' => store::operations::store(disc, name, bytes),
+        b'r' => store::operations::retrieve(disc, name, out),
+        b'f' => store::operations::files(disc, out),
+        _ => store::operations::free_space(disc),
     }
 }
 
 // A vector's line: its letter, the number, checksums of disc and output after the call.
 fn run(operation: u8, disc: &mut [u8], name: &[u8], bytes: &[u8], out: &mut [u8]) {
-    let number = perform(operation, disc, name, bytes, out);
-    print::text(&[operation, b' ']);
-    print::number(number);
-    print::checksum(checksum(disc));
-    print::checksum(checksum(out));
-    print::text(b"\n");
+    let answer = perform(operation, disc, name, bytes, out);
+    printing::text(&[operation, b' ']);
+    printing::number(store::numbers::number(answer));
+    printing::text(b" ");
+    printing::hex(checksum(disc));
+    printing::text(b" ");
+    printing::hex(checksum(out));
+    printing::text(b"\n");
 }
 
 // Runs one vector, and answers whether there was one.
@@ -74,13 +75,12 @@ fn run_next(fd: i32) -> bool {
 }
 
 // A proved loop ends; this one at the latest after so many vectors.
-pub fn run_all() {
+fn main() {
     let fd = os::open_read(b"vectors");
     if fd < 0 {
         os::fail(b"vectors");
         return;
     }
-    print::text(b"outside vectors\n");
     let mut left: u64 = 100000;
     while left > 0 && run_next(fd) {
         left -= 1;

@@ -1,4 +1,4 @@
--- `store_cases::vectors::read_part` meets its contract: what was read stands at the start of the buffer.
+-- `store_vectors::read_part` meets its contract: what was read stands at the start of the buffer.
 use Prim.Native.Nat.{ℕ, _≤_}
 use mathlib.Core.List.{List, _++_}
 use native.Mathlib.Omega.{arith}
@@ -6,20 +6,19 @@ use lib.ListN.{length, drop, length-append}
 use Rattle.io.proofs.Counting.{counts, front}
 use Rattle.io.specs.Counts.{Counts}
 use borrow.Author.Needs.{needs}
-use Rattle.store_cases.proofs.vectors.read_part.Statement.{statement}
-use Rattle.store_cases.proofs.vectors.read_part.Tie as tie
+use Rattle.store_vectors.proofs.read_part.Statement.{statement}
+use Rattle.store_vectors.proofs.read_part.Tie as tie
 
 of-more : (n : ℕ) (xs ys : List ℕ) → n ≤ length xs → Counts n (xs ++ ys)
 of-more n xs ys h = counts n (xs ++ ys) (omega (arith, h, length-append xs ys))
 
-slice-aggregate-read-full-2 : tie.Need-slice-aggregate-read-full-2
-slice-aggregate-read-full-2 c = front _ _ (c .before .if1 .left)
-
 returns-2 : tie.Need-returns-2
 returns-2 c =
-    let r = c .before .before .read-full2 in
-    let w = c .before .before .before .before .before in
-    of-more (r .result) (r .last .1 .0) (drop (w .word .result) (w .before .before .before .before .before .args .buf .now)) (r .ensures .0)
+    let full = c .before .before in
+    let known = full .before .before .before in
+    let counted = known .before .before in
+    of-more (full .read-full2 .result) (full .read-full2 .last .1 .0)
+    (drop (known .word .result) (counted .before .before .before .args .buf .now)) (full .read-full2 .ensures .0)
 
 pub read-part-spec : {M : Type 1} → statement M
 read-part-spec =
@@ -33,7 +32,7 @@ read-part-spec =
     (λ c. search needs)
     (λ c. search needs)
     (λ c. search needs)
-    slice-aggregate-read-full-2
+    (λ c. front _ _ (c .before .if1 .left))
     (λ c κs. search needs)
     (λ c. search needs)
     returns-2)

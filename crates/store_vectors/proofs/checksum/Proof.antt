@@ -1,9 +1,9 @@
--- `store_cases::vectors::checksum` is safe and ends: the sum stays below the modulus.
+-- `store_vectors::checksum` is safe and ends: the sum stays below the modulus.
 use Prim.Native.Nat.{_≤_, _<_, _-_}
 use native.Mathlib.Omega.{arith}
 use lib.ListN.{length}
-use Rattle.store_cases.proofs.vectors.checksum.Statement.{statement}
-use Rattle.store_cases.proofs.vectors.checksum.Tie as tie
+use Rattle.store_vectors.proofs.checksum.Statement.{statement}
+use Rattle.store_vectors.proofs.checksum.Tie as tie
 
 abbrev Inv-loop : tie.InvT-loop
 Inv-loop bytes sum₀ i₀ sum i = (i ≤ length bytes) × (sum < 4294967291)

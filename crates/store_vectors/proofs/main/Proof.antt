@@ -1,8 +1,8 @@
--- `store_cases::vectors::run_all` is safe and ends: the measure is how many vectors may still come.
+-- `store_vectors::main` is safe and ends: the measure is how many vectors may still come.
 use native.Mathlib.Omega.{arith}
 use borrow.Author.Needs.{needs}
-use Rattle.store_cases.proofs.vectors.run_all.Statement.{statement}
-use Rattle.store_cases.proofs.vectors.run_all.Tie as tie
+use Rattle.store_vectors.proofs.main.Statement.{statement}
+use Rattle.store_vectors.proofs.main.Tie as tie
 
 abbrev Inv-loop : tie.InvT-loop
 Inv-loop fd left₀ left = Unit {0}
@@ -10,8 +10,8 @@ Inv-loop fd left₀ left = Unit {0}
 abbrev μ-loop : tie.MeasureT-loop
 μ-loop fd left₀ left = left
 
-pub run-all-spec : {M : Type 1} → statement M
-run-all-spec =
+pub main-spec : {M : Type 1} → statement M
+main-spec =
     tie.close
     (tie.spec
     Inv-loop
@@ -21,8 +21,6 @@ run-all-spec =
     (λ c. search needs)
     (λ c κs. search needs)
     (λ c. search needs)
-    (λ c. search needs)
-    (λ c κs. search needs)
     (λ c. search needs)
     (λ c κs. search needs)
     (λ c. omega arith)

@@ -1,4 +1,4 @@
--- `store_cases::print::magnitude` is safe: a number from 0 on is its own size, and of one below 0 the size less 1 is -1 - n.
+-- `printing::magnitude` is safe: a number from 0 on is its own size, and of one below 0 the size less 1 is -1 - n.
 use mathlib.Core.Path.{_≡_, refl, sym, _∙_, ap, subst, subst⁻¹}
 use mathlib.Core.Bool.{Bool, true, false}
 use Prim.Native.Nat.{suc, _-_}
@@ -11,8 +11,8 @@ use lib.Signed.{mag, leZ, nonNeg}
 use mir.Syntax.{w32, w64}
 use mir.Val.{toZ, ofZ, Fits, SFits}
 use mir.Facts.{toZ-ofZ, fits-natAbs}
-use Rattle.store_cases.proofs.print.magnitude.Statement.{statement}
-use Rattle.store_cases.proofs.print.magnitude.Tie as tie
+use Rattle.printing.proofs.magnitude.Statement.{statement}
+use Rattle.printing.proofs.magnitude.Tie as tie
 
 true-false : {X : Type 0} {b : Bool} → b ≡ true → b ≡ false → X
 true-false p q = absurd (subst T (sym p ∙ q) tt)
