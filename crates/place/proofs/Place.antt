@@ -14,7 +14,7 @@ use Rattle.buffer.specs.Lists.{all, tab}
 use Rattle.buffer.specs.declared.Found.{Found}
 use Rattle.buffer.specs.declared.Found.the-variants.{At, Nowhere}
 use Rattle.buffer.proofs.Bools.{and-left, and-right, true-not-false, not-true-is-false}
-use Rattle.buffer.proofs.Lists.{all-stop, all-weaker, tab-length, tab-more}
+use Rattle.buffer.proofs.Lists.{all-stop, all-take-next, all-weaker, tab-length, tab-more}
 use Rattle.place.specs.Place.{runFrom, noRun, maxRuns, filled, apart, fits, atOr, lowest, place, isAt, greaterOf, greatest, longest}
 use Rattle.place.specs.declared.Run.{Run}
 
@@ -121,6 +121,32 @@ module _ (runs : List Run) (lo hi n : ℕ) where
       go : (t : Bool) → leb s j ≡ t → fits runs lo hi n j ≡ false
       go true k = fits-above j (let x : s ≤ j = leb-true _ _ k in omega arith)
       go false k = f j (leb-false _ _ k)
+
+-- ---- a pass over the runs
+-- after the first i of them: nothing below start fits, and where it has not moved it is apart from them
+pub record Pass (runs : List Run) (lo hi n from i start : ℕ) : Type 0 where
+  pub forward : from ≤ start
+  pub none : (j : ℕ) → j < start → fits runs lo hi n j ≡ false
+  pub clear : start ≡ from → all (apart (runFrom start n)) (take i runs) ≡ true
+
+module _ {runs : List Run} {lo hi n from i start : ℕ} (p : Pass runs lo hi n from i start) (d : Run) (inside : i < length runs) where
+  pub pass-apart : apart (runFrom start n) (getD runs i d) ≡ true → Pass runs lo hi n from (i + 1) start
+  pass-apart e =
+      record {
+        forward = p .forward;
+        none = p .none;
+        clear = λ same. all-take-next (apart (runFrom start n)) runs i d inside (p .clear same) e;
+      }
+
+  pub pass-meets : apart (runFrom start n) (getD runs i d) ≡ false
+      → Pass runs lo hi n from (i + 1) (getD runs i d .start + getD runs i d .len)
+  pass-meets e =
+      let m = meet-is _ _ e in
+      record {
+        forward = omega (arith, m .right, p .forward);
+        none = fits-none-before-end runs lo hi n start i d inside e (p .none);
+        clear = λ same. absurd (omega (arith, m .right, p .forward, same));
+      }
 
 -- ---- the lowest number that a test holds of
 module _ (p : ℕ → Bool) where
