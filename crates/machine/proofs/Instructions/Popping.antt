@@ -18,7 +18,8 @@ use Rattle.number.specs.Text.{textOf}
 use Rattle.number.specs.declared.instruction.Types.{Types}
 use Rattle.number.specs.declared.instruction.Types.the-variants.{AnyNumber, AnyString, AnyValue}
 use Rattle.number.proofs.Texts.{text-short}
-use Rattle.store.specs.Name.{trimmed, unlessZero}
+use Rattle.store.specs.Name.{trimmed}
+use Rattle.store.proofs.Names.{trimmed-short}
 use Rattle.variable.specs.Good.{goodSize}
 use Rattle.variable.specs.Limits.{maxString}
 use Rattle.machine.specs.Effect.{number, printed}
@@ -26,15 +27,6 @@ use Rattle.machine.specs.Limits.{stackSize}
 use Rattle.machine.specs.Stack.{Item, Popped, popped, cannot, pop, popNumber, popString, stringKind}
 use Rattle.machine.specs.Stack.{unlessFault, wellFormed}
 use Rattle.buffer.proofs.Disjunctions.{or-cases}
-
-pub trimmed-short : (l : List ℕ) → length (trimmed l) ≤ length l
-unfolding trimmed
-trimmed-short [] = omega arith
-trimmed-short (b ∷ l) = go (eqb b 0) (trimmed-short l)
-  where
-    go : (zero : Bool) → length (trimmed l) ≤ length l → length (unlessZero zero b (trimmed l)) ≤ length (b ∷ l)
-    go true h = omega arith
-    go false h = omega arith
 
 -- ---- the value taken off a stack, and what is left
 pub record IsString (stack : List ℕ) (item : Item) (rest : List ℕ) : Type 0 where
