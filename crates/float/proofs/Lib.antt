@@ -1,4 +1,3 @@
-pub mod Bench
 pub mod Tests
 pub mod Patterns
 pub mod Fractions

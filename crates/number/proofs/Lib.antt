@@ -1,4 +1,3 @@
-pub mod Bench
 pub mod Encoding
 pub mod Magnitude
 pub mod OneOperand
@@ -6,3 +5,4 @@ pub mod Operands
 pub mod Sizes
 pub mod Table
 pub mod Texts
+pub mod Zeros

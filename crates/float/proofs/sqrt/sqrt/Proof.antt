@@ -32,7 +32,8 @@ returns-minus-infinite c =
     let known = c .before .before .before in
     let x = decoded known .before .args .x in
     let g = known .negative .given in
-    root-minus-infinite x (g .0 .0) (subst (IsDecoded x) (g .1) (decoded known .decode .ensures)) (c .before .if1 .taken) (c .from-bits .ensures)
+    root-minus-infinite x (g .0 .0) (subst (IsDecoded x) (g .1) (decoded known .decode .ensures)) (c .before .if1 .taken)
+    (c .from-bits .ensures)
 
 returns-infinite : tie.Need-returns-4
 returns-infinite c =
