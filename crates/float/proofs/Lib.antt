@@ -1,5 +1,4 @@
 -- The laws of crate float, by topic.
-pub mod Bench
 pub mod Tests
 pub mod Patterns
 pub mod Fractions

@@ -1,5 +1,4 @@
 -- The laws of crate number, by topic.
-pub mod Bench
 pub mod Encoding
 pub mod Magnitude
 pub mod OneOperand
@@ -7,3 +6,4 @@ pub mod Operands
 pub mod Sizes
 pub mod Table
 pub mod Texts
+pub mod Zeros

@@ -1,11 +1,20 @@
--- A number that is in no entry of a table is looked up in vain. Assumes nothing.
+-- The tables of instructions: a number that is in no entry is looked up in vain; what takes no FLOAT. Assumes nothing.
 use mathlib.Core.Path.{_≡_, refl, sym, _∙_, ap}
-use mathlib.Core.Bool.{Bool, cond}
+use mathlib.Core.Bool.{Bool, true, cond, not}
 use mathlib.Core.List.{List, [], _∷_}
 use Prim.Native.Nat.{ℕ}
 use borrow.Author.Tests.{ne-eqb}
-use Rattle.number.specs.Instruction.{lookup}
+use lib.Ieee.{Float as Binary32}
+use Rattle.buffer.specs.Lists.{all}
+use Rattle.number.specs.Instruction.{lookup, takenBy}
+use Rattle.number.specs.Value.{typeOf}
+use Rattle.number.specs.declared.Number.the-variants.{Float}
+use Rattle.number.specs.declared.operators.Arithmetic.the-variants.{Modulus}
+use Rattle.number.specs.declared.operators.Binary.the-variants.{Arithmetic as Calculates, Bitwise}
+use Rattle.number.specs.declared.operators.Connective.the-variants.{And, Or, Xor}
 use Rattle.number.specs.declared.operators.Operator.{Operator}
+use Rattle.number.specs.declared.operators.Operator.the-variants.{OfOne, OfTwo}
+use Rattle.number.specs.declared.operators.Unary.the-variants.{BitwiseNot}
 
 -- U, and that n is the number of no entry: what the last arm of a `match` knows, in the order of the arms
 abbrev pub Absent : ℕ → List (ℕ × Operator) → Type 0 → Type 0
@@ -23,3 +32,13 @@ absent n (entry ∷ table) other U u =
     let W = U × (n ≡ entry .0 → ⊥) in
     absent n table other W u
     ∙ ap (λ (t : Bool). cond t (entry .1) (lookup n table other)) (sym (ne-eqb n (entry .0) (first n table W u .1)))
+
+-- the operators that take whole numbers alone
+abbrev pub wholeOperators : List Operator
+wholeOperators =
+    OfTwo (Calculates Modulus) ∷ OfTwo (Bitwise And) ∷ OfTwo (Bitwise Or) ∷ OfTwo (Bitwise Xor) ∷ OfOne BitwiseNot ∷ []
+
+-- Document 01: "Bitwise and MODULUS refuse FLOAT": the pop refuses it, so `real Modulus` and `bitwise` of FLOATs are never asked
+pub float-refused : (x : Binary32) → all (λ o. not (takenBy o (typeOf (Float x)))) wholeOperators ≡ true
+unfolding all takenBy
+float-refused x = refl

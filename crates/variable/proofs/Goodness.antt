@@ -45,8 +45,10 @@ good-size-bounds kind size h =
 
     text : eqb kind 3 && (leb 1 size && leb size maxString) ≡ true → (1 ≤ size) × (size ≤ maxString)
     text e =
-        let b = and-right (eqb kind 3) (leb 1 size && leb size maxString) e in
-        (leb-true 1 size (and-left (leb 1 size) (leb size maxString) b), leb-true size maxString (and-right (leb 1 size) (leb size maxString) b))
+        let b = and-right (eqb kind 3) (leb 1 size && leb size maxString) e in (
+          leb-true 1 size (and-left (leb 1 size) (leb size maxString) b),
+          leb-true size maxString (and-right (leb 1 size) (leb size maxString) b),
+        )
 
 pub record GoodVariable (live : List ℕ) (e : Variable) : Type 0 where
   pub size : goodSize (e .kind) (e .size) ≡ true
@@ -93,7 +95,8 @@ module _ (live : List ℕ) (v : Variables) where
   is-good-variables g = and-both (le-leb _ _ (g .few)) (and-both (g .each) (g .pairwise))
 
   -- what is found in a good table is good
-  pub found-good : (name id i : ℕ) → goodVariables live v ≡ true → find v name id ≡ At i → GoodVariable live (getD (v .entries) i noVariable)
+  pub found-good : (name id i : ℕ) → goodVariables live v ≡ true → find v name id ≡ At i
+      → GoodVariable live (getD (v .entries) i noVariable)
   found-good name id i h e = good-variable-is live (getD (v .entries) i noVariable)
       (held-at v name id i e (goodVariable live) (good-variables-is h .each) .holds)
 

@@ -14,7 +14,9 @@ add8-spec =
     (λ c κs. search needs)
     (λ c κs. search needs)
     (λ c.
-    let s = c .before .before .before .before in
-    add-wraps w8 (s .args .a) (s .args .b) (s .fits .a) (s .fits .b) (c .before .wrapping-add-u8 .result)
-    (c .before .before .before .bits8 .ensures) (c .before .before .bits82 .ensures) (c .signed8 .ensures)
-    (c .before .wrapping-add-u8 .ensures)))
+    let wrap = c .before in
+    let first = wrap .before .before in
+    let s = first .before in
+    add-wraps w8 (s .args .a) (s .args .b) (s .fits .a) (s .fits .b) (wrap .wrapping-add-u8 .result)
+    (first .bits8 .ensures) (wrap .before .bits82 .ensures) (c .signed8 .ensures)
+    (wrap .wrapping-add-u8 .ensures)))

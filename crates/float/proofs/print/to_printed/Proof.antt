@@ -1,49 +1,34 @@
--- `float::print::to_printed` meets its contract. Assumes nothing.
+-- What is printed, by what `decode` makes of the value and by its exponent. Assumes nothing.
 use native.Mathlib.Omega.{arith}
+use Rattle.float.specs.Decode.{IsFinite}
 use Rattle.float.proofs.Values.{finite, printed-infinite, printed-minus, printed-nan, printed-overflow, printed-plus}
 use borrow.Author.Needs.{needs}
 use Rattle.float.proofs.print.to_printed.Statement.{statement}
 use Rattle.float.proofs.print.to_printed.Tie as tie
 
-mul-whole-size : tie.Need-mul-whole-size
-mul-whole-size c =
-    let start = c .before .before .before .before .before in
-    let d = finite (start .args .x) (c .before .before .before .before .decode .ensures) (c .before .before .negative2 .given .1) in
-    omega (arith, d .short)
+-- ---- the states: x taken apart, and finite of these parts
+abbrev decoded : tie.After-negative2 → tie.After-decode
+decoded c = c .before .before
 
-whole-size-requires : tie.Need-whole-size-requires
-whole-size-requires c κs =
-    let start = c .before .before .before .before .before in
-    let d = finite (start .args .x) (c .before .before .before .before .decode .ensures) (c .before .before .negative2 .given .1) in
-    omega (arith, d .short, c .if1 .taken)
+parts : (c : tie.After-known-told2) → let g = c .before .negative2 .given .0 in
+    IsFinite (decoded (c .before) .before .args .x) (g .0) (g .1 .0) (g .1 .1 .0)
+parts c = let k = c .before in finite (decoded k .before .args .x) (decoded k .decode .ensures) (k .negative2 .given .1)
 
-returns : tie.Need-returns
-returns c = printed-nan (c .before .before .before .args .x) (c .before .before .decode .ensures) (c .enum-told .given .1)
-
-returns-2 : tie.Need-returns-2
-returns-2 c =
+returns-infinite : tie.Need-returns-2
+returns-infinite c =
     let g = c .before .negative .given in
-    printed-infinite (c .before .before .before .before .args .x) (c .before .before .before .decode .ensures) (g .0 .0) (g .1)
+    let d = c .before .before .before in
+    printed-infinite (d .before .args .x) (d .decode .ensures) (g .0 .0) (g .1)
 
-returns-3 : tie.Need-returns-3
-returns-3 c =
-    let start = c .before .before .before .before .before .before .before in
-    let d = finite (start .args .x) (c .before .before .before .before .before .before .decode .ensures)
-    (c .before .before .before .before .negative2 .given .1) in
-    printed-minus d (c .before .before .if1 .taken) (c .if2 .taken) (c .before .whole-size .ensures)
+returns-minus : tie.Need-returns-3
+returns-minus c =
+    let small = c .before .before in
+    printed-minus (parts (small .before)) (small .if1 .taken) (c .if2 .taken) (c .before .whole-size .ensures)
 
-returns-4 : tie.Need-returns-4
-returns-4 c =
-    let start = c .before .before .before .before .before .before .before in
-    let d = finite (start .args .x) (c .before .before .before .before .before .before .decode .ensures)
-    (c .before .before .before .before .negative2 .given .1) in
-    printed-plus d (c .before .before .if1 .taken) (c .if2 .left) (c .before .whole-size .ensures)
-
-returns-5 : tie.Need-returns-5
-returns-5 c =
-    let start = c .before .before .before .before .before in
-    let d = finite (start .args .x) (c .before .before .before .before .decode .ensures) (c .before .before .negative2 .given .1) in
-    printed-overflow d (c .if1 .left)
+returns-plus : tie.Need-returns-4
+returns-plus c =
+    let small = c .before .before in
+    printed-plus (parts (small .before)) (small .if1 .taken) (c .if2 .left) (c .before .whole-size .ensures)
 
 pub to-printed-spec : {M : Type 1} → statement M
 to-printed-spec =
@@ -53,10 +38,10 @@ to-printed-spec =
     (λ c. search needs)
     (λ c. search needs)
     (λ c. search needs)
-    mul-whole-size
-    whole-size-requires
-    returns
-    returns-2
-    returns-3
-    returns-4
-    returns-5)
+    (λ c. omega (arith, parts (c .before) .short))
+    (λ c κs. omega (arith, parts (c .before) .short, c .if1 .taken))
+    (λ c. let d = c .before .before in printed-nan (d .before .args .x) (d .decode .ensures) (c .enum-told .given .1))
+    returns-infinite
+    returns-minus
+    returns-plus
+    (λ c. printed-overflow (parts (c .before)) (c .if1 .left)))

@@ -1,38 +1,41 @@
--- `float::whole::to_whole` meets its contract. Assumes nothing.
+-- The whole number, by what `decode` makes of the value and by its exponent. Assumes nothing.
 use native.Mathlib.Omega.{arith}
+use Rattle.float.specs.Decode.{IsFinite}
 use Rattle.float.proofs.Values.{finite, whole-finite, whole-infinite, whole-large, whole-nan}
 use borrow.Author.Needs.{needs}
 use Rattle.float.proofs.whole.to_whole.Statement.{statement}
 use Rattle.float.proofs.whole.to_whole.Tie as tie
 
-whole-size-requires : tie.Need-whole-size-requires
-whole-size-requires c κs =
-    let start = c .before .before .before .before .before in
-    let d = finite (start .args .x) (c .before .before .before .before .decode .ensures) (c .before .before .negative .given .1) in
-    omega (arith, d .short, c .if1 .taken)
+-- ---- the states: x taken apart, and finite of these parts
+abbrev decoded : tie.After-known-told → tie.After-decode
+decoded c = c .before .before .before
 
-returns : tie.Need-returns
-returns c =
-    let a = c .before .before .before .args in
-    whole-nan (a .x) (c .before .before .decode .ensures) (a .rounding) (a .max) (c .enum-told .given .1)
+parts : (c : tie.After-known-told) → let g = c .before .negative .given .0 in
+    IsFinite (decoded c .before .args .x) (g .0) (g .1 .0) (g .1 .1 .0)
+parts c = finite (decoded c .before .args .x) (decoded c .decode .ensures) (c .before .negative .given .1)
 
-returns-2 : tie.Need-returns-2
-returns-2 c =
-    let a = c .before .before .before .args in
-    whole-infinite (a .x) (c .before .before .decode .ensures) (a .rounding) (a .max) (c .enum-told2 .given .0 .0) (c .enum-told2 .given .1)
+returns-nan : tie.Need-returns
+returns-nan c =
+    let d = c .before .before in
+    let a = d .before .args in
+    whole-nan (a .x) (d .decode .ensures) (a .rounding) (a .max) (c .enum-told .given .1)
 
-returns-3 : tie.Need-returns-3
-returns-3 c =
-    let start = c .before .before .before .before .before .before .before in
-    let d = finite (start .args .x) (c .before .before .before .before .before .before .decode .ensures)
-    (c .before .before .before .before .negative .given .1) in
-    whole-finite d (start .args .rounding) (start .args .max) (c .before .whole-size .ensures) (c .in-range .ensures)
+returns-infinite : tie.Need-returns-2
+returns-infinite c =
+    let d = c .before .before in
+    let a = d .before .args in
+    whole-infinite (a .x) (d .decode .ensures) (a .rounding) (a .max) (c .enum-told2 .given .0 .0) (c .enum-told2 .given .1)
 
-returns-4 : tie.Need-returns-4
-returns-4 c =
-    let start = c .before .before .before .before .before in
-    let d = finite (start .args .x) (c .before .before .before .before .decode .ensures) (c .before .before .negative .given .1) in
-    whole-large d (start .args .rounding) (start .args .max) (start .fits .max .fits) (c .if1 .left)
+returns-small : tie.Need-returns-3
+returns-small c =
+    let k = c .before .before .before in
+    let a = decoded k .before .args in
+    whole-finite (parts k) (a .rounding) (a .max) (c .before .whole-size .ensures) (c .in-range .ensures)
+
+returns-large : tie.Need-returns-4
+returns-large c =
+    let s = decoded (c .before) .before in
+    whole-large (parts (c .before)) (s .args .rounding) (s .args .max) (s .fits .max .fits) (c .if1 .left)
 
 pub to-whole-spec : {M : Type 1} → statement M
 to-whole-spec =
@@ -42,9 +45,9 @@ to-whole-spec =
     (λ c. search needs)
     (λ c. search needs)
     (λ c. search needs)
-    whole-size-requires
+    (λ c κs. omega (arith, parts (c .before) .short, c .if1 .taken))
     (λ c κs. search needs)
-    returns
-    returns-2
-    returns-3
-    returns-4)
+    returns-nan
+    returns-infinite
+    returns-small
+    returns-large)

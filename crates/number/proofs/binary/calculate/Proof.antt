@@ -19,11 +19,13 @@ calculate-spec =
     (λ c. search needs)
     (λ c κs. search needs)
     (λ c.
-    let g = c .before .before .pair .given in
+    let known = c .before .before in
+    let g = known .pair .given in
     rw (g .1) (c .calculate8 .ensures ∙ on-operands w8 (g .0 .0) (g .0 .1 .0) (search needs) (search needs)
-    (whole w8 Char (c .before .before .before .before .args .operator))))
+    (whole w8 Char (known .before .before .args .operator))))
     (λ c.
-    let g = c .before .before .pair2 .given in
+    let known = c .before .before in
+    let g = known .pair2 .given in
     rw (g .1) (c .calculate16 .ensures ∙ on-operands w16 (g .0 .0) (g .0 .1 .0) (search needs) (search needs)
-    (whole w16 Int (c .before .before .before .before .args .operator))))
+    (whole w16 Int (known .before .before .args .operator))))
     (λ c. rw (c .before .before .pair3 .given .1) (c .calculate-floats .ensures)))

@@ -17,13 +17,15 @@ combine-spec =
     (λ c κs. search needs)
     (λ c. search needs)
     (λ c.
-    let g = c .before .before .pair .given in
+    let known = c .before .before in
+    let g = known .pair .given in
     rw (g .1) (combined w8 Char (g .0 .0) (g .0 .1 .0) (search needs) (search needs)
-    (wholeBits w8 (c .before .before .before .before .args .operator))
+    (wholeBits w8 (known .before .before .args .operator))
     (c .combine8 .result) (search needs) (c .combine8 .ensures)))
     (λ c.
-    let g = c .before .before .pair2 .given in
+    let known = c .before .before in
+    let g = known .pair2 .given in
     rw (g .1) (combined w16 Int (g .0 .0) (g .0 .1 .0) (search needs) (search needs)
-    (wholeBits w16 (c .before .before .before .before .args .operator))
+    (wholeBits w16 (known .before .before .args .operator))
     (c .combine16 .result) (search needs) (c .combine16 .ensures)))
     (λ c. search needs))

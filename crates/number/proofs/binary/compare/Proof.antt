@@ -21,12 +21,14 @@ compare-spec =
     (λ c. search needs)
     (λ c κs. search needs)
     (λ c.
-    let g = c .before .before .pair .given in
+    let known = c .before .before in
+    let g = known .pair .given in
     rw (g .1) (c .compare-wholes .ensures
-    ∙ ap₂ (ordered (c .before .before .before .before .args .operator)) (widened w8 w16 tt (g .0 .0) (search needs))
+    ∙ ap₂ (ordered (known .before .before .args .operator)) (widened w8 w16 tt (g .0 .0) (search needs))
     (widened w8 w16 tt (g .0 .1 .0) (search needs))))
     (λ c.
-    let g = c .before .before .pair2 .given in
+    let known = c .before .before in
+    let g = known .pair2 .given in
     rw (g .1) (c .compare-wholes2 .ensures ∙ on-operands w16 (g .0 .0) (g .0 .1 .0) (search needs) (search needs)
-    (ordered (c .before .before .before .before .args .operator))))
+    (ordered (known .before .before .args .operator))))
     (λ c. rw (c .before .before .pair3 .given .1) (c .compare-floats .ensures)))

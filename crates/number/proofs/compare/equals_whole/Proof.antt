@@ -27,5 +27,6 @@ equals-whole-spec =
     let s = c .before .before .before in
     rw (g .1) (equal-widened w16 w32 tt (g .0 .0) (s .args .z) (search needs) (s .fits .z)))
     (λ c.
-    let g = c .before .before .a3 .given in
-    rw (g .1) (c .equals-whole .ensures ∙ ap (equals (g .0 .0)) (toZ-ofZ (c .before .before .before .before .fits .z)))))
+    let known = c .before .before in
+    let g = known .a3 .given in
+    rw (g .1) (c .equals-whole .ensures ∙ ap (equals (g .0 .0)) (toZ-ofZ (known .before .before .fits .z)))))

@@ -21,11 +21,13 @@ size-within-spec =
     (λ c. search needs)
     (λ c κs. search needs)
     (λ c.
-    let g = c .before .before .a .given in
-    rw (g .1) (c .whole-size .ensures ∙ ap (λ (z : ℤ). sized (within (c .before .before .before .before .args .max) z))
+    let known = c .before .before in
+    let g = known .a .given in
+    rw (g .1) (c .whole-size .ensures ∙ ap (λ (z : ℤ). sized (within (known .before .before .args .max) z))
     (widened w8 w32 tt (g .0 .0) (search needs))))
     (λ c.
-    let g = c .before .before .a2 .given in
-    rw (g .1) (c .whole-size2 .ensures ∙ ap (λ (z : ℤ). sized (within (c .before .before .before .before .args .max) z))
+    let known = c .before .before in
+    let g = known .a2 .given in
+    rw (g .1) (c .whole-size2 .ensures ∙ ap (λ (z : ℤ). sized (within (known .before .before .args .max) z))
     (widened w16 w32 tt (g .0 .0) (search needs))))
     (λ c. rw (c .before .before .a3 .given .1) (c .to-size .ensures)))

@@ -25,21 +25,17 @@ float-text-spec =
     (λ c κs. search needs)
     (λ c. search needs)
     (λ c κs.
-    omega (
-      arith,
-      hundredths-bound (c .before .before .before .before .args .x)
-          (sym (c .before .negative3 .given .1) ∙ c .before .before .before .to-printed .ensures),
-    ))
+    let printed = c .before .before .before in
+    omega (arith, hundredths-bound (printed .before .args .x) (sym (c .before .negative3 .given .1) ∙ printed .to-printed .ensures)))
     (λ c.
-    rw (sym (c .before .before .before .before .before .to-printed .ensures)
-    ∙ c .before .before .before .enum-told .given .1) (c .signed .ensures))
+    let told = c .before .before .before in
+    rw (sym (told .before .before .to-printed .ensures) ∙ told .enum-told .given .1) (c .signed .ensures))
     (λ c.
-    rw (sym (c .before .before .before .before .before .before .to-printed .ensures)
-    ∙ c .before .before .before .before .negative .given .1)
-    (c .signed2 .ensures))
+    let known = c .before .before .before in
+    rw (sym (known .before .before .before .to-printed .ensures) ∙ known .before .negative .given .1) (c .signed2 .ensures))
     (λ c.
-    rw (sym (c .before .before .before .before .before .before .to-printed .ensures)
-    ∙ c .before .before .before .before .negative2 .given .1)
-    (c .signed3 .ensures))
-    (λ c. rw (sym (c .before .before .before .before .to-printed .ensures)
-    ∙ c .before .before .negative3 .given .1) (c .hundredths-text .ensures)))
+    let known = c .before .before .before in
+    rw (sym (known .before .before .before .to-printed .ensures) ∙ known .before .negative2 .given .1) (c .signed3 .ensures))
+    (λ c.
+    let known = c .before in
+    rw (sym (known .before .before .before .to-printed .ensures) ∙ known .before .negative3 .given .1) (c .hundredths-text .ensures)))

@@ -4,6 +4,10 @@ use Rattle.number.proofs.Texts.{laid-out}
 use Rattle.number.proofs.text.join.Statement.{statement}
 use Rattle.number.proofs.text.join.Tie as tie
 
+-- the parts known, before the first was written
+abbrev start : tie.After-overwrite-at → tie.Start
+start c = let lent = c .before .before in lent .before .before .before
+
 pub join-spec : {M : Type 1} → statement M
 join-spec =
     tie.close
@@ -18,8 +22,9 @@ join-spec =
     (λ c. search needs)
     (λ c. search needs)
     (λ c.
-    let s = c .before .before .before .before .before .before .before .before .before .before .before .before in
-    laid-out (s .args .head .now) (s .args .body .now) (s .args .tail .now)
-    (c .before .before .before .before .before .before .before .overwrite-at .ensures)
-    (c .before .before .before .before .overwrite-at2 .ensures)
-    (c .before .overwrite-at3 .ensures)))
+    let third = c .before in
+    let second = third .before .before .before in
+    let first = second .before .before .before in
+    let a = start first .args in
+    laid-out (a .head .now) (a .body .now) (a .tail .now)
+    (first .overwrite-at .ensures) (second .overwrite-at2 .ensures) (third .overwrite-at3 .ensures)))

@@ -21,7 +21,9 @@ signed-decimal-spec =
     (λ c. let ten : length (c .before .before .digits-of .result .bytes) ≡ maxDigits = search needs in omega arith)
     (λ c κs. search needs)
     (λ c.
-    let d = c .before .before .before .before .digits-of in
-    let a = c .before .before .before .before .before .before .args in
+    let lent = c .before .before in
+    let made = lent .before .before in
+    let d = made .digits-of in
+    let a = made .before .before .args in
     c .signed .ensures ∙ ap (λ (l : List ℕ). laid (sign (a .negative) ++ (l ++ a .tail .now)))
     (digits-part (a .n) (d .result) (d .ensures .0))))

@@ -26,9 +26,10 @@ write-spec =
     (λ c. search needs)
     (λ c κs. search needs)
     (λ c.
-    let g = c .before .before .before .before .before .a .given in
+    let byte = c .before .before .before in
+    let g = byte .before .before .a .given in
     rw (g .1) (c .signed .ensures ∙ ap (λ (n : ℕ). laid (n ∷ []))
-    (c .before .before .before .bits8 .ensures ∙ ap (ofZ w8) (toZ-ofZ {w = w8} {z = g .0 .0} (search needs)))))
+    (byte .bits8 .ensures ∙ ap (ofZ w8) (toZ-ofZ {w = w8} {z = g .0 .0} (search needs)))))
     (λ c.
     let g = c .before .before .a2 .given in
     rw (g .1) (c .int-text .ensures ∙ ap (λ (z : ℤ). laid (wholeText z)) (toZ-ofZ {w = w16} {z = g .0 .0} (search needs))))

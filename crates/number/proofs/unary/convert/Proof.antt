@@ -20,11 +20,13 @@ convert-spec =
     (λ c. search needs)
     (λ c κs. search needs)
     (λ c.
-    let g = c .before .before .a .given in
-    rw (g .1) (c .convert-whole .ensures ∙ ap (convertedWhole (c .before .before .before .before .args .conversion))
+    let known = c .before .before in
+    let g = known .a .given in
+    rw (g .1) (c .convert-whole .ensures ∙ ap (convertedWhole (known .before .before .args .conversion))
     (widened w8 w16 tt (g .0 .0) (search needs))))
     (λ c.
-    let g = c .before .before .a2 .given in
-    rw (g .1) (c .convert-whole2 .ensures ∙ ap (convertedWhole (c .before .before .before .before .args .conversion))
+    let known = c .before .before in
+    let g = known .a2 .given in
+    rw (g .1) (c .convert-whole2 .ensures ∙ ap (convertedWhole (known .before .before .args .conversion))
     (toZ-ofZ {w = w16} {z = g .0 .0} (search needs))))
     (λ c. rw (c .before .before .a3 .given .1) (c .convert-float .ensures)))

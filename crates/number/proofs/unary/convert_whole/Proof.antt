@@ -21,8 +21,8 @@ convert-whole-spec =
     (λ c. search needs)
     (λ c. search needs)
     (λ c.
-    rw (c .before .before .enum-told .given .1) (cc
-    (toZ-ofZ {w = w8} {z = c .signed8 .result} (search needs), toZ-ofZ (c .before .before .before .before .fits .x))))
+    let told = c .before .before in
+    rw (told .enum-told .given .1) (cc (toZ-ofZ {w = w8} {z = c .signed8 .result} (search needs), toZ-ofZ (told .before .before .fits .x))))
     (λ c. rw (c .enum-told2 .given .1) (cc (toZ-ofZ (c .before .before .fits .x))))
     (λ c. rw (c .before .enum-told3 .given .1) (cc (toZ-ofZ (c .before .before .before .fits .x))))
     (λ c. rw (c .enum-told4 .given .1) (cc (toZ-ofZ (c .before .before .fits .x))))

@@ -16,15 +16,13 @@ float-to-char-spec =
     (λ c. search needs)
     (λ c.
     let g = c .before .z .given in
-    narrows w8 (omega arith) TowardZero (c .before .before .before .before .args .x) (c .before .before .before .to-whole .ensures)
-    (g .0 .0) (g .1)
-    (search needs))
+    let cut = c .before .before .before in
+    narrows w8 (omega arith) TowardZero (cut .before .args .x) (cut .to-whole .ensures) (g .0 .0) (g .1) (search needs))
     (λ c. search needs)
     (λ c.
     let g = c .before .z .given in
-    narrowed w8 (omega arith) TowardZero (c .before .before .before .before .args .x) (c .before .before .before .to-whole .ensures)
-    (g .0 .0) (g .1)
-    (search needs) Char)
+    let cut = c .before .before .before in
+    narrowed w8 (omega arith) TowardZero (cut .before .args .x) (cut .to-whole .ensures) (g .0 .0) (g .1) (search needs) Char)
     (λ c.
-    beyond w8 (omega arith) TowardZero (c .before .before .before .args .x) (c .before .before .to-whole .ensures)
-    (c .enum-told .given .1) Char))
+    let cut = c .before .before in
+    beyond w8 (omega arith) TowardZero (cut .before .args .x) (cut .to-whole .ensures) (c .enum-told .given .1) Char))

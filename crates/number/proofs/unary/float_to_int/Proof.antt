@@ -15,15 +15,16 @@ float-to-int-spec =
     (λ c. search needs)
     (λ c.
     let g = c .before .z .given in
-    let s = c .before .before .before .before in
-    narrows w16 (omega arith) (s .args .rounding) (s .args .x) (c .before .before .before .to-whole .ensures) (g .0 .0) (g .1)
-    (search needs))
+    let cut = c .before .before .before in
+    let a = cut .before .args in
+    narrows w16 (omega arith) (a .rounding) (a .x) (cut .to-whole .ensures) (g .0 .0) (g .1) (search needs))
     (λ c. search needs)
     (λ c.
     let g = c .before .z .given in
-    let s = c .before .before .before .before in
-    narrowed w16 (omega arith) (s .args .rounding) (s .args .x) (c .before .before .before .to-whole .ensures) (g .0 .0) (g .1)
-    (search needs) Int)
+    let cut = c .before .before .before in
+    let a = cut .before .args in
+    narrowed w16 (omega arith) (a .rounding) (a .x) (cut .to-whole .ensures) (g .0 .0) (g .1) (search needs) Int)
     (λ c.
-    let s = c .before .before .before in
-    beyond w16 (omega arith) (s .args .rounding) (s .args .x) (c .before .before .to-whole .ensures) (c .enum-told .given .1) Int))
+    let cut = c .before .before in
+    let a = cut .before .args in
+    beyond w16 (omega arith) (a .rounding) (a .x) (cut .to-whole .ensures) (c .enum-told .given .1) Int))

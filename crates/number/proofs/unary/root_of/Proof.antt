@@ -1,4 +1,4 @@
--- By the type and the sign.
+-- By the type and the sign: `plus` is where the operand is known not to be negative.
 use borrow.Author.Needs.{needs}
 use mir.Syntax.{w8, w16}
 use Rattle.number.specs.declared.Number.the-variants.{Char, Int}
@@ -15,29 +15,29 @@ root-of-spec =
     (λ c. search needs)
     (λ c κs. search needs)
     (λ c.
-    root-fits w8 Char (c .before .before .before .before .a .given .0 .0) (search needs) (c .before .before .if1 .left)
-    (c .whole-root .result)
+    let plus = c .before .before in
+    root-fits w8 Char (plus .before .before .a .given .0 .0) (search needs) (plus .if1 .left) (c .whole-root .result)
     (c .before .bits8 .ensures) (c .whole-root .ensures))
     (λ c. search needs)
     (λ c κs. search needs)
     (λ c. search needs)
     (λ c κs. search needs)
     (λ c.
-    root-fits w16 Int (c .before .before .before .before .a2 .given .0 .0) (search needs) (c .before .before .if2 .left)
-    (c .whole-root2 .result)
+    let plus = c .before .before in
+    root-fits w16 Int (plus .before .before .a2 .given .0 .0) (search needs) (plus .if2 .left) (c .whole-root2 .result)
     (c .before .bits16 .ensures) (c .whole-root2 .ensures))
     (λ c. search needs)
     (λ c κs. search needs)
-    (λ c. rw (c .before .before .a .given .1) (root-negative w8 Char (c .before .before .a .given .0 .0) (search needs) (c .if1 .taken)))
+    (λ c. let g = c .before .before .a .given in rw (g .1) (root-negative w8 Char (g .0 .0) (search needs) (c .if1 .taken)))
     (λ c.
-    let g = c .before .before .before .before .a .given in
-    rw (g .1) (root-reads w8 Char (g .0 .0) (search needs) (c .before .before .if1 .left) (c .whole-root .result)
-    (c .before .bits8 .ensures)
-    (c .whole-root .ensures)))
-    (λ c. rw (c .before .before .a2 .given .1) (root-negative w16 Int (c .before .before .a2 .given .0 .0) (search needs) (c .if2 .taken)))
+    let plus = c .before .before in
+    let g = plus .before .before .a .given in
+    rw (g .1) (root-reads w8 Char (g .0 .0) (search needs) (plus .if1 .left) (c .whole-root .result)
+    (c .before .bits8 .ensures) (c .whole-root .ensures)))
+    (λ c. let g = c .before .before .a2 .given in rw (g .1) (root-negative w16 Int (g .0 .0) (search needs) (c .if2 .taken)))
     (λ c.
-    let g = c .before .before .before .before .a2 .given in
-    rw (g .1) (root-reads w16 Int (g .0 .0) (search needs) (c .before .before .if2 .left) (c .whole-root2 .result)
-    (c .before .bits16 .ensures)
-    (c .whole-root2 .ensures)))
+    let plus = c .before .before in
+    let g = plus .before .before .a2 .given in
+    rw (g .1) (root-reads w16 Int (g .0 .0) (search needs) (plus .if2 .left) (c .whole-root2 .result)
+    (c .before .bits16 .ensures) (c .whole-root2 .ensures)))
     (λ c. rw (c .before .before .a3 .given .1) (cc)))

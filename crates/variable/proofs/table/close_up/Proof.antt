@@ -37,7 +37,8 @@ loop-again c =
     let z = c .before .before .no-variable in (
       omega arith,
       closed-more (stays (a .every) (a .name) (a .owner)) noVariable (a .t2) (l .loop .i) (l .loop .kept) (l .loop .entries)
-          (z .result) (omega arith) (l .loop .inv .1) (z .ensures) (ap not (sym (c .before .is-gone .ensures) ∙ not-true _ (c .if1 .taken))),
+          (z .result) (omega arith) (l .loop .inv .1) (z .ensures)
+          (ap not (sym (c .before .is-gone .ensures) ∙ not-true _ (c .if1 .taken))),
     )
 
 loop-again-2 : tie.Need-loop-again-2 Inv-loop μ-loop
@@ -48,7 +49,8 @@ loop-again-2 c =
     let z = c .before .before .no-variable in (
       omega arith,
       closed-gone (stays (a .every) (a .name) (a .owner)) noVariable (a .t2) (l .loop .i) (l .loop .kept) (l .loop .entries)
-          (z .result) (omega arith) (l .loop .inv .1) (z .ensures) (ap not (sym (c .before .is-gone .ensures) ∙ not-false _ (c .if1 .left))),
+          (z .result) (omega arith) (l .loop .inv .1) (z .ensures)
+          (ap not (sym (c .before .is-gone .ensures) ∙ not-false _ (c .if1 .left))),
     )
 
 returns : tie.Need-returns Inv-loop μ-loop
