@@ -6,7 +6,7 @@ use Prim.Native.Nat.{ℕ}
 use borrow.Author.Tests.{ne-eqb}
 use lib.Ieee.{Float as Binary32}
 use Rattle.buffer.specs.Lists.{all}
-use Rattle.number.specs.Instruction.{lookup, takenBy}
+use Rattle.number.specs.Instruction.{includes, lookup, typesOf}
 use Rattle.number.specs.Value.{typeOf}
 use Rattle.number.specs.declared.Number.the-variants.{Float}
 use Rattle.number.specs.declared.operators.Arithmetic.the-variants.{Modulus}
@@ -39,6 +39,6 @@ wholeOperators =
     OfTwo (Calculates Modulus) ∷ OfTwo (Bitwise And) ∷ OfTwo (Bitwise Or) ∷ OfTwo (Bitwise Xor) ∷ OfOne BitwiseNot ∷ []
 
 -- Document 01: "Bitwise and MODULUS refuse FLOAT": the pop refuses it, so `real Modulus` and `bitwise` of FLOATs are never asked
-pub float-refused : (x : Binary32) → all (λ o. not (takenBy o (typeOf (Float x)))) wholeOperators ≡ true
-unfolding all takenBy
+pub float-refused : (x : Binary32) → all (λ o. not (includes (typesOf o) (typeOf (Float x)))) wholeOperators ≡ true
+unfolding all includes
 float-refused x = refl
