@@ -1,11 +1,11 @@
 -- Tables of records that take the same number of bytes each, read and written one record at a time.
 use Prim.Native.Nat.{ℕ, _+_, _*_, _≤_, _<_}
 use mathlib.Core.Path.{_≡_, refl, sym, ap, _∙_}
-use mathlib.Core.List.{List, [], _++_}
+use mathlib.Core.List.{List, [], _++_, append-nil}
 use native.Mathlib.Nat.{suc-mul}
 use native.Mathlib.Numerals.{add-one}
 use native.Mathlib.Omega.{arith}
-use lib.ListN.{length, getD, take, set, length-append, length-set}
+use lib.ListN.{length, getD, take, set, drop-of-length-le, length-append, length-set}
 use lib.Seq.{paste-zero, take-all, take-suc}
 use Rattle.buffer.specs.Buffer.{overwrite}
 use Rattle.buffer.specs.Lists.{flat, tab}
@@ -59,5 +59,17 @@ module _ {A : Type 0} (encode : A → List ℕ) (width : ℕ) (l : List A) (at :
             ∙ ap (overwrite before at) (sym (flat-next i d h));
       }
 
+  -- all of them
   pub laid-all : (after : List ℕ) (i : ℕ) → Laid after i → length l ≤ i → after ≡ overwrite before at (flat encode l)
   laid-all after i p h = p .bytes ∙ ap (λ (m : List A). overwrite before at (flat encode m)) (take-all i l h)
+
+  -- where they fill the list to its end
+  pub laid-to-end : (after : List ℕ) (i : ℕ) → Laid after i → length l ≤ i → at + length l * width ≡ length before
+      → after ≡ take at before ++ flat encode l
+  laid-to-end after i p h end =
+      let few = p .few in
+      let m : i ≡ length l = omega arith in
+      let n : length (flat encode l) ≡ length l * width = rw (take-all i l h, m) at (p .size) in
+      laid-all after i p h
+      ∙ ap (λ (r : List ℕ). take at before ++ flat encode l ++ r) (drop-of-length-le before {i = at + length (flat encode l)} (omega arith))
+      ∙ append-nil (take at before ++ flat encode l)

@@ -9,8 +9,8 @@ use machine::limits::SLOT_COUNT;
 use store::Entry;
 use store::layout::NAME_SIZE;
 ghost use mathlib.Core.Path.{_≡_};
-ghost use lib.ListN.{length};
-ghost use Rattle.buffer.specs.Buffer.{overwrite};
+ghost use mathlib.Core.List.{_++_};
+ghost use lib.ListN.{length, take};
 ghost use Rattle.buffer.specs.Lists.{flat};
 ghost use Rattle.machine.specs.Area.{kernelOf, processBytes, processOf};
 ghost use Rattle.machine.specs.GoodArea.{isOpenIn, isProgram};
@@ -34,9 +34,10 @@ pub fn processes_of(area: &[u8]) -> [Process; SLOT_COUNT]
     processes
 }
 
+// The records fill the area to its end.
 pub fn put_processes(area: &mut [u8], processes: [Process; SLOT_COUNT])
     requires { ⌜ length (now area) ≡ areaLength ⌝ }
-    ensures { λ _. ⌜ now (area .exit) ≡ overwrite (now (area .entry)) recordsAt (flat processBytes processes) ⌝ }
+    ensures { λ _. ⌜ now (area .exit) ≡ take recordsAt (now (area .entry)) ++ flat processBytes processes ⌝ }
 {
     let mut slot: usize = 0;
     while slot < SLOT_COUNT {

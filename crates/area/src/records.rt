@@ -4,8 +4,8 @@
 use machine::OpenFile;
 use machine::Process;
 use machine::limits::NEXT_AT;
-use machine::limits::RECORDS_AT;
 use machine::limits::RECORD_SIZE;
+use machine::limits::RECORDS_AT;
 use machine::limits::STACK_SIZE;
 use place::Run;
 use store::layout::NAME_SIZE;

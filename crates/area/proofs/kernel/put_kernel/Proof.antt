@@ -1,49 +1,81 @@
+-- Variables, next ID and the zeros are laid one behind the other, and the records fill the rest.
+use Prim.Native.Nat.{ℕ, _+_}
+use mathlib.Core.Path.{_≡_, ap, _∙_}
+use mathlib.Core.List.{List, _++_}
+use native.Mathlib.Omega.{arith}
 use borrow.Author.Needs.{needs}
+use lib.ListN.{length, take, drop, length-append}
+use lib.Seq.{take-at}
+use Rattle.buffer.specs.Buffer.{overwrite, wordBytes}
+use Rattle.buffer.specs.Lists.{flat}
+use Rattle.buffer.proofs.Buffer.{overwrite-joined}
+use Rattle.variable.specs.Table.{Shaped}
+use Rattle.machine.specs.Area.{kernelBytes, processBytes}
+use Rattle.machine.specs.Limits.{nextAt, recordsAt, zerosAt, zerosSize}
+use Rattle.area.specs.Parts.{variablesBytes}
+use Rattle.area.proofs.Lengths.{head-bytes-length, headBytes, variables-bytes-length}
+use Rattle.area.proofs.Owned.{length-mapped}
 use Rattle.area.proofs.kernel.put_kernel.Statement.{statement}
 use Rattle.area.proofs.kernel.put_kernel.Tie as tie
-use Rattle.area.proofs.kernel.put_kernel.Reads as reads
-use Rattle.area.proofs.kernel.put_kernel.Lts as lts
-use Rattle.area.proofs.processes.put_processes.Reads as put-processes-reads
-use Rattle.area.proofs.records.put_next_id.Reads as put-next-id-reads
-use Rattle.area.proofs.variables.put_variables.Reads as put-variables-reads
-use Rattle.buffer.proofs.bytes.overwrite_at.Reads as overwrite-at-reads
 
--- src/kernel.rt:35:5
-put-variables-requires : tie.Need-put-variables-requires
-put-variables-requires c κs = search needs
+-- ---- the states: the parts at hand; variables, next ID and zeros laid; the records laid
+abbrev start : tie.After-processes → tie.Start
+start c = let named = c .before .before in named .before .before
 
--- src/kernel.rt:36:5
-put-next-id-requires : tie.Need-put-next-id-requires
-put-next-id-requires c κs = search needs
+abbrev read : tie.After-put-variables → tie.After-processes
+read c = c .before .before
 
--- src/kernel.rt:37:49
-slice-aggregate-overwrite-at : tie.Need-slice-aggregate-overwrite-at
-slice-aggregate-overwrite-at c = search needs
+abbrev first : tie.After-put-next-id → tie.After-put-variables
+first c = let lent = c .before .before in lent .before .before
 
--- src/kernel.rt:37:5
+abbrev second : tie.After-overwrite-at → tie.After-put-next-id
+second c = let lent = c .before .before in lent .before .before .before
+
+abbrev third : tie.After-put-processes → tie.After-overwrite-at
+third c = let lent = c .before .before in lent .before .before
+
+shaped : (s : tie.Start) → Shaped (s .args .k .variables)
+shaped s = record { memory = search needs; entries = search (needs, length-mapped) }
+
+zeros-size : (s : tie.Start) → length (s .args .k .zeros) ≡ zerosSize
+zeros-size s = search needs
+
 overwrite-at-requires : tie.Need-overwrite-at-requires
-overwrite-at-requires c κs = ?
+overwrite-at-requires c κs =
+    let lent = c .before .before in
+    let h = zeros-size (start (read (first (lent .before .before)))) in
+    omega arith
 
--- src/kernel.rt:38:5
-put-processes-requires : tie.Need-put-processes-requires
-put-processes-requires c κs = search needs
-
--- src/kernel.rt:28:1
-same-length : tie.Need-same-length
-same-length c = search needs
-
--- src/kernel.rt:28:1
 returns : tie.Need-returns
-returns c = ?
+unfolding kernelBytes
+returns c =
+    let put = c .before .before in
+    let t = third put in
+    let n = second t in
+    let v = first n in
+    let s = start (read v) in
+    let k = s .args .k in
+    let d = s .args .area .now in
+    let vb = variablesBytes (k .variables) in
+    let vn = variables-bytes-length (k .variables) (shaped s) in
+    let hn = head-bytes-length k (shaped s) (zeros-size s) in
+    let laid : t .overwrite-at .last .0 ≡ overwrite d 0 (headBytes k) =
+    t .overwrite-at .ensures
+    ∙ ap (λ (l : List ℕ). overwrite l zerosAt (k .zeros))
+    (n .put-next-id .ensures
+    ∙ ap (λ (l : List ℕ). overwrite l nextAt (wordBytes (k .next))) (v .put-variables .ensures)
+    ∙ overwrite-joined d vb (wordBytes (k .next)) 0 nextAt (omega arith) (omega arith))
+    ∙ overwrite-joined d (vb ++ wordBytes (k .next)) (k .zeros) 0 zerosAt (omega (arith, length-append vb (wordBytes (k .next)))) (omega arith) in
+    put .put-processes .ensures ∙ ap (λ (l : List ℕ). l ++ flat processBytes (k .processes)) (ap (take recordsAt) laid ∙ take-at (headBytes k) (drop (0 + length (headBytes k)) d) recordsAt hn)
 
 pub put-kernel-spec : {M : Type 1} → statement M
 put-kernel-spec =
     tie.close
     (tie.spec
-    put-variables-requires
-    put-next-id-requires
-    slice-aggregate-overwrite-at
+    (λ c κs. search needs)
+    (λ c κs. search needs)
+    (λ c. search needs)
     overwrite-at-requires
-    put-processes-requires
-    same-length
+    (λ c κs. search needs)
+    (λ c. search needs)
     returns)

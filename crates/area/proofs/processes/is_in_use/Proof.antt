@@ -1,43 +1,51 @@
+-- The loop: whether a process in a slot passed uses the file.
+use Prim.Native.Nat.{ℕ, _≤_, _-_}
+use mathlib.Core.Path.{_≡_, refl, ap, ap₂, _∙_}
+use mathlib.Core.Bool.{_||_}
+use mathlib.Core.List.{List}
+use native.Mathlib.Omega.{arith}
+use borrow.Author.Needs.{needs}
+use Rattle.buffer.specs.Lists.{any, tab}
+use Rattle.buffer.proofs.Kept.{any-snoc}
+use Rattle.buffer.proofs.Lists.{tab-more}
+use Rattle.machine.specs.Area.{kernelOf, processOf}
+use Rattle.machine.specs.Limits.{slotCount}
+use Rattle.machine.specs.Operations.{inUse, uses}
+use Rattle.area.proofs.Reading.{processIn}
 use Rattle.area.proofs.processes.is_in_use.Statement.{statement}
 use Rattle.area.proofs.processes.is_in_use.Tie as tie
-use Rattle.area.proofs.processes.is_in_use.Reads as reads
-use Rattle.area.proofs.processes.is_in_use.Lts as lts
-use Rattle.area.proofs.processes.is_user.Reads as is-user-reads
-use Rattle.area.proofs.records.record_at.Reads as record-at-reads
 
 abbrev Inv-loop : tie.InvT-loop
-Inv-loop area e used₀ slot₀ used slot = ?
+Inv-loop area e used₀ slot₀ used slot = (slot ≤ slotCount) × (used ≡ any (uses e) (tab (processIn area) slot))
 
 abbrev μ-loop : tie.MeasureT-loop
-μ-loop area e used₀ slot₀ used slot = ?
+μ-loop area e used₀ slot₀ used slot = slotCount - slot
 
--- src/processes.rt:131:5
+abbrev start : tie.At-loop Inv-loop μ-loop → tie.Start Inv-loop μ-loop
+start c = c .before .before
+
+abbrev head : tie.After-is-user Inv-loop μ-loop → tie.At-loop Inv-loop μ-loop
+head c = c .before .before .before
+
 loop-holds : tie.Need-loop-holds Inv-loop μ-loop
-loop-holds c = ?
+unfolding any tab
+loop-holds c = (omega arith, refl)
 
--- src/processes.rt:132:31
-record-at-requires : tie.Need-record-at-requires Inv-loop μ-loop
-record-at-requires c κs = ?
-
--- src/processes.rt:132:23
-is-user-requires : tie.Need-is-user-requires Inv-loop μ-loop
-is-user-requires c κs = ?
-
--- src/processes.rt:133:9
-add-slot : tie.Need-add-slot Inv-loop μ-loop
-add-slot c = ?
-
--- src/processes.rt:131:5
-loop-less : tie.Need-loop-less Inv-loop μ-loop
-loop-less c = ?
-
--- src/processes.rt:131:5
 loop-again : tie.Need-loop-again Inv-loop μ-loop
-loop-again c = ?
+loop-again c =
+    let l = head c in
+    let a = start l .args in
+    let f = processIn (a .area .now) in
+    let i = l .loop .slot in
+    let tested = c .is-user .ensures ∙ ap (λ (b : List ℕ). uses (a .e) (processOf b)) (c .before .record-at .ensures .0) in
+    (omega arith, rw (tab-more f i, any-snoc (uses (a .e)) (tab f i) (f i)) (ap₂ _||_ (l .loop .inv .1) tested))
 
--- src/processes.rt:125:1
 returns : tie.Need-returns Inv-loop μ-loop
-returns c = ?
+unfolding inUse kernelOf
+returns c =
+    let l = c .before in
+    let q : l .loop .slot ≡ slotCount = omega arith in
+    rw q at (l .loop .inv .1)
 
 pub is-in-use-spec : {M : Type 1} → statement M
 is-in-use-spec =
@@ -46,9 +54,9 @@ is-in-use-spec =
     Inv-loop
     μ-loop
     loop-holds
-    record-at-requires
-    is-user-requires
-    add-slot
-    loop-less
+    (λ c κs. search needs)
+    (λ c κs. search needs)
+    (λ c. omega arith)
+    (λ c. omega arith)
     loop-again
     returns)

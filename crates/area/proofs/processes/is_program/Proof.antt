@@ -1,10 +1,12 @@
-use Rattle.machine.specs.GoodArea.{isProgram}
+-- The record's first twelve bytes are the name.
+use mathlib.Core.Path.{sym}
+use native.Mathlib.Omega.{arith}
 use borrow.Author.Needs.{needs}
+use lib.Seq.{length-take-le}
+use Rattle.store.specs.Layout.{nameSize}
+use Rattle.machine.specs.GoodArea.{isProgram}
 use Rattle.area.proofs.processes.is_program.Statement.{statement}
 use Rattle.area.proofs.processes.is_program.Tie as tie
-
-slice-aggregate-same-bytes : tie.Need-slice-aggregate-same-bytes
-slice-aggregate-same-bytes c = ?
 
 returns : tie.Need-returns
 unfolding isProgram
@@ -14,7 +16,7 @@ pub is-program-spec : {M : Type 1} → statement M
 is-program-spec =
     tie.close
     (tie.spec
-    slice-aggregate-same-bytes
+    (λ c. let s = c .before .before .before in sym (length-take-le nameSize (s .args .bytes .now) (omega arith)))
     (λ c. search needs)
     (λ c κs. search needs)
     (λ c κs. search needs)

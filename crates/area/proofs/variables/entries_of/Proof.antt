@@ -1,50 +1,42 @@
+-- The loop: the first entries of the array are those of the area.
+use Prim.Native.Nat.{_-_}
+use mathlib.Core.Path.{refl, ap}
+use mathlib.Core.List.{[], _∷_}
+use native.Mathlib.Omega.{arith}
+use borrow.Author.Needs.{needs}
+use Rattle.buffer.specs.Lists.{tab}
+use Rattle.variable.specs.Limits.{maxVariables}
+use Rattle.variable.specs.declared.Variable.{Variable}
+use Rattle.machine.specs.Area.{variablesOf}
+use Rattle.area.proofs.Reading.{variableIn}
+use Rattle.area.proofs.Tables.{Filled, filled-all, filled-next}
 use Rattle.area.proofs.variables.entries_of.Statement.{statement}
 use Rattle.area.proofs.variables.entries_of.Tie as tie
-use Rattle.area.proofs.variables.entries_of.Reads as reads
-use Rattle.area.proofs.variables.entries_of.Lts as lts
-use Rattle.area.proofs.variables.variable_at.Reads as variable-at-reads
 
 abbrev Inv-loop : tie.InvT-loop
-Inv-loop area entries₀ i₀ entries i = ?
+Inv-loop area entries₀ i₀ entries i = Filled (variableIn area) maxVariables entries i
 
 abbrev μ-loop : tie.MeasureT-loop
-μ-loop area entries₀ i₀ entries i = ?
+μ-loop area entries₀ i₀ entries i = maxVariables - i
 
--- src/variables.rt:54:9
-variable-at-requires : tie.Need-variable-at-requires Inv-loop μ-loop
-variable-at-requires c κs = ?
+abbrev start : tie.At-loop Inv-loop μ-loop → tie.Start Inv-loop μ-loop
+start c = c .before .before .before
 
--- src/variables.rt:57:5
 loop-holds : tie.Need-loop-holds Inv-loop μ-loop
-loop-holds c = ?
+unfolding tab
+loop-holds c = record { few = omega arith; size = refl; first = ap (λ (e : Variable). e ∷ []) (c .variable-at .ensures) }
 
--- src/variables.rt:58:13
-variable-at-requires-2 : tie.Need-variable-at-requires-2 Inv-loop μ-loop
-variable-at-requires-2 c κs = ?
-
--- src/variables.rt:59:9
-mul-entries : tie.Need-mul-entries Inv-loop μ-loop
-mul-entries c = ?
-
--- src/variables.rt:59:9
-array-set-from-entries : tie.Need-array-set-from-entries Inv-loop μ-loop
-array-set-from-entries c = ?
-
--- src/variables.rt:60:9
-add-i : tie.Need-add-i Inv-loop μ-loop
-add-i c = ?
-
--- src/variables.rt:57:5
-loop-less : tie.Need-loop-less Inv-loop μ-loop
-loop-less c = ?
-
--- src/variables.rt:57:5
 loop-again : tie.Need-loop-again Inv-loop μ-loop
-loop-again c = ?
+loop-again c =
+    let l = c .before .before in
+    filled-next (variableIn (start l .args .area .now)) maxVariables (l .loop .entries) (l .loop .i) (c .variable-at2 .result) (l .loop .inv)
+    (omega arith) (c .variable-at2 .ensures)
 
--- src/variables.rt:50:1
 returns : tie.Need-returns Inv-loop μ-loop
-returns c = ?
+unfolding variablesOf
+returns c =
+    let l = c .before in
+    filled-all (variableIn (start l .args .area .now)) maxVariables (l .loop .entries) (l .loop .i) (l .loop .inv) (omega arith)
 
 pub entries-of-spec : {M : Type 1} → statement M
 entries-of-spec =
@@ -52,12 +44,12 @@ entries-of-spec =
     (tie.spec
     Inv-loop
     μ-loop
-    variable-at-requires
+    (λ c κs. search needs)
     loop-holds
-    variable-at-requires-2
-    mul-entries
-    array-set-from-entries
-    add-i
-    loop-less
+    (λ c κs. search needs)
+    (λ c. omega arith)
+    (λ c. omega arith)
+    (λ c. omega arith)
+    (λ c. omega arith)
     loop-again
     returns)

@@ -1,42 +1,66 @@
+-- Memory is laid, behind it the entries, behind them the count.
+use Prim.Native.Nat.{ℕ}
+use mathlib.Core.Path.{_≡_, ap, _∙_}
+use mathlib.Core.List.{List, [], _∷_, _++_}
+use native.Mathlib.Omega.{arith}
 use borrow.Author.Needs.{needs}
+use lib.ListN.{length, length-append, length-set}
+use Rattle.buffer.specs.Buffer.{overwrite}
+use Rattle.buffer.specs.Lists.{flat}
+use Rattle.buffer.proofs.Buffer.{overwrite-joined, overwrite-set}
+use Rattle.variable.specs.Limits.{maxVariables, memorySize}
+use Rattle.machine.specs.Area.{variableBytes}
+use Rattle.machine.specs.Limits.{countAt, entriesAt}
+use Rattle.area.proofs.Lengths.{entries-bytes-length}
+use Rattle.area.proofs.Owned.{length-mapped}
 use Rattle.area.proofs.variables.put_variables.Statement.{statement}
 use Rattle.area.proofs.variables.put_variables.Tie as tie
-use Rattle.area.proofs.variables.put_variables.Reads as reads
-use Rattle.area.proofs.variables.put_variables.Lts as lts
-use Rattle.area.proofs.variables.put_entries.Reads as put-entries-reads
-use Rattle.buffer.proofs.bytes.overwrite_at.Reads as overwrite-at-reads
 
--- src/variables.rt:98:42
-slice-aggregate-overwrite-at : tie.Need-slice-aggregate-overwrite-at
-slice-aggregate-overwrite-at c = search needs
+-- ---- the states: memory and entries at hand, memory laid, the entries laid
+abbrev start : tie.After-entries → tie.Start
+start c = c .before .before .before
 
--- src/variables.rt:98:5
+abbrev read : tie.After-overwrite-at → tie.After-entries
+read c = c .before .before .before
+
+abbrev laid : tie.After-put-entries → tie.After-overwrite-at
+laid c = let lent = c .before .before in lent .before .before
+
+sizes : (s : tie.Start) → (length (s .args .v .memory) ≡ memorySize) × (length (s .args .v .entries) ≡ maxVariables)
+sizes s = search (needs, length-mapped)
+
 overwrite-at-requires : tie.Need-overwrite-at-requires
-overwrite-at-requires c κs = ?
+overwrite-at-requires c κs =
+    let h = sizes (start (c .before .before)) in
+    omega arith
 
--- src/variables.rt:99:5
-put-entries-requires : tie.Need-put-entries-requires
-put-entries-requires c κs = search needs
-
--- src/variables.rt:100:5
-slice-write-area : tie.Need-slice-write-area
-slice-write-area c = search needs
-
--- src/variables.rt:92:1
 same-length : tie.Need-same-length
-same-length c = ?
+same-length c = simp length-set (omega arith)
 
--- src/variables.rt:92:1
 returns : tie.Need-returns
-returns c = ?
+returns c =
+    let put = c .before .before in
+    let m = laid put in
+    let s = start (read m) in
+    let v = s .args .v in
+    let d = s .args .area .now in
+    let h = sizes s in
+    let table = flat variableBytes (v .entries) in
+    let n = entries-bytes-length (v .entries) (h .1) in
+    overwrite-set (put .put-entries .last .0) countAt (v .count) (omega arith)
+    ∙ ap (λ (l : List ℕ). overwrite l countAt (v .count ∷ []))
+    (put .put-entries .ensures
+    ∙ ap (λ (l : List ℕ). overwrite l entriesAt table) (m .overwrite-at .ensures)
+    ∙ overwrite-joined d (v .memory) table 0 entriesAt (omega arith) (omega arith))
+    ∙ overwrite-joined d (v .memory ++ table) (v .count ∷ []) 0 countAt (simp length-append (omega arith)) (omega arith)
 
 pub put-variables-spec : {M : Type 1} → statement M
 put-variables-spec =
     tie.close
     (tie.spec
-    slice-aggregate-overwrite-at
+    (λ c. search needs)
     overwrite-at-requires
-    put-entries-requires
-    slice-write-area
+    (λ c κs. search needs)
+    (λ c. search needs)
     same-length
     returns)

@@ -1,0 +1,28 @@
+use Rattle.machine.specs.Area.{kernelOf}
+use borrow.Author.Needs.{needs}
+use Rattle.area.proofs.kernel.kernel_of.Statement.{statement}
+use Rattle.area.proofs.kernel.kernel_of.Tie as tie
+
+returns : tie.Need-returns
+unfolding kernelOf
+returns c =
+    let n = c .before .before in
+    let m = n .before .before in
+    let vs = m .before in
+    λ t. record {
+      variables = vs .variables-of .ensures t;
+      next = m .next-id .ensures t;
+      zeros = n .copy-part .ensures t;
+      processes = c .processes-of .ensures t;
+    }
+
+pub kernel-of-spec : {M : Type 1} → statement M
+kernel-of-spec =
+    tie.close
+    (tie.spec
+    (λ c κs. search needs)
+    (λ c κs. search needs)
+    (λ c. search needs)
+    (λ c κs. search needs)
+    (λ c κs. search needs)
+    returns)
