@@ -1,4 +1,5 @@
 pub mod Reading
+pub mod Runs
 pub mod Tables
 pub mod Owned
 pub mod Lengths

@@ -3,8 +3,8 @@ use Prim.Native.Nat.{ℕ, suc, _+_, _<_}
 use mathlib.Core.Path.{_≡_, refl, sym, ap, ap₂, _∙_}
 use mathlib.Core.List.{List, [], _∷_, _++_, append-assoc}
 use native.Mathlib.Omega.{arith}
-use lib.ListN.{length, getD, take, drop, set, length-append}
-use lib.Seq.{drop-at, set-split, split-at, take-at}
+use lib.ListN.{length, take, drop, set, length-append}
+use lib.Seq.{set-split, split-at}
 use Rattle.buffer.specs.Buffer.{overwrite, wordBytes}
 use Rattle.buffer.specs.Lists.{flat}
 use Rattle.variable.specs.Table.{Shaped}
@@ -17,13 +17,8 @@ use Rattle.machine.specs.declared.Process.{Process}
 use Rattle.machine.proofs.Bytes.Records.{process-bytes-length}
 use Rattle.machine.proofs.Bytes.Sizes.{Sized, SizedProcess, decoded-sized, with-process-sized}
 use Rattle.area.specs.Parts.{recordAt, variablesBytes}
+use Rattle.area.proofs.Runs.{overwrite-middle}
 use Rattle.area.proofs.Lengths.{head-bytes-length, headBytes, records-length, variables-bytes-length}
-
--- a run in the middle, replaced by one as long
-pub overwrite-middle : (x s t z : List ℕ) (at : ℕ) → length x ≡ at → length s ≡ length t → overwrite (x ++ s ++ z) at t ≡ x ++ t ++ z
-overwrite-middle x s t z at h e =
-    let n : length (x ++ s) ≡ at + length t = simp length-append (omega arith) in
-    ap₂ (λ (a b : List ℕ). a ++ t ++ b) (ap (take at) (append-assoc x s z) ∙ take-at x (s ++ z) at h) (drop-at (x ++ s) z (at + length t) n)
 
 -- what is made of each element before one, of that one, and of each behind it
 flat-around : {A : Type 0} (f : A → List ℕ) (l : List A) (x : A) (m : List A) → flat f (l ++ (x ∷ m)) ≡ flat f l ++ f x ++ flat f m
@@ -84,7 +79,8 @@ module _ (k : Kernel) (sized : Sized k) where
       let front = variablesBytes (k .variables) in
       let rest : List ℕ = k .zeros ++ flat processBytes (k .processes) in
       append-assoc (front ++ wordBytes next) (k .zeros) (flat processBytes (k .processes))
-      ∙ sym (overwrite-middle front (wordBytes (k .next)) (wordBytes next) rest nextAt (variables-bytes-length (k .variables) (sized .variables)) refl)
+      ∙ sym (overwrite-middle front (wordBytes (k .next)) (wordBytes next) rest nextAt
+      (variables-bytes-length (k .variables) (sized .variables)) refl)
       ∙ ap (λ (l : List ℕ). overwrite l nextAt (wordBytes next))
       (sym (append-assoc (front ++ wordBytes (k .next)) (k .zeros) (flat processBytes (k .processes))))
 

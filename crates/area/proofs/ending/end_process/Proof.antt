@@ -1,3 +1,4 @@
+-- The record is ended, and its variables are freed.
 use Rattle.machine.specs.State.{ended}
 use borrow.Author.Needs.{needs}
 use Rattle.area.proofs.ending.end_process.Statement.{statement}

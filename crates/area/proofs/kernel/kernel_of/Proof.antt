@@ -1,3 +1,4 @@
+-- The parts are read one by one.
 use Rattle.machine.specs.Area.{kernelOf}
 use borrow.Author.Needs.{needs}
 use Rattle.area.proofs.kernel.kernel_of.Statement.{statement}
@@ -6,13 +7,12 @@ use Rattle.area.proofs.kernel.kernel_of.Tie as tie
 returns : tie.Need-returns
 unfolding kernelOf
 returns c =
-    let n = c .before .before in
-    let m = n .before .before in
-    let vs = m .before in
+    let z = c .before .before in
+    let n = z .before .before in
     λ t. record {
-      variables = vs .variables-of .ensures t;
-      next = m .next-id .ensures t;
-      zeros = n .copy-part .ensures t;
+      variables = n .before .variables-of .ensures t;
+      next = n .next-id .ensures t;
+      zeros = z .copy-part .ensures t;
       processes = c .processes-of .ensures t;
     }
 

@@ -4,15 +4,15 @@ use mathlib.Core.Path.{_≡_, ap, _∙_}
 use mathlib.Core.List.{List, _++_}
 use native.Mathlib.Omega.{arith}
 use borrow.Author.Needs.{needs}
-use lib.ListN.{length, take, drop, length-append}
+use lib.ListN.{length, take, drop}
 use lib.Seq.{take-at}
 use Rattle.buffer.specs.Buffer.{overwrite, wordBytes}
 use Rattle.buffer.specs.Lists.{flat}
-use Rattle.buffer.proofs.Buffer.{overwrite-joined}
 use Rattle.variable.specs.Table.{Shaped}
 use Rattle.machine.specs.Area.{kernelBytes, processBytes}
 use Rattle.machine.specs.Limits.{nextAt, recordsAt, zerosAt, zerosSize}
 use Rattle.area.specs.Parts.{variablesBytes}
+use Rattle.area.proofs.Runs.{three-laid}
 use Rattle.area.proofs.Lengths.{head-bytes-length, headBytes, variables-bytes-length}
 use Rattle.area.proofs.Owned.{length-mapped}
 use Rattle.area.proofs.kernel.put_kernel.Statement.{statement}
@@ -56,17 +56,16 @@ returns c =
     let s = start (read v) in
     let k = s .args .k in
     let d = s .args .area .now in
-    let vb = variablesBytes (k .variables) in
     let vn = variables-bytes-length (k .variables) (shaped s) in
     let hn = head-bytes-length k (shaped s) (zeros-size s) in
     let laid : t .overwrite-at .last .0 ≡ overwrite d 0 (headBytes k) =
-    t .overwrite-at .ensures
-    ∙ ap (λ (l : List ℕ). overwrite l zerosAt (k .zeros))
-    (n .put-next-id .ensures
-    ∙ ap (λ (l : List ℕ). overwrite l nextAt (wordBytes (k .next))) (v .put-variables .ensures)
-    ∙ overwrite-joined d vb (wordBytes (k .next)) 0 nextAt (omega arith) (omega arith))
-    ∙ overwrite-joined d (vb ++ wordBytes (k .next)) (k .zeros) 0 zerosAt (omega (arith, length-append vb (wordBytes (k .next)))) (omega arith) in
-    put .put-processes .ensures ∙ ap (λ (l : List ℕ). l ++ flat processBytes (k .processes)) (ap (take recordsAt) laid ∙ take-at (headBytes k) (drop (0 + length (headBytes k)) d) recordsAt hn)
+    three-laid d (variablesBytes (k .variables)) (wordBytes (k .next)) (k .zeros) 0 nextAt zerosAt (omega arith) (omega arith) (omega arith)
+    (v .put-variables .last .0) (n .put-next-id .last .0) (t .overwrite-at .last .0) (v .put-variables .ensures)
+    (n .put-next-id .ensures) (t .overwrite-at .ensures) in
+    put .put-processes .ensures
+    ∙ ap (λ (l : List ℕ). take recordsAt l ++ flat processBytes (k .processes)) laid
+    ∙ ap (λ (l : List ℕ). l ++ flat processBytes (k .processes))
+    (take-at (headBytes k) (drop (0 + length (headBytes k)) d) recordsAt hn)
 
 pub put-kernel-spec : {M : Type 1} → statement M
 put-kernel-spec =

@@ -1,3 +1,4 @@
+-- A live record, and its ID.
 use borrow.Author.Needs.{needs}
 use Rattle.area.proofs.processes.has_id.Statement.{statement}
 use Rattle.area.proofs.processes.has_id.Tie as tie

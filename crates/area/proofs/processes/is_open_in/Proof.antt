@@ -1,3 +1,4 @@
+-- Start and length of the open file.
 use borrow.Author.Needs.{needs}
 use Rattle.area.proofs.processes.is_open_in.Statement.{statement}
 use Rattle.area.proofs.processes.is_open_in.Tie as tie

@@ -1,3 +1,4 @@
+-- A live record that runs the file or has it open.
 use borrow.Author.Needs.{needs}
 use Rattle.area.proofs.processes.is_user.Statement.{statement}
 use Rattle.area.proofs.processes.is_user.Tie as tie

@@ -1,5 +1,5 @@
 -- The loop: the first processes of the array are those of the area.
-use Prim.Native.Nat.{_-_}
+use Prim.Native.Nat.{ℕ, _-_}
 use mathlib.Core.Path.{refl, ap, _∙_}
 use mathlib.Core.List.{List, [], _∷_}
 use native.Mathlib.Omega.{arith}
@@ -19,6 +19,9 @@ Inv-loop area processes₀ slot₀ processes slot = Filled (processIn area) slot
 abbrev μ-loop : tie.MeasureT-loop
 μ-loop area processes₀ slot₀ processes slot = slotCount - slot
 
+abbrev area : tie.At-loop Inv-loop μ-loop → List ℕ
+area c = let start = c .before .before .before in start .args .area .now
+
 loop-holds : tie.Need-loop-holds Inv-loop μ-loop
 unfolding tab
 loop-holds c =
@@ -28,16 +31,14 @@ loop-holds c =
 loop-again : tie.Need-loop-again Inv-loop μ-loop
 loop-again c =
     let l = c .before .before in
-    let a = l .before .before .before .args .area .now in
-    filled-next (processIn a) slotCount (l .loop .processes) (l .loop .slot) (c .process-at2 .result) (l .loop .inv) (omega arith)
-    (c .process-at2 .ensures ∙ process-read a (l .loop .slot) (omega arith))
+    filled-next (processIn (area l)) slotCount (l .loop .processes) (l .loop .slot) (c .process-at2 .result) (l .loop .inv) (omega arith)
+    (c .process-at2 .ensures ∙ process-read (area l) (l .loop .slot) (omega arith))
 
 returns : tie.Need-returns Inv-loop μ-loop
 unfolding kernelOf
 returns c =
     let l = c .before in
-    let a = l .before .before .before .args .area .now in
-    filled-all (processIn a) slotCount (l .loop .processes) (l .loop .slot) (l .loop .inv) (omega arith)
+    filled-all (processIn (area l)) slotCount (l .loop .processes) (l .loop .slot) (l .loop .inv) (omega arith)
 
 pub processes-of-spec : {M : Type 1} → statement M
 processes-of-spec =

@@ -56,8 +56,8 @@ returns c =
     let l = c .before in
     let s = start l in
     let n = count s in
-    laid-to-end processBytes recordSize (s .args .t2) recordsAt (s .args .area .now) (l .loop .area) (l .loop .slot) (l .loop .inv) (omega arith)
-    (omega arith)
+    laid-to-end processBytes recordSize (s .args .t2) recordsAt (s .args .area .now) (l .loop .area) (l .loop .slot) (l .loop .inv)
+    (omega arith) (omega arith)
 
 pub put-processes-spec : {M : Type 1} → statement M
 put-processes-spec =

@@ -1,3 +1,4 @@
+-- The word at its place.
 use Rattle.machine.specs.Area.{kernelOf}
 use borrow.Author.Needs.{needs}
 use Rattle.area.proofs.records.next_id.Statement.{statement}

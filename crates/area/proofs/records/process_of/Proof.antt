@@ -1,3 +1,4 @@
+-- Each field is read at its place of the record's bytes.
 use borrow.Author.Needs.{needs}
 use Rattle.area.proofs.records.process_of.Statement.{statement}
 use Rattle.area.proofs.records.process_of.Tie as tie

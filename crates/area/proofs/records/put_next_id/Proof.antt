@@ -1,3 +1,4 @@
+-- Low byte first.
 use borrow.Author.Needs.{needs}
 use Rattle.area.proofs.records.put_next_id.Statement.{statement}
 use Rattle.area.proofs.records.put_next_id.Tie as tie

@@ -1,16 +1,15 @@
 -- The name is laid, behind it the registers, behind them the stack: one record's bytes.
-use Prim.Native.Nat.{ℕ, _+_}
+use Prim.Native.Nat.{_+_}
 use mathlib.Core.Path.{_≡_, ap, _∙_}
-use mathlib.Core.List.{List, _++_}
 use native.Mathlib.Omega.{arith}
 use borrow.Author.Needs.{needs}
-use lib.ListN.{length, length-append}
+use lib.ListN.{length}
 use Rattle.buffer.specs.Buffer.{overwrite}
-use Rattle.buffer.proofs.Buffer.{overwrite-joined}
 use Rattle.store.specs.Layout.{nameSize}
 use Rattle.machine.specs.Area.{registerBytes, stackAt}
 use Rattle.machine.specs.Limits.{stackSize}
 use Rattle.area.specs.Parts.{recordAt}
+use Rattle.area.proofs.Runs.{three-laid}
 use Rattle.area.proofs.records.put_process.Statement.{statement}
 use Rattle.area.proofs.records.put_process.Tie as tie
 
@@ -53,13 +52,10 @@ returns c =
     let d = s .args .area .now in
     let at = recordAt (s .args .slot) in
     let h = sizes s in
-    laid .overwrite-at3 .ensures
-    ∙ ap (λ (l : List ℕ). overwrite l (at + stackAt) (p .stack))
-    (f .overwrite-at2 .ensures
-    ∙ ap (λ (l : List ℕ). overwrite l (at + nameSize) (m .register-bytes .result)) (n .overwrite-at .ensures)
-    ∙ overwrite-joined d (p .name) (m .register-bytes .result) at (at + nameSize) (omega arith) (omega arith)
-    ∙ ap (λ (l : List ℕ). overwrite d at (p .name ++ l)) (m .register-bytes .ensures))
-    ∙ overwrite-joined d (p .name ++ registerBytes p) (p .stack) at (at + stackAt) (simp length-append (omega arith)) (omega arith)
+    three-laid d (p .name) (registerBytes p) (p .stack) at (at + nameSize) (at + stackAt) (omega arith) (omega arith) (omega arith)
+    (n .overwrite-at .last .0) (f .overwrite-at2 .last .0) (laid .overwrite-at3 .last .0) (n .overwrite-at .ensures)
+    (f .overwrite-at2 .ensures ∙ ap (overwrite (n .overwrite-at .last .0) (at + nameSize)) (m .register-bytes .ensures))
+    (laid .overwrite-at3 .ensures)
 
 pub put-process-spec : {M : Type 1} → statement M
 put-process-spec =

@@ -1,3 +1,4 @@
+-- The fields in order, each word low byte first.
 use borrow.Author.Needs.{needs}
 use Rattle.area.proofs.records.register_bytes.Statement.{statement}
 use Rattle.area.proofs.records.register_bytes.Tie as tie

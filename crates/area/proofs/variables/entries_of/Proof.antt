@@ -1,7 +1,7 @@
 -- The loop: the first entries of the array are those of the area.
-use Prim.Native.Nat.{_-_}
+use Prim.Native.Nat.{ℕ, _-_}
 use mathlib.Core.Path.{refl, ap}
-use mathlib.Core.List.{[], _∷_}
+use mathlib.Core.List.{List, [], _∷_}
 use native.Mathlib.Omega.{arith}
 use borrow.Author.Needs.{needs}
 use Rattle.buffer.specs.Lists.{tab}
@@ -19,8 +19,8 @@ Inv-loop area entries₀ i₀ entries i = Filled (variableIn area) maxVariables 
 abbrev μ-loop : tie.MeasureT-loop
 μ-loop area entries₀ i₀ entries i = maxVariables - i
 
-abbrev start : tie.At-loop Inv-loop μ-loop → tie.Start Inv-loop μ-loop
-start c = c .before .before .before
+abbrev area : tie.At-loop Inv-loop μ-loop → List ℕ
+area c = let start = c .before .before .before in start .args .area .now
 
 loop-holds : tie.Need-loop-holds Inv-loop μ-loop
 unfolding tab
@@ -29,14 +29,14 @@ loop-holds c = record { few = omega arith; size = refl; first = ap (λ (e : Vari
 loop-again : tie.Need-loop-again Inv-loop μ-loop
 loop-again c =
     let l = c .before .before in
-    filled-next (variableIn (start l .args .area .now)) maxVariables (l .loop .entries) (l .loop .i) (c .variable-at2 .result) (l .loop .inv)
+    filled-next (variableIn (area l)) maxVariables (l .loop .entries) (l .loop .i) (c .variable-at2 .result) (l .loop .inv)
     (omega arith) (c .variable-at2 .ensures)
 
 returns : tie.Need-returns Inv-loop μ-loop
 unfolding variablesOf
 returns c =
     let l = c .before in
-    filled-all (variableIn (start l .args .area .now)) maxVariables (l .loop .entries) (l .loop .i) (l .loop .inv) (omega arith)
+    filled-all (variableIn (area l)) maxVariables (l .loop .entries) (l .loop .i) (l .loop .inv) (omega arith)
 
 pub entries-of-spec : {M : Type 1} → statement M
 entries-of-spec =

@@ -46,7 +46,8 @@ loop-again c =
     let n = count s in
     laid-next variableBytes entrySize (s .args .t2) entriesAt (s .args .area .now) (l .loop .area) _ i noVariable (l .loop .inv)
     (omega arith) (omega arith) refl
-    (laid .overwrite-at .ensures ∙ ap (λ (b : List ℕ). overwrite (l .loop .area) (entriesAt + i * entrySize) b) (m .variable-bytes .ensures))
+    (laid .overwrite-at .ensures
+    ∙ ap (λ (b : List ℕ). overwrite (l .loop .area) (entriesAt + i * entrySize) b) (m .variable-bytes .ensures))
 
 returns : tie.Need-returns Inv-loop μ-loop
 returns c =

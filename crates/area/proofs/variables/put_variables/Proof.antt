@@ -1,17 +1,16 @@
 -- Memory is laid, behind it the entries, behind them the count.
-use Prim.Native.Nat.{ℕ}
-use mathlib.Core.Path.{_≡_, ap, _∙_}
-use mathlib.Core.List.{List, [], _∷_, _++_}
+use mathlib.Core.Path.{_≡_}
+use mathlib.Core.List.{[], _∷_}
 use native.Mathlib.Omega.{arith}
 use borrow.Author.Needs.{needs}
-use lib.ListN.{length, length-append, length-set}
-use Rattle.buffer.specs.Buffer.{overwrite}
+use lib.ListN.{length, set, length-set}
 use Rattle.buffer.specs.Lists.{flat}
-use Rattle.buffer.proofs.Buffer.{overwrite-joined, overwrite-set}
+use Rattle.buffer.proofs.Buffer.{overwrite-set}
 use Rattle.variable.specs.Limits.{maxVariables, memorySize}
 use Rattle.machine.specs.Area.{variableBytes}
 use Rattle.machine.specs.Limits.{countAt, entriesAt}
 use Rattle.area.proofs.Lengths.{entries-bytes-length}
+use Rattle.area.proofs.Runs.{three-laid}
 use Rattle.area.proofs.Owned.{length-mapped}
 use Rattle.area.proofs.variables.put_variables.Statement.{statement}
 use Rattle.area.proofs.variables.put_variables.Tie as tie
@@ -45,14 +44,10 @@ returns c =
     let v = s .args .v in
     let d = s .args .area .now in
     let h = sizes s in
-    let table = flat variableBytes (v .entries) in
     let n = entries-bytes-length (v .entries) (h .1) in
-    overwrite-set (put .put-entries .last .0) countAt (v .count) (omega arith)
-    ∙ ap (λ (l : List ℕ). overwrite l countAt (v .count ∷ []))
-    (put .put-entries .ensures
-    ∙ ap (λ (l : List ℕ). overwrite l entriesAt table) (m .overwrite-at .ensures)
-    ∙ overwrite-joined d (v .memory) table 0 entriesAt (omega arith) (omega arith))
-    ∙ overwrite-joined d (v .memory ++ table) (v .count ∷ []) 0 countAt (simp length-append (omega arith)) (omega arith)
+    three-laid d (v .memory) (flat variableBytes (v .entries)) (v .count ∷ []) 0 entriesAt countAt (omega arith) (omega arith) (omega arith)
+    (m .overwrite-at .last .0) (put .put-entries .last .0) (set (put .put-entries .last .0) countAt (v .count)) (m .overwrite-at .ensures)
+    (put .put-entries .ensures) (overwrite-set (put .put-entries .last .0) countAt (v .count) (omega arith))
 
 pub put-variables-spec : {M : Type 1} → statement M
 put-variables-spec =

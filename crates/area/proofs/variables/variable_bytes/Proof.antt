@@ -1,3 +1,4 @@
+-- The entry's fields in order, the owner low byte first.
 use borrow.Author.Needs.{needs}
 use Rattle.area.proofs.variables.variable_bytes.Statement.{statement}
 use Rattle.area.proofs.variables.variable_bytes.Tie as tie

@@ -1,3 +1,4 @@
+-- Memory, the entries and the count are read one by one.
 use Rattle.machine.specs.Area.{kernelOf, variablesOf}
 use borrow.Author.Needs.{needs}
 use Rattle.area.proofs.variables.variables_of.Statement.{statement}
