@@ -19,7 +19,7 @@ use Rattle.machine.specs.declared.Kernel.{Kernel}
 use Rattle.machine.specs.declared.Process.{Process}
 use Rattle.machine.proofs.Bytes.FixedWidth.{Encoded, flat-length}
 use Rattle.machine.proofs.Bytes.Records.{process-bytes-length, process-decode-encode, variable-decode-encode}
-use Rattle.machine.proofs.Bytes.Sizes.{Sized, SizedProcess}
+use Rattle.machine.proofs.Bytes.Sizes.{SizedProcess}
 use Rattle.area.specs.Parts.{recordAt, variablesBytes}
 
 pub entries-bytes-length : (l : List Variable) → length l ≡ maxVariables → length (flat variableBytes l) ≡ maxVariables * entrySize

@@ -10,7 +10,7 @@ use Rattle.buffer.specs.Lists.{flat}
 use Rattle.variable.specs.Table.{Shaped}
 use Rattle.variable.specs.declared.Variables.{Variables}
 use Rattle.machine.specs.Area.{Whole, kernelBytes, kernelOf, processBytes}
-use Rattle.machine.specs.Limits.{areaLength, nextAt, recordsAt, slotCount}
+use Rattle.machine.specs.Limits.{areaLength, nextAt, slotCount}
 use Rattle.machine.specs.State.{noProcess, processAt, withProcess, withVariables}
 use Rattle.machine.specs.declared.Kernel.{Kernel}
 use Rattle.machine.specs.declared.Process.{Process}

@@ -10,7 +10,7 @@ use machine::limits::STACK_SIZE;
 use place::Run;
 use store::layout::NAME_SIZE;
 ghost use mathlib.Core.Path.{_≡_};
-ghost use Prim.Native.Nat.{_+_, _<_, _≤_};
+ghost use Prim.Native.Nat.{_<_};
 ghost use lib.ListN.{length};
 ghost use Rattle.buffer.specs.Buffer.{overwrite, part, wordBytes};
 ghost use Rattle.machine.specs.Area.{kernelOf, processBytes, processOf, registerBytes};

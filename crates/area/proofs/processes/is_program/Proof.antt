@@ -10,7 +10,9 @@ use Rattle.area.proofs.processes.is_program.Tie as tie
 
 returns : tie.Need-returns
 unfolding isProgram
-returns c = cc
+returns c =
+    let read = c .before .before in
+    rw (read .before .before .same-bytes .ensures, read .before .word-at .ensures, read .word-at2 .ensures)
 
 pub is-program-spec : {M : Type 1} → statement M
 is-program-spec =
