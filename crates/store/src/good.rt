@@ -10,6 +10,8 @@ use crate::layout::MAX_NAME;
 use crate::layout::NAME_SIZE;
 use buffer::bytes::four_at;
 use buffer::bytes::word_at;
+use place::Run;
+use place::run_end;
 ghost use mathlib.Core.Path.{_≡_};
 ghost use mathlib.Core.Bool.{_&&_, _||_};
 ghost use Prim.Native.Nat.{_+_, _<_, _≤_};
@@ -51,23 +53,35 @@ fn is_good_field(disc: &[u8], at: usize) -> bool
     good
 }
 
+// The bytes that the file of the entry at i takes.
+fn run_at(disc: &[u8], i: usize) -> Run
+    requires { ⌜ (dataStart ≤ length (now disc)) × (i < maxFiles) ⌝ }
+    ensures { λ r. ⌜ r ≡ runOf (entryAt (now (disc .entry)) i) ⌝ }
+{
+    let at = i * ENTRY_SIZE + NAME_SIZE;
+    let start = word_at(disc, at);
+    let len = word_at(disc, at + 2);
+    Run {
+        start: start,
+        len: len,
+    }
+}
+
 fn is_good_entry(disc: &[u8], i: usize) -> bool
     requires { ⌜ (dataStart ≤ length (now disc)) × (i < maxFiles) ⌝ }
     ensures { λ r. ⌜ r ≡ goodEntry (length (now (disc .entry))) (entryAt (now (disc .entry)) i) ⌝ }
 {
-    let at = i * ENTRY_SIZE;
-    if !is_good_field(disc, at) {
+    if !is_good_field(disc, i * ENTRY_SIZE) {
         return false;
     }
-    let start = word_at(disc, at + NAME_SIZE) as usize;
-    let len = word_at(disc, at + NAME_SIZE + 2) as usize;
-    if len < 1 {
+    let run = run_at(disc, i);
+    if run.len < 1 {
         return false;
     }
-    if start < DATA_START {
+    if (run.start as usize) < DATA_START {
         return false;
     }
-    start + len <= disc.len()
+    run_end(run) <= disc.len()
 }
 
 // Whether the same name stands at both places, as three numbers of four bytes.
@@ -79,24 +93,18 @@ pub fn same_name(a: &[u8], i: usize, b: &[u8], j: usize) -> bool
         & ((four_at(a, i + 4) == four_at(b, j + 4)) & (four_at(a, i + 8) == four_at(b, j + 8)))
 }
 
-fn is_apart(disc: &[u8], i: usize, j: usize) -> bool
-    requires { ⌜ (dataStart ≤ length (now disc)) × (i < maxFiles) × (j < maxFiles) ⌝ }
-    ensures { λ r. ⌜ r ≡ apart (runOf (entryAt (now (disc .entry)) i)) (runOf (entryAt (now (disc .entry)) j)) ⌝ }
+fn are_apart(a: Run, b: Run) -> bool
+    ensures { λ r. ⌜ r ≡ apart a b ⌝ }
 {
-    let at = i * ENTRY_SIZE + NAME_SIZE;
-    let start = word_at(disc, at) as usize;
-    let len = word_at(disc, at + 2) as usize;
-    let at2 = j * ENTRY_SIZE + NAME_SIZE;
-    let start2 = word_at(disc, at2) as usize;
-    let len2 = word_at(disc, at2 + 2) as usize;
-    (start + len <= start2) | (start2 + len2 <= start)
+    (run_end(a) <= b.start as usize) | (run_end(b) <= a.start as usize)
 }
 
 fn is_beside(disc: &[u8], i: usize, j: usize) -> bool
     requires { ⌜ (dataStart ≤ length (now disc)) × (i < maxFiles) × (j < maxFiles) ⌝ }
     ensures { λ r. ⌜ r ≡ beside (entryAt (now (disc .entry)) i) (entryAt (now (disc .entry)) j) ⌝ }
 {
-    !same_name(disc, i * ENTRY_SIZE, disc, j * ENTRY_SIZE) & is_apart(disc, i, j)
+    !same_name(disc, i * ENTRY_SIZE, disc, j * ENTRY_SIZE)
+        & are_apart(run_at(disc, i), run_at(disc, j))
 }
 
 // Whether the entry at i is beside every earlier one.
