@@ -2,6 +2,8 @@
 pub mod Bools
 pub mod Buffer
 pub mod Disjunctions
+pub mod Equivalence
+pub mod Fours
 pub mod Kept
 pub mod Lists
 pub mod Parts

@@ -15,5 +15,9 @@ overwrite l at s = take at l ++ s ++ drop (at + length s) l
 abbrev pub wordAt : List ℕ → ℕ → ℕ
 wordAt l at = getD l at 0 + getD l (at + 1) 0 * 256
 
+-- four bytes as one number, low byte first: two fields, or a third of a name
+unfoldable pub fourAt : List ℕ → ℕ → ℕ
+fourAt l at = wordAt l at + wordAt l (at + 2) * 65536
+
 abbrev pub wordBytes : ℕ → List ℕ
 wordBytes w = w % 256 ∷ w / 256 ∷ []

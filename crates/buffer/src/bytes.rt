@@ -2,7 +2,7 @@
 ghost use mathlib.Core.Path.{_≡_};
 ghost use Prim.Native.Nat.{_+_, _*_, _/_, _%_, _≤_};
 ghost use lib.ListN.{length};
-ghost use Rattle.buffer.specs.Buffer.{overwrite, part, wordAt};
+ghost use Rattle.buffer.specs.Buffer.{fourAt, overwrite, part, wordAt};
 ghost use Rattle.buffer.specs.Lists.{same};
 
 // Document 01: "Two-byte fields of both buffers are low byte first."
@@ -17,6 +17,20 @@ pub fn word_at(bytes: &[u8], at: usize) -> u16
     ensures { λ r. ⌜ r ≡ wordAt (now (bytes .entry)) at ⌝ }
 {
     word(bytes[at], bytes[at + 1])
+}
+
+fn four(lo: u16, hi: u16) -> u32
+    ensures { λ r. ⌜ r ≡ lo + hi * 65536 ⌝ }
+{
+    lo as u32 + hi as u32 * 65536
+}
+
+// Four bytes as one number, so that they are compared at once.
+pub fn four_at(bytes: &[u8], at: usize) -> u32
+    requires { ⌜ at + 4 ≤ length (now bytes) ⌝ }
+    ensures { λ r. ⌜ r ≡ fourAt (now (bytes .entry)) at ⌝ }
+{
+    four(word_at(bytes, at), word_at(bytes, at + 2))
 }
 
 pub fn low(word: u16) -> u8

@@ -12,3 +12,5 @@ pub mod LookupChanges
 pub mod Lookups
 pub mod Names
 pub mod Steps
+pub mod Fields
+pub mod InPlace

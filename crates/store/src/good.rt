@@ -1,17 +1,29 @@
-// The tests that every operation makes of the disc before it reads or writes a file.
+// The tests that every operation makes of the disc before it reads or writes a file. They run at every call, so they
+// read the bytes in place, and the loops over bytes and over earlier entries have no way out: docs/DECISIONS.md says why.
 use crate::Checked;
-use crate::Entry;
 use crate::Refusal;
 use crate::layout::DATA_START;
 use crate::layout::DISC_LENGTH;
+use crate::layout::ENTRY_SIZE;
 use crate::layout::MAX_FILES;
+use crate::layout::MAX_NAME;
+use crate::layout::NAME_SIZE;
+use buffer::bytes::four_at;
+use buffer::bytes::word_at;
+use place::Run;
+use place::run_end;
 ghost use mathlib.Core.Path.{_≡_};
-ghost use Prim.Native.Nat.{_<_, _≤_};
+ghost use mathlib.Core.Bool.{_&&_, _||_};
+ghost use Prim.Native.Nat.{_+_, _<_, _≤_};
+ghost use lib.Dec.{eqb};
 ghost use lib.ListN.{length};
-ghost use Rattle.buffer.specs.Lists.{all, tab};
+ghost use Rattle.buffer.specs.Buffer.{part};
+ghost use Rattle.buffer.specs.Lists.{all, same, tab};
+ghost use Rattle.place.specs.Place.{apart};
 ghost use Rattle.store.specs.Answer.{checked};
-ghost use Rattle.store.specs.Directory.{beside, entryAt, goodDisc, goodEntry, isDiscLength};
-ghost use Rattle.store.specs.Layout.{dataStart, maxFiles};
+ghost use Rattle.store.specs.Directory.{beside, entryAt, goodDisc, goodEntry, isDiscLength, runOf};
+ghost use Rattle.store.specs.Layout.{dataStart, maxFiles, nameSize};
+ghost use Rattle.store.specs.Name.{goodField, isNameByte};
 
 // Document 01: "Disc, 1,024 bytes."
 pub fn is_disc_length(n: usize) -> bool
@@ -20,35 +32,79 @@ pub fn is_disc_length(n: usize) -> bool
     n == DISC_LENGTH
 }
 
-fn is_good_entry(entry: Entry, end: usize) -> bool
-    ensures { λ r. ⌜ r ≡ goodEntry end entry ⌝ }
+// A byte of a name, or a zero with another behind it.
+fn is_field_byte(b: u8, next: u8) -> bool
+    ensures { λ r. ⌜ r ≡ (eqb b 0 && eqb next 0) || isNameByte b ⌝ }
 {
-    let name = entry.name;
-    if !crate::name::is_good_field(name) {
-        return false;
-    }
-    if entry.len < 1 {
-        return false;
-    }
-    if (entry.start as usize) < DATA_START {
-        return false;
-    }
-    entry.start as usize + entry.len as usize <= end
+    ((b == 0) & (next == 0)) | ((33 <= b) & (b <= 126))
 }
 
-fn is_beside(a: Entry, b: Entry) -> bool
-    ensures { λ r. ⌜ r ≡ beside a b ⌝ }
+// Document 01: "A name is 1 to 11 bytes of 33 to 126, zero-filled."
+fn is_good_field(disc: &[u8], at: usize) -> bool
+    requires { ⌜ at + nameSize ≤ length (now disc) ⌝ }
+    ensures { λ r. ⌜ r ≡ goodField (part (now (disc .entry)) at nameSize) ⌝ }
 {
-    let one = a.name;
-    let other = b.name;
-    if buffer::bytes::same_bytes(&one, &other) {
+    let mut good = (disc[at] != 0) & (disc[at + MAX_NAME] == 0);
+    let mut i: usize = 0;
+    while i < MAX_NAME {
+        good = good & is_field_byte(disc[at + i], disc[at + i + 1]);
+        i += 1;
+    }
+    good
+}
+
+// The bytes that the file of the entry at i takes.
+fn run_at(disc: &[u8], i: usize) -> Run
+    requires { ⌜ (dataStart ≤ length (now disc)) × (i < maxFiles) ⌝ }
+    ensures { λ r. ⌜ r ≡ runOf (entryAt (now (disc .entry)) i) ⌝ }
+{
+    let at = i * ENTRY_SIZE + NAME_SIZE;
+    let start = word_at(disc, at);
+    let len = word_at(disc, at + 2);
+    Run {
+        start: start,
+        len: len,
+    }
+}
+
+fn is_good_entry(disc: &[u8], i: usize) -> bool
+    requires { ⌜ (dataStart ≤ length (now disc)) × (i < maxFiles) ⌝ }
+    ensures { λ r. ⌜ r ≡ goodEntry (length (now (disc .entry))) (entryAt (now (disc .entry)) i) ⌝ }
+{
+    if !is_good_field(disc, i * ENTRY_SIZE) {
         return false;
     }
-    place::is_apart(
-        a.start as usize,
-        a.len as usize,
-        crate::directory::run_of(b),
-    )
+    let run = run_at(disc, i);
+    if run.len < 1 {
+        return false;
+    }
+    if (run.start as usize) < DATA_START {
+        return false;
+    }
+    run_end(run) <= disc.len()
+}
+
+// Whether the same name stands at both places, as three numbers of four bytes.
+pub fn same_name(a: &[u8], i: usize, b: &[u8], j: usize) -> bool
+    requires { ⌜ (i + nameSize ≤ length (now a)) × (j + nameSize ≤ length (now b)) ⌝ }
+    ensures { λ r. ⌜ r ≡ same (part (now (a .entry)) i nameSize) (part (now (b .entry)) j nameSize) ⌝ }
+{
+    (four_at(a, i) == four_at(b, j))
+        & ((four_at(a, i + 4) == four_at(b, j + 4)) & (four_at(a, i + 8) == four_at(b, j + 8)))
+}
+
+fn are_apart(a: Run, b: Run) -> bool
+    ensures { λ r. ⌜ r ≡ apart a b ⌝ }
+{
+    (run_end(a) <= b.start as usize) | (run_end(b) <= a.start as usize)
+}
+
+fn is_beside(disc: &[u8], i: usize, j: usize) -> bool
+    requires { ⌜ (dataStart ≤ length (now disc)) × (i < maxFiles) × (j < maxFiles) ⌝ }
+    ensures { λ r. ⌜ r ≡ beside (entryAt (now (disc .entry)) i) (entryAt (now (disc .entry)) j) ⌝ }
+{
+    !same_name(disc, i * ENTRY_SIZE, disc, j * ENTRY_SIZE)
+        & are_apart(run_at(disc, i), run_at(disc, j))
 }
 
 // Whether the entry at i is beside every earlier one.
@@ -56,16 +112,13 @@ fn is_beside_earlier(disc: &[u8], i: usize) -> bool
     requires { ⌜ (dataStart ≤ length (now disc)) × (i < maxFiles) ⌝ }
     ensures { λ r. ⌜ r ≡ all (λ e. beside e (entryAt (now (disc .entry)) i)) (tab (entryAt (now (disc .entry))) i) ⌝ }
 {
-    let entry = crate::directory::entry_at(disc, i);
+    let mut good = true;
     let mut j: usize = 0;
     while j < i {
-        let earlier = crate::directory::entry_at(disc, j);
-        if !is_beside(earlier, entry) {
-            return false;
-        }
+        good = good & is_beside(disc, j, i);
         j += 1;
     }
-    true
+    good
 }
 
 pub fn is_good_disc(disc: &[u8]) -> bool
@@ -78,8 +131,7 @@ pub fn is_good_disc(disc: &[u8]) -> bool
     }
     let mut i: usize = 0;
     while i < count {
-        let entry = crate::directory::entry_at(disc, i);
-        if !is_good_entry(entry, disc.len()) {
+        if !is_good_entry(disc, i) {
             return false;
         }
         if !is_beside_earlier(disc, i) {

@@ -1,6 +1,6 @@
 -- The loop: the first i entries are good and beside each other.
 use Prim.Native.Nat.{ℕ, _≤_, _<_, _-_}
-use mathlib.Core.Path.{_≡_, refl, sym, ap, _∙_}
+use mathlib.Core.Path.{_≡_, refl, sym, _∙_}
 use mathlib.Core.Bool.{true, and-false}
 use mathlib.Core.List.{List}
 use borrow.Author.Tests.{le-leb, lt-leb, not-true, not-false}
@@ -30,18 +30,13 @@ abbrev counted : tie.At-loop Inv-loop μ-loop → tie.After-file-count Inv-loop 
 counted c = c .before .before
 
 abbrev turn : tie.After-is-good-entry Inv-loop μ-loop → tie.At-loop Inv-loop μ-loop
-turn c = c .before .before .before
+turn c = c .before .before
 
 abbrev second : tie.After-is-beside-earlier Inv-loop μ-loop → tie.After-is-good-entry Inv-loop μ-loop
 second c = c .before .before
 
 abbrev disc : tie.At-loop Inv-loop μ-loop → List ℕ
 disc c = start (counted c) .args .disc .now
-
--- what the tests of a turn say of the disc's entries
-judged : (c : tie.After-is-good-entry Inv-loop μ-loop)
-    → let l = turn c in c .is-good-entry .result ≡ goodEntry (length (disc l)) (entryAt (disc l) (l .loop .i))
-judged c = c .is-good-entry .ensures ∙ ap (goodEntry (length (disc (turn c)))) (c .before .entry-at .ensures)
 
 more : (c : tie.At-loop Inv-loop μ-loop) → c .loop .i < counted c .file-count .result → c .loop .i < fileCount (disc c)
 more c h = omega (arith, counted c .file-count .ensures)
@@ -62,7 +57,7 @@ returns-2 c =
     let l = turn (c .before) in
     let d = disc l in
     rw (all-tab-stop (entryAt d) (goodEntry (length d)) (l .loop .i) (fileCount d) (more l (omega arith))
-    (sym (judged (c .before)) ∙ not-true _ (c .if2 .taken))) (sym (and-false (leb (fileCount d) maxFiles)))
+    (sym (c .before .is-good-entry .ensures) ∙ not-true _ (c .if2 .taken))) (sym (and-false (leb (fileCount d) maxFiles)))
 
 returns-3 : tie.Need-returns-3 Inv-loop μ-loop
 unfolding goodDisc goodFiles
@@ -81,7 +76,7 @@ loop-again c =
     let l = turn g in
     let d = disc l in (
       omega arith,
-      all-tab-next (entryAt d) (goodEntry (length d)) (l .loop .i) (l .loop .inv .1) (sym (judged g)
+      all-tab-next (entryAt d) (goodEntry (length d)) (l .loop .i) (l .loop .inv .1) (sym (g .is-good-entry .ensures)
           ∙ not-false _ (c .before .before .if2 .left)),
       pairs-tab-next (entryAt d) beside (l .loop .i) (l .loop .inv .2) (sym (c .before .is-beside-earlier .ensures)
           ∙ not-false _ (c .if3 .left)),
@@ -104,7 +99,6 @@ is-good-disc-spec =
     (λ c κs. search needs)
     returns
     loop-holds
-    (λ c κs. search needs)
     (λ c κs. search needs)
     returns-2
     (λ c κs. search needs)
