@@ -144,6 +144,8 @@ pub fn put_next_id(area: &mut [u8], next: u16)
     requires { ⌜ length (now area) ≡ areaLength ⌝ }
     ensures { λ _. ⌜ now (area .exit) ≡ overwrite (now (area .entry)) nextAt (wordBytes next) ⌝ }
 {
-    let bytes = [buffer::bytes::low(next), buffer::bytes::high(next)];
+    let low = buffer::bytes::low(next);
+    let high = buffer::bytes::high(next);
+    let bytes = [low, high];
     buffer::bytes::overwrite_at(area, NEXT_AT, &bytes);
 }
