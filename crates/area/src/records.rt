@@ -39,6 +39,14 @@ pub const SPARE_AT: usize = 31;
 
 pub const STACK_AT: usize = 32;
 
+// Document 01: "state 1 ('r' running, 'p' paused, 0 ended)"
+pub const RUNNING: u8 = b'r';
+
+pub const PAUSED: u8 = b'p';
+
+// Document 01: "loop 2 (hex FFFF: none)"
+pub const NO_LOOP: u16 = 65535;
+
 // The bytes between name and stack.
 const REGISTER_SIZE: usize = 20;
 
