@@ -1,4 +1,6 @@
 // A process's start and end, on the state by value.
+use crate::records::NO_LOOP;
+use crate::records::RUNNING;
 use machine::Kernel;
 use machine::OpenFile;
 use machine::Process;
@@ -11,9 +13,6 @@ ghost use Rattle.machine.specs.Limits.{slotCount};
 ghost use Rattle.machine.specs.Start.{startedProcess};
 ghost use Rattle.machine.specs.State.{ended, endedProcess};
 ghost use Rattle.variable.specs.Limits.{maxVariables};
-
-// Document 01: "loop 2 (hex FFFF: none)"
-const NO_LOOP: u16 = 65535;
 
 // Document 01: "Its record keeps name, ID and fault (0 unless a fault) and is otherwise zero."
 pub fn ended_process(p: Process, fault: u8) -> Process
@@ -61,7 +60,7 @@ pub fn started_process(e: Entry, id: u16) -> Process
     Process {
         name: name,
         id: id,
-        state: b'r',
+        state: RUNNING,
         fault: 0,
         code: Run {
             start: e.start,

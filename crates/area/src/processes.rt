@@ -2,6 +2,8 @@
 use crate::records::CODE_AT;
 use crate::records::FILE_AT;
 use crate::records::ID_AT;
+use crate::records::PAUSED;
+use crate::records::RUNNING;
 use crate::records::STATE_AT;
 use buffer::Found;
 use machine::Process;
@@ -34,7 +36,7 @@ pub fn processes_of(area: &[u8]) -> [Process; SLOT_COUNT]
     processes
 }
 
-// The records fill the area to its end.
+// The records stand last: before them nothing changes, behind them there is nothing.
 pub fn put_processes(area: &mut [u8], processes: [Process; SLOT_COUNT])
     requires { ⌜ length (now area) ≡ areaLength ⌝ }
     ensures { λ _. ⌜ now (area .exit) ≡ take recordsAt (now (area .entry)) ++ flat processBytes processes ⌝ }
@@ -54,7 +56,7 @@ fn is_live(bytes: &[u8]) -> bool
     ensures { λ r. ⌜ r ≡ isLive (processOf (now (bytes .entry))) ⌝ }
 {
     let state = bytes[STATE_AT];
-    (state == b'r') | (state == b'p')
+    (state == RUNNING) | (state == PAUSED)
 }
 
 fn has_id(bytes: &[u8], id: u32) -> bool

@@ -39,6 +39,14 @@ pub const SPARE_AT: usize = 31;
 
 pub const STACK_AT: usize = 32;
 
+// Document 01: "state 1 ('r' running, 'p' paused, 0 ended)"
+pub const RUNNING: u8 = b'r';
+
+pub const PAUSED: u8 = b'p';
+
+// Document 01: "loop 2 (hex FFFF: none)"
+pub const NO_LOOP: u16 = 65535;
+
 // The bytes between name and stack.
 const REGISTER_SIZE: usize = 20;
 
@@ -144,6 +152,8 @@ pub fn put_next_id(area: &mut [u8], next: u16)
     requires { ⌜ length (now area) ≡ areaLength ⌝ }
     ensures { λ _. ⌜ now (area .exit) ≡ overwrite (now (area .entry)) nextAt (wordBytes next) ⌝ }
 {
-    let bytes = [buffer::bytes::low(next), buffer::bytes::high(next)];
+    let low = buffer::bytes::low(next);
+    let high = buffer::bytes::high(next);
+    let bytes = [low, high];
     buffer::bytes::overwrite_at(area, NEXT_AT, &bytes);
 }
