@@ -1,0 +1,2 @@
+-- what reading a variable needs of the table
+pub mod Readable
