@@ -12,6 +12,10 @@ use Rattle.stack.specs.declared.Action.the-variants.{Push, Print, Assign
 use Rattle.stack.specs.declared.Action.the-variants.{ReadString, Fork, Await}
 use Rattle.stack.specs.declared.Step.{Step}
 
+-- a program's length is a field of two bytes
+abbrev pub maxCode : ℕ
+maxCode = 65535
+
 -- the bytes that the action is about
 abbrev pub about : Step → List ℕ
 about d = take (d .len) (d .bytes)
@@ -23,23 +27,24 @@ placed stack pc loopstart = record { stack = stack; pc = pc; loopstart = loopsta
 abbrev pub keeping : List ℕ → Step → Local
 keeping stack d = placed (take (d .kept) stack) (d .pc) (d .loopstart)
 
-abbrev pub effectBy : Action → List ℕ → Step → Effect
-effectBy Push stack d = goes (placed (take (d .kept) stack ++ about d) (d .pc) (d .loopstart)) []
-effectBy Print stack d = goes (keeping stack d) (about d)
-effectBy (Assign name kind) stack d = assigns name kind (about d) (keeping stack d)
-effectBy Stop stack d = stops
-effectBy (Fault n) stack d = faults n
-effectBy (Open size) stack d = asks (opens (about d) size (keeping stack d))
-effectBy Close stack d = asks (closes (keeping stack d))
-effectBy Write stack d = asks (writes (about d) (keeping stack d))
-effectBy (Read kind) stack d = asks (reads kind (keeping stack d))
-effectBy ReadString stack d = asks (readsString (keeping stack d))
-effectBy Fork stack d = asks (forks (about d) (keeping stack d))
+-- an action about these bytes: the stack as the instruction found it, and the state that the process goes on in
+abbrev pub effectBy : Action → List ℕ → List ℕ → Local → Effect
+effectBy Push stack bytes l = goes (placed (l .stack ++ bytes) (l .pc) (l .loopstart)) []
+effectBy Print stack bytes l = goes l bytes
+effectBy (Assign name kind) stack bytes l = assigns name kind bytes l
+effectBy Stop stack bytes l = stops
+effectBy (Fault n) stack bytes l = faults n
+effectBy (Open size) stack bytes l = asks (opens bytes size l)
+effectBy Close stack bytes l = asks (closes l)
+effectBy Write stack bytes l = asks (writes bytes l)
+effectBy (Read kind) stack bytes l = asks (reads kind l)
+effectBy ReadString stack bytes l = asks (readsString l)
+effectBy Fork stack bytes l = asks (forks bytes l)
 -- it stays at the instruction byte, or goes on behind it
-effectBy (Await id) stack d = asks (awaits id (placed stack (d .pc - 1) (d .loopstart)) (keeping stack d))
+effectBy (Await id) stack bytes l = asks (awaits id (placed stack (l .pc - 1) (l .loopstart)) l)
 
 abbrev pub effectOf : List ℕ → Step → Effect
-effectOf stack d = effectBy (d .action) stack d
+effectOf stack d = effectBy (d .action) stack (about d) (keeping stack d)
 
 -- ---- how steps are made
 abbrev pub stepOf : Action → ℕ → List ℕ → ℕ → ℕ → Step
@@ -66,6 +71,12 @@ pub record Means (stack : List ℕ) (d : Step) (e : Effect) : Type 0 where
 
 -- code and stack have their sizes, and there is an instruction byte
 pub record Ready (code stack : List ℕ) (at : ℕ) : Type 0 where
-  pub short : length code ≤ 65535
+  pub short : length code ≤ maxCode
   pub low : length stack ≤ stackSize
   pub inside : at + 1 ≤ length code
+
+-- code and stack have their sizes, and so many bytes lie on the stack
+pub record Keeps (code stack : List ℕ) (kept : ℕ) : Type 0 where
+  pub short : length code ≤ maxCode
+  pub low : length stack ≤ stackSize
+  pub there : kept ≤ length stack

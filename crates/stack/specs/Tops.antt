@@ -1,11 +1,15 @@
 -- What the code's answers to popping stand for.
 use Prim.Native.Nat.{ℕ, _+_}
+use mathlib.Core.Bool.{Bool, true, false}
 use mathlib.Core.List.{List}
 use lib.ListN.{take}
 use Rattle.buffer.specs.Buffer.{part}
 use Rattle.machine.specs.Effect.{number}
 use Rattle.machine.specs.Stack.{Popped, popped, cannot}
 use Rattle.number.specs.declared.Number.{Number}
+use Rattle.number.specs.declared.instruction.Types.{Types}
+use Rattle.number.specs.declared.instruction.Types.the-variants.{AnyNumber, CharOrInt, IntOrFloat, CharOrFloat}
+use Rattle.number.specs.declared.instruction.Types.the-variants.{AnyString, AnyValue, Nothing}
 use Rattle.stack.specs.declared.TopNumber.{TopNumber}
 use Rattle.stack.specs.declared.TopNumber.the-variants.{Is, NoNumber}
 use Rattle.stack.specs.declared.TopValue.{TopValue}
@@ -19,6 +23,16 @@ valueOn stack (NoValue fault) = cannot fault
 abbrev pub valueEnd : TopValue → ℕ
 valueEnd (Lies kind at len) = at + len
 valueEnd (NoValue fault) = 0
+
+-- sets of types of numbers alone
+abbrev pub isNumeric : Types → Bool
+isNumeric AnyNumber = true
+isNumeric CharOrInt = true
+isNumeric IntOrFloat = true
+isNumeric CharOrFloat = true
+isNumeric AnyString = false
+isNumeric AnyValue = false
+isNumeric Nothing = true
 
 -- a popped value of which the number is all that is read
 pub data Numbered : Type 0 where

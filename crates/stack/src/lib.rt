@@ -5,6 +5,9 @@ pub mod tops;
 use machine::limits::STACK_SIZE;
 use number::Number;
 
+// Document 01: "a string as bytes, length, 3"
+pub const STRING_KIND: u8 = 3;
+
 // The value on top: its type, its first byte and its length; or the fault that popping it meets.
 pub enum TopValue {
     Lies(u8, usize, usize),
