@@ -1,17 +1,11 @@
+-- The whole stack is kept.
+use lib.Seq.{take-length}
 use borrow.Author.Needs.{needs}
 use Rattle.stack.proofs.ends.jump.Statement.{statement}
 use Rattle.stack.proofs.ends.jump.Tie as tie
-use Rattle.stack.proofs.ends.jump.Reads as reads
-use Rattle.stack.proofs.ends.jump.Lts as lts
-use Rattle.stack.proofs.ends.go.Reads as go-reads
 
--- src/ends.rt:126:5
-go-requires : tie.Need-go-requires
-go-requires c κs = search needs
-
--- src/ends.rt:121:1
 returns : tie.Need-returns
-returns c = ?
+returns c = rw take-length at (c .go .ensures)
 
 pub jump-spec : {M : Type 1} → statement M
-jump-spec = tie.close (tie.spec go-requires returns)
+jump-spec = tie.close (tie.spec (λ c κs. search needs) returns)

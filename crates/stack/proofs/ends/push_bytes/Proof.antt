@@ -1,52 +1,59 @@
+-- The stack's size is tested first, then the place.
+use mathlib.Core.Path.{_≡_}
+use mathlib.Core.List.{[], List, _++_, append-assoc}
+use Prim.Native.Nat.{ℕ, _+_}
+use lib.ListN.{length, take}
+use native.Mathlib.Omega.{arith}
+use Rattle.buffer.specs.declared.Found.the-variants.{At}
+use Rattle.machine.proofs.Instructions.Settling.{settle-full, settle-goes, settle-outside}
+use Rattle.stack.proofs.Steps.{last-means, pushed-length, step-means}
 use borrow.Author.Needs.{needs}
 use Rattle.stack.proofs.ends.push_bytes.Statement.{statement}
 use Rattle.stack.proofs.ends.push_bytes.Tie as tie
-use Rattle.stack.proofs.ends.push_bytes.Reads as reads
-use Rattle.stack.proofs.ends.push_bytes.Lts as lts
-use Rattle.stack.proofs.ends.last_step.Reads as last-step-reads
-use Rattle.stack.proofs.ends.with_bytes.Reads as with-bytes-reads
 
--- src/ends.rt:102:21
-add-if1 : tie.Need-add-if1
-add-if1 c = search needs
+-- ---- the states: the lengths known
+abbrev start : tie.After-shared-slice-known4 → tie.Start
+start c = let known = c .before .before in known .before .before
 
--- src/ends.rt:102:21
-add-if1-2 : tie.Need-add-if1-2
-add-if1-2 c = search needs
+-- the stack with what is pushed, and how high it is
+abbrev pushed : tie.Start → List ℕ
+pushed s = let a = s .args in take (a .kept) (a .stack .now) ++ a .head .now ++ a .tail .now
 
--- src/ends.rt:103:9
-last-step-requires : tie.Need-last-step-requires
-last-step-requires c κs = search needs
+high : (s : tie.Start) → let a = s .args in length (pushed s) ≡ a .kept + length (a .head .now) + length (a .tail .now)
+high s = let a = s .args in pushed-length (a .stack .now) (a .head .now) (a .tail .now) (a .kept) (s .pre .0 .there)
 
--- src/ends.rt:103:9
 returns : tie.Need-returns
-returns c = ?
+returns c =
+    let s = start (c .before .before) in
+    let a = s .args in
+    let h = high s in
+    rw (settle-full (a .code .now) (pushed s) (a .loopstart) [] (At (a .to)) (omega arith)) (last-means (a .stack .now) (c .last-step .ensures))
 
--- src/ends.rt:106:9
-last-step-requires-2 : tie.Need-last-step-requires-2
-last-step-requires-2 c κs = search needs
-
--- src/ends.rt:106:9
 returns-2 : tie.Need-returns-2
-returns-2 c = ?
+returns-2 c =
+    let s = start (c .before .before .before) in
+    let a = s .args in
+    let h = high s in
+    rw (settle-outside (a .code .now) (pushed s) (a .loopstart) [] (omega arith) (a .to) (omega arith))
+    (last-means (a .stack .now) (c .last-step2 .ensures))
 
--- src/ends.rt:108:5
-with-bytes-requires : tie.Need-with-bytes-requires
-with-bytes-requires c κs = search needs
-
--- src/ends.rt:89:1
 returns-3 : tie.Need-returns-3
-returns-3 c = ?
+returns-3 c =
+    let s = start (c .before .before .before) in
+    let a = s .args in
+    let h = high s in
+    rw (settle-goes (a .code .now) (pushed s) (a .loopstart) [] (omega arith) (a .to) (omega arith), append-assoc)
+    (step-means (a .stack .now) (a .head .now ++ a .tail .now) (c .with-bytes .ensures) (s .pre .0 .there))
 
 pub push-bytes-spec : {M : Type 1} → statement M
 push-bytes-spec =
     tie.close
     (tie.spec
-    add-if1
-    add-if1-2
-    last-step-requires
+    (λ c. search needs)
+    (λ c. search needs)
+    (λ c κs. search needs)
     returns
-    last-step-requires-2
+    (λ c κs. search needs)
     returns-2
-    with-bytes-requires
+    (λ c κs. search needs)
     returns-3)

@@ -1,57 +1,44 @@
+-- By the type: a string with its length. More bytes than a stack has are never pushed.
+use mathlib.Core.List.{[]}
+use lib.ListN.{take}
+use native.Mathlib.Omega.{arith}
+use borrow.Author.Tests.{eq-eqb, ne-eqb}
+use Rattle.buffer.specs.declared.Found.the-variants.{At}
+use Rattle.machine.specs.Stack.{pushItem}
+use Rattle.machine.proofs.Instructions.Settling.{settle-full}
+use Rattle.stack.proofs.Steps.{item-long, last-means}
 use borrow.Author.Needs.{needs}
 use Rattle.stack.proofs.ends.push_item.Statement.{statement}
 use Rattle.stack.proofs.ends.push_item.Tie as tie
-use Rattle.stack.proofs.ends.push_item.Reads as reads
-use Rattle.stack.proofs.ends.push_item.Lts as lts
-use Rattle.stack.proofs.ends.last_step.Reads as last-step-reads
-use Rattle.stack.proofs.ends.push_bytes.Reads as push-bytes-reads
 
--- src/ends.rt:144:9
-last-step-requires : tie.Need-last-step-requires
-last-step-requires c κs = search needs
+abbrev start : tie.After-shared-slice-known3 → tie.Start
+start c = c .before .before .before
 
--- src/ends.rt:144:9
 returns : tie.Need-returns
-returns c = ?
+returns c =
+    let s = start (c .before .before) in
+    let a = s .args in
+    let below = take (a .kept) (a .stack .now) in
+    rw (settle-full (a .code .now) (pushItem below (a .kind) (a .bytes .now)) (a .loopstart) [] (At (a .to))
+    (omega (arith, item-long below (a .bytes .now) (a .kind))))
+    (last-means (a .stack .now) (c .last-step .ensures))
 
--- src/ends.rt:147:21
-cast-t14 : tie.Need-cast-t14
-cast-t14 c = search needs
-
--- src/ends.rt:148:53
-slice-aggregate-push-bytes : tie.Need-slice-aggregate-push-bytes
-slice-aggregate-push-bytes c = search needs
-
--- src/ends.rt:148:9
-push-bytes-requires : tie.Need-push-bytes-requires
-push-bytes-requires c κs = search needs
-
--- src/ends.rt:148:9
 returns-2 : tie.Need-returns-2
-returns-2 c = ?
+returns-2 c = rw (eq-eqb _ _ (c .before .before .if2 .taken)) (c .push-bytes .ensures)
 
--- src/ends.rt:151:42
-slice-aggregate-push-bytes-2 : tie.Need-slice-aggregate-push-bytes-2
-slice-aggregate-push-bytes-2 c = search needs
-
--- src/ends.rt:151:5
-push-bytes-requires-2 : tie.Need-push-bytes-requires-2
-push-bytes-requires-2 c κs = search needs
-
--- src/ends.rt:130:1
 returns-3 : tie.Need-returns-3
-returns-3 c = ?
+returns-3 c = rw (ne-eqb _ _ (c .before .before .if2 .left)) (c .push-bytes2 .ensures)
 
 pub push-item-spec : {M : Type 1} → statement M
 push-item-spec =
     tie.close
     (tie.spec
-    last-step-requires
+    (λ c κs. search needs)
     returns
-    cast-t14
-    slice-aggregate-push-bytes
-    push-bytes-requires
+    (λ c. search needs)
+    (λ c. search needs)
+    (λ c κs. search needs)
     returns-2
-    slice-aggregate-push-bytes-2
-    push-bytes-requires-2
+    (λ c. search needs)
+    (λ c κs. search needs)
     returns-3)

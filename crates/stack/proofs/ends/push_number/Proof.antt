@@ -1,42 +1,42 @@
+-- The number's bytes are the first of those encoded.
+use Prim.Native.Nat.{_≤_}
+use mathlib.Core.Path.{sym, subst⁻¹}
+use lib.ListN.{length, take}
+use lib.Seq.{length-take-le}
+use Rattle.number.specs.declared.value.Encoded.{Encoded}
+use Rattle.stack.proofs.Steps.{encoded-inside, number-pushed}
 use borrow.Author.Needs.{needs}
 use Rattle.stack.proofs.ends.push_number.Statement.{statement}
 use Rattle.stack.proofs.ends.push_number.Tie as tie
-use Rattle.stack.proofs.ends.push_number.Reads as reads
-use Rattle.stack.proofs.ends.push_number.Lts as lts
-use Rattle.number.proofs.value.encode.Reads as encode-reads
-use Rattle.stack.proofs.ends.push_item.Reads as push-item-reads
 
--- src/ends.rt:166:9
-encode-requires : tie.Need-encode-requires
-encode-requires c κs = search needs
+-- ---- the states: encoded, and the bytes at hand
+abbrev encoding : tie.After-struct-known → tie.After-encode
+encoding c = c .before .before
 
--- src/ends.rt:168:13
-cast-n : tie.Need-cast-n
-cast-n c = search needs
+abbrev start : tie.After-encode → tie.Start
+start c = c .before .before .before
 
--- src/ends.rt:169:48
-array-share-prefix-bytes : tie.Need-array-share-prefix-bytes
-array-share-prefix-bytes c = ?
+inside : (c : tie.After-encode) → c .encode .result .kind ≤ length (c .encode .result .bytes)
+inside c = subst⁻¹ (λ (e : Encoded). e .kind ≤ length (e .bytes)) (c .encode .ensures) (encoded-inside (start c .args .a))
 
--- src/ends.rt:169:48
 slice-aggregate-push-item : tie.Need-slice-aggregate-push-item
-slice-aggregate-push-item c = ?
+slice-aggregate-push-item c =
+    let e = encoding (c .before) in
+    sym (length-take-le (e .encode .result .kind) (e .encode .result .bytes) (inside e))
 
--- src/ends.rt:169:5
-push-item-requires : tie.Need-push-item-requires
-push-item-requires c κs = search needs
-
--- src/ends.rt:154:1
 returns : tie.Need-returns
-returns c = ?
+returns c =
+    let e = encoding (c .before .before) in
+    let a = start e .args in
+    rw (← number-pushed (a .a) (take (a .kept) (a .stack .now)), ← e .encode .ensures) (c .push-item .ensures)
 
 pub push-number-spec : {M : Type 1} → statement M
 push-number-spec =
     tie.close
     (tie.spec
-    encode-requires
-    cast-n
-    array-share-prefix-bytes
+    (λ c κs. search needs)
+    (λ c. search needs)
+    (λ c. inside (encoding c))
     slice-aggregate-push-item
-    push-item-requires
+    (λ c κs. search needs)
     returns)

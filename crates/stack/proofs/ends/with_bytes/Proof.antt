@@ -1,56 +1,61 @@
+-- Head and tail, laid one behind the other over zeros, are the bytes of the step.
+use mathlib.Core.Path.{_≡_, sym, ap, _∙_}
+use mathlib.Core.List.{List, _++_}
+use Prim.Native.Nat.{ℕ, _-_}
+use native.Mathlib.Nat.{zero-add}
+use native.Mathlib.Omega.{arith}
+use lib.ListN.{length, replicate, length-append, length-replicate}
+use Rattle.buffer.specs.Buffer.{overwrite}
+use Rattle.buffer.proofs.Buffer.{overwrite-joined, overwrite-zeros}
+use Rattle.machine.specs.Limits.{stackSize}
 use borrow.Author.Needs.{needs}
 use Rattle.stack.proofs.ends.with_bytes.Statement.{statement}
 use Rattle.stack.proofs.ends.with_bytes.Tie as tie
-use Rattle.stack.proofs.ends.with_bytes.Reads as reads
-use Rattle.stack.proofs.ends.with_bytes.Lts as lts
-use Rattle.buffer.proofs.bytes.overwrite_at.Reads as overwrite-at-reads
 
--- src/ends.rt:49:33
-slice-aggregate-overwrite-at : tie.Need-slice-aggregate-overwrite-at
-slice-aggregate-overwrite-at c = search needs
+-- ---- the states: the head laid, the tail laid
+abbrev headed : tie.After-overwrite-at2 → tie.After-overwrite-at
+headed c = c .before .before .before
 
--- src/ends.rt:49:5
-overwrite-at-requires : tie.Need-overwrite-at-requires
-overwrite-at-requires c κs = search needs
+abbrev start : tie.After-overwrite-at → tie.Start
+start c = let lent = c .before in lent .before .before .before
 
--- src/ends.rt:50:33
-slice-aggregate-overwrite-at-2 : tie.Need-slice-aggregate-overwrite-at-2
-slice-aggregate-overwrite-at-2 c = search needs
+laid : (c : tie.After-overwrite-at2) → let a = start (headed c) .args in
+    c .overwrite-at2 .last .0 ≡ a .head .now ++ a .tail .now ++ replicate (stackSize - length (a .head .now ++ a .tail .now)) 0
+laid c =
+    let a = start (headed c) .args in
+    let s = a .head .now in
+    let t = a .tail .now in
+    c .overwrite-at2 .ensures
+    ∙ ap (λ (l : List ℕ). overwrite l (length s) t) (headed c .overwrite-at .ensures)
+    ∙ overwrite-joined (replicate stackSize 0) s t 0 (length s) (sym (zero-add (length s)))
+    (rw (length-replicate {A = ℕ} stackSize 0) (omega (arith, start (headed c) .pre)))
+    ∙ overwrite-zeros (s ++ t) stackSize
 
--- src/ends.rt:50:5
-overwrite-at-requires-2 : tie.Need-overwrite-at-requires-2
-overwrite-at-requires-2 c κs = search needs
-
--- src/ends.rt:53:15
-cast-t14 : tie.Need-cast-t14
-cast-t14 c = search needs
-
--- src/ends.rt:55:15
-add-t17 : tie.Need-add-t17
-add-t17 c = search needs
-
--- src/ends.rt:55:14
-cast-t18 : tie.Need-cast-t18
-cast-t18 c = search needs
-
--- src/ends.rt:56:13
-cast-t19 : tie.Need-cast-t19
-cast-t19 c = search needs
-
--- src/ends.rt:36:1
 returns : tie.Need-returns
-returns c = ?
+returns c =
+    let s = start (headed (c .before)) in
+    let a = s .args in (
+      λ t. record {
+        action = a .action;
+        kept = a .kept;
+        bytes = laid (c .before) t;
+        len = sym (length-append (a .head .now) (a .tail .now)) t;
+        pc = a .pc;
+        loopstart = a .loopstart;
+      },
+      omega (arith, s .pre),
+    )
 
 pub with-bytes-spec : {M : Type 1} → statement M
 with-bytes-spec =
     tie.close
     (tie.spec
-    slice-aggregate-overwrite-at
-    overwrite-at-requires
-    slice-aggregate-overwrite-at-2
-    overwrite-at-requires-2
-    cast-t14
-    add-t17
-    cast-t18
-    cast-t19
+    (λ c. search needs)
+    (λ c κs. search needs)
+    (λ c. search needs)
+    (λ c κs. search needs)
+    (λ c. search needs)
+    (λ c. search needs)
+    (λ c. search needs)
+    (λ c. search needs)
     returns)

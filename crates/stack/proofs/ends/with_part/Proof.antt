@@ -1,46 +1,38 @@
+-- The bytes between two ends are the part of the stack.
+use mathlib.Core.List.{append-nil}
+use native.Mathlib.Omega.{arith}
+use Rattle.buffer.specs.Buffer.{part}
+use Rattle.buffer.proofs.Parts.{part-length, part-to}
+use Rattle.stack.proofs.Steps.{step-means}
 use borrow.Author.Needs.{needs}
 use Rattle.stack.proofs.ends.with_part.Statement.{statement}
 use Rattle.stack.proofs.ends.with_part.Tie as tie
-use Rattle.stack.proofs.ends.with_part.Reads as reads
-use Rattle.stack.proofs.ends.with_part.Lts as lts
-use Rattle.stack.proofs.ends.with_bytes.Reads as with-bytes-reads
 
--- src/ends.rt:74:15
-add-end : tie.Need-add-end
-add-end c = search needs
+abbrev start : tie.After-with-bytes-arg2 → tie.Start
+start c = c .before .before .before
 
--- src/ends.rt:75:28
-sub-with-bytes : tie.Need-sub-with-bytes
-sub-with-bytes c = search needs
-
--- src/ends.rt:75:28
-part-with-bytes-start : tie.Need-part-with-bytes-start
-part-with-bytes-start c = search needs
-
--- src/ends.rt:75:28
-part-with-bytes-end : tie.Need-part-with-bytes-end
-part-with-bytes-end c = search needs
-
--- src/ends.rt:75:45
-slice-aggregate-with-bytes : tie.Need-slice-aggregate-with-bytes
-slice-aggregate-with-bytes c = search needs
-
--- src/ends.rt:75:5
 with-bytes-requires : tie.Need-with-bytes-requires
-with-bytes-requires c κs = search needs
+with-bytes-requires c κs =
+    let s = start c in
+    let a = s .args in
+    let n = part-length (a .stack .now) (a .at) (a .len) (s .pre .0) in
+    (omega (arith, s .pre), rw (part-to (a .stack .now) (a .at) (a .len)) (omega (arith, s .pre)), s .pre .2)
 
--- src/ends.rt:62:1
 returns : tie.Need-returns
-returns c = ?
+returns c =
+    let s = start (c .before) in
+    let a = s .args in
+    step-means (a .stack .now) (part (a .stack .now) (a .at) (a .len))
+    (rw (append-nil, part-to (a .stack .now) (a .at) (a .len)) at (c .with-bytes .ensures)) (omega (arith, s .pre))
 
 pub with-part-spec : {M : Type 1} → statement M
 with-part-spec =
     tie.close
     (tie.spec
-    add-end
-    sub-with-bytes
-    part-with-bytes-start
-    part-with-bytes-end
-    slice-aggregate-with-bytes
+    (λ c. search needs)
+    (λ c. search needs)
+    (λ c. search needs)
+    (λ c. search needs)
+    (λ c. search needs)
     with-bytes-requires
     returns)

@@ -1,52 +1,40 @@
+-- A byte that is missing counts as zero, in the definition as in the array.
+use Prim.Native.Nat.{ℕ, _-_}
+use mathlib.Core.List.{List, [], _∷_}
+use mathlib.Core.Path.{_≡_, ap, _∙_}
+use lib.ListN.{length, getD}
+use Rattle.buffer.proofs.Buffer.{overwrite-zeros}
+use Rattle.number.specs.Value.{numberOf}
+use Rattle.stack.proofs.Popping.{padded-at}
 use borrow.Author.Needs.{needs}
 use Rattle.stack.proofs.tops.number_of.Statement.{statement}
 use Rattle.stack.proofs.tops.number_of.Tie as tie
-use Rattle.stack.proofs.tops.number_of.Reads as reads
-use Rattle.stack.proofs.tops.number_of.Lts as lts
-use Rattle.buffer.proofs.bytes.overwrite_at.Reads as overwrite-at-reads
-use Rattle.number.proofs.value.decode.Reads as decode-reads
 
--- src/tops.rt:81:33
-slice-aggregate-overwrite-at : tie.Need-slice-aggregate-overwrite-at
-slice-aggregate-overwrite-at c = search needs
+abbrev start : tie.After-overwrite-at → tie.Start
+start c = c .before .before .before
 
--- src/tops.rt:81:5
-overwrite-at-requires : tie.Need-overwrite-at-requires
-overwrite-at-requires c κs = search needs
+byte : (c : tie.After-overwrite-at) (i : ℕ) → getD (c .overwrite-at .last .0) i 0 ≡ getD (start c .args .bytes .now) i 0
+byte c i =
+    let b = start c .args .bytes .now in
+    ap (λ (l : List ℕ). getD l i 0) (c .overwrite-at .ensures ∙ overwrite-zeros b 4) ∙ padded-at b (4 - length b) i
 
--- src/tops.rt:82:33
-array-read-decode : tie.Need-array-read-decode
-array-read-decode c = search needs
+decoded : (c : tie.After-overwrite-at) (kind : ℕ) → let b = c .overwrite-at .last .0 in
+    numberOf kind (getD b 0 0 ∷ getD b 1 0 ∷ getD b 2 0 ∷ getD b 3 0 ∷ []) ≡ numberOf kind (start c .args .bytes .now)
+unfolding numberOf
+decoded c kind = λ t. numberOf kind (byte c 0 t ∷ byte c 1 t ∷ byte c 2 t ∷ byte c 3 t ∷ [])
 
--- src/tops.rt:82:39
-array-read-decode-2 : tie.Need-array-read-decode-2
-array-read-decode-2 c = search needs
-
--- src/tops.rt:82:45
-array-read-decode-3 : tie.Need-array-read-decode-3
-array-read-decode-3 c = search needs
-
--- src/tops.rt:82:51
-array-read-decode-4 : tie.Need-array-read-decode-4
-array-read-decode-4 c = search needs
-
--- src/tops.rt:82:5
-decode-requires : tie.Need-decode-requires
-decode-requires c κs = search needs
-
--- src/tops.rt:76:1
 returns : tie.Need-returns
-returns c = ?
+returns c = let o = c .before .before in rw (← decoded o (start o .args .kind)) (c .decode .ensures)
 
 pub number-of-spec : {M : Type 1} → statement M
 number-of-spec =
     tie.close
     (tie.spec
-    slice-aggregate-overwrite-at
-    overwrite-at-requires
-    array-read-decode
-    array-read-decode-2
-    array-read-decode-3
-    array-read-decode-4
-    decode-requires
+    (λ c. search needs)
+    (λ c κs. search needs)
+    (λ c. search needs)
+    (λ c. search needs)
+    (λ c. search needs)
+    (λ c. search needs)
+    (λ c κs. search needs)
     returns)

@@ -1,33 +1,37 @@
+-- As many bytes as the type says, below the type.
+use Prim.Native.Nat.{_≤_, _<_, _+_}
+use lib.ListN.{length}
+use native.Mathlib.Omega.{arith}
+use borrow.Author.Tests.{le-leb, lt-leb}
+use Rattle.machine.specs.Stack.{popNumber}
 use borrow.Author.Needs.{needs}
 use Rattle.stack.proofs.tops.number_on_top.Statement.{statement}
 use Rattle.stack.proofs.tops.number_on_top.Tie as tie
-use Rattle.stack.proofs.tops.number_on_top.Reads as reads
-use Rattle.stack.proofs.tops.number_on_top.Lts as lts
-use Rattle.stack.proofs.tops.wide.Reads as wide-reads
 
--- src/tops.rt:48:9
-wide-requires : tie.Need-wide-requires
-wide-requires c κs = search needs
+abbrev start : tie.After-wide → tie.Start
+start c = c .before .before
 
--- src/tops.rt:49:12
-add-if1 : tie.Need-add-if1
-add-if1 c = search needs
-
--- src/tops.rt:50:9
 returns : tie.Need-returns
-returns c = ?
+unfolding popNumber
+returns c =
+    let a = start (c .before) .args in
+    let h : length (a .stack .now) < a .kind + 1 = omega (arith, c .before .wide .ensures) in
+    (rw (lt-leb _ _ h), omega arith)
 
--- src/tops.rt:52:26
-sub-t5 : tie.Need-sub-t5
-sub-t5 c = search needs
-
--- src/tops.rt:52:26
-sub-t7 : tie.Need-sub-t7
-sub-t7 c = search needs
-
--- src/tops.rt:43:1
 returns-2 : tie.Need-returns-2
-returns-2 c = ?
+unfolding popNumber
+returns-2 c =
+    let a = start (c .before) .args in
+    let h : a .kind + 1 ≤ length (a .stack .now) = omega (arith, c .before .wide .ensures) in
+    (rw (le-leb _ _ h, c .before .wide .ensures), omega arith)
 
 pub number-on-top-spec : {M : Type 1} → statement M
-number-on-top-spec = tie.close (tie.spec wide-requires add-if1 returns sub-t5 sub-t7 returns-2)
+number-on-top-spec =
+    tie.close
+    (tie.spec
+    (λ c κs. search needs)
+    (λ c. search needs)
+    returns
+    (λ c. search needs)
+    (λ c. search needs)
+    returns-2)

@@ -1,62 +1,87 @@
+-- The number is that of the value's bytes, of which there are at most four.
+use Prim.Native.Nat.{ℕ, _≤_}
+use mathlib.Core.Logic.{⊎-elim}
+use mathlib.Core.Path.{sym, ap, _∙_}
+use lib.ListN.{take}
+use native.Mathlib.Omega.{arith}
+use Rattle.buffer.proofs.Parts.{part-to}
+use Rattle.machine.proofs.Instructions.Popping.{number-kinds, number-no-string}
+use Rattle.number.specs.Value.{numberOf}
+use Rattle.number.specs.declared.Number.{Number}
+use Rattle.stack.specs.Tops.{numberAbove}
+use Rattle.stack.proofs.Popping.{OnTop, no-value, numeric-number, value-on-top}
 use borrow.Author.Needs.{needs}
 use Rattle.stack.proofs.tops.top_number.Statement.{statement}
 use Rattle.stack.proofs.tops.top_number.Tie as tie
-use Rattle.stack.proofs.tops.top_number.Reads as reads
-use Rattle.stack.proofs.tops.top_number.Lts as lts
-use Rattle.stack.proofs.tops.number_of.Reads as number-of-reads
-use Rattle.stack.proofs.tops.top_value.Reads as top-value-reads
 
--- src/tops.rt:90:11
-top-value-requires : tie.Need-top-value-requires
-top-value-requires c κs = search needs
+-- ---- the states: popped; a value, with its type, place and length
+abbrev start : tie.After-top-value → tie.Start
+start c = c .before .before
 
--- src/tops.rt:91:24
-enum-known-kind : tie.Need-enum-known-kind
-enum-known-kind c = search needs
+abbrev popped : tie.After-kind → tie.After-top-value
+popped c = c .before .before
 
--- src/tops.rt:92:23
+abbrev kind : tie.After-kind → ℕ
+kind c = c .kind .given .0 .0
+
+abbrev at : tie.After-kind → ℕ
+at c = c .kind .given .0 .1 .0
+
+abbrev len : tie.After-kind → ℕ
+len c = c .kind .given .0 .1 .1 .0
+
+value : (c : tie.After-kind) → let a = start (popped c) .args in OnTop (a .types) (a .stack .now) (kind c) (at c) (len c)
+value c =
+    let a = start (popped c) .args in
+    value-on-top (a .types) (a .stack .now) (popped c .top-value .ensures) (c .kind .given .1)
+
+-- it has at most four bytes
+few : (c : tie.After-kind) → len c ≤ 4
+few c =
+    let s = start (popped c) in
+    let v = value c in
+    let n = numeric-number (s .args .types) (kind c) (s .pre) (v .off .taken) in
+    let z = sym (v .size) ∙ v .off .number (number-no-string (kind c) n) in
+    ⊎-elim (λ e. omega arith) (λ o. ⊎-elim (λ e. omega arith) (λ e. omega arith) o) (number-kinds (kind c) n)
+
 add-end : tie.Need-add-end
-add-end c = ?
+add-end c = omega (arith, value (c .before) .inside)
 
--- src/tops.rt:93:43
-sub-number-of : tie.Need-sub-number-of
-sub-number-of c = search needs
-
--- src/tops.rt:93:43
-part-number-of-start : tie.Need-part-number-of-start
-part-number-of-start c = search needs
-
--- src/tops.rt:93:43
 part-number-of-end : tie.Need-part-number-of-end
-part-number-of-end c = ?
+part-number-of-end c = let i = value (c .before) .inside in omega arith
 
--- src/tops.rt:93:27
 number-of-requires : tie.Need-number-of-requires
-number-of-requires c κs = ?
+number-of-requires c κs =
+    let k = c .before .before in
+    rw (part-to (start (popped k) .args .stack .now) (at k) (len k)) (omega (arith, value k .size, few k))
 
--- src/tops.rt:95:27
-enum-known-fault : tie.Need-enum-known-fault
-enum-known-fault c = search needs
-
--- src/tops.rt:85:1
 returns : tie.Need-returns
-returns c = ?
+returns c =
+    let k = c .before .before .before in
+    let st = start (popped k) .args .stack .now in
+    let v = value k in (
+      rw (v .pops) (ap (λ (a : Number). numberAbove a (take (at k) st)) (c .number-of .ensures ∙ ap (numberOf (kind k)) (part-to st (at k) (len k)))),
+      omega (arith, v .inside),
+    )
 
--- src/tops.rt:85:1
 returns-2 : tie.Need-returns-2
-returns-2 c = ?
+returns-2 c =
+    let k = c .before in
+    let p = k .before .before in
+    let a = start p .args in
+    (rw (no-value (a .types) (a .stack .now) (p .top-value .ensures) (k .fault .given .1)), omega arith)
 
 pub top-number-spec : {M : Type 1} → statement M
 top-number-spec =
     tie.close
     (tie.spec
-    top-value-requires
-    enum-known-kind
+    (λ c κs. search needs)
+    (λ c. search needs)
     add-end
-    sub-number-of
-    part-number-of-start
+    (λ c. search needs)
+    (λ c. search needs)
     part-number-of-end
     number-of-requires
-    enum-known-fault
+    (λ c. search needs)
     returns
     returns-2)

@@ -1,53 +1,62 @@
+-- The tests in the order of the definition.
+use mathlib.Core.Path.{sym, _∙_}
+use lib.ListN.{length}
+use native.Mathlib.Omega.{arith}
+use borrow.Author.Tests.{eq-eqb, le-leb, lt-leb, ne-eqb, not-false, not-true}
+use Rattle.machine.specs.Stack.{pop}
 use borrow.Author.Needs.{needs}
 use Rattle.stack.proofs.tops.top_value.Statement.{statement}
 use Rattle.stack.proofs.tops.top_value.Tie as tie
-use Rattle.stack.proofs.tops.top_value.Reads as reads
-use Rattle.stack.proofs.tops.top_value.Lts as lts
-use Rattle.number.proofs.instruction.takes.Reads as takes-reads
-use Rattle.stack.proofs.tops.number_on_top.Reads as number-on-top-reads
-use Rattle.stack.proofs.tops.string_on_top.Reads as string-on-top-reads
 
--- src/tops.rt:63:9
+-- ---- the state: the type is read and judged
+abbrev start : tie.After-takes → tie.Start
+start c = let read = c .before in read .before .before .before
+
 returns : tie.Need-returns
-returns c = ?
+unfolding pop
+returns c = (rw (lt-leb 1 (length (c .before .before .args .stack .now)) (omega arith)), omega arith)
 
--- src/tops.rt:65:16
-shared-slice-read-kind : tie.Need-shared-slice-read-kind
-shared-slice-read-kind c = search needs
-
--- src/tops.rt:66:9
-takes-requires : tie.Need-takes-requires
-takes-requires c κs = search needs
-
--- src/tops.rt:67:9
 returns-2 : tie.Need-returns-2
-returns-2 c = ?
+unfolding pop
+returns-2 c =
+    let t = c .before in
+    (rw (le-leb 1 (length (start t .args .stack .now)) (omega arith), sym (t .takes .ensures) ∙ not-true _ (c .if2 .taken)), omega arith)
 
--- src/tops.rt:70:9
-string-on-top-requires : tie.Need-string-on-top-requires
-string-on-top-requires c κs = search needs
-
--- src/tops.rt:70:9
 returns-3 : tie.Need-returns-3
-returns-3 c = ?
+unfolding pop
+returns-3 c =
+    let s = c .before in
+    let t = s .before .before in (
+      rw (
+        le-leb 1 (length (start t .args .stack .now)) (omega arith),
+        sym (t .takes .ensures) ∙ not-false _ (s .before .if2 .left),
+        eq-eqb _ _ (s .if3 .taken),
+      ) (c .string-on-top .ensures .0),
+      c .string-on-top .ensures .1,
+    )
 
--- src/tops.rt:72:5
-number-on-top-requires : tie.Need-number-on-top-requires
-number-on-top-requires c κs = search needs
-
--- src/tops.rt:57:1
 returns-4 : tie.Need-returns-4
-returns-4 c = ?
+unfolding pop
+returns-4 c =
+    let s = c .before in
+    let t = s .before .before in (
+      rw (
+        le-leb 1 (length (start t .args .stack .now)) (omega arith),
+        sym (t .takes .ensures) ∙ not-false _ (s .before .if2 .left),
+        ne-eqb _ _ (s .if3 .left),
+      ) (c .number-on-top .ensures .0),
+      c .number-on-top .ensures .1,
+    )
 
 pub top-value-spec : {M : Type 1} → statement M
 top-value-spec =
     tie.close
     (tie.spec
     returns
-    shared-slice-read-kind
-    takes-requires
+    (λ c. search needs)
+    (λ c κs. search needs)
     returns-2
-    string-on-top-requires
+    (λ c κs. search needs)
     returns-3
-    number-on-top-requires
+    (λ c κs. search needs)
     returns-4)
