@@ -30,7 +30,7 @@ use Rattle.number.specs.declared.operators.Unary.the-variants.{Abs, Sq, Sqrt}
 use Rattle.store.specs.Name.{trimmed}
 use Rattle.machine.specs.Effect.{number}
 use Rattle.machine.specs.Stack.{Item, Popped, popped, cannot, pop, stringKind}
-use Rattle.machine.proofs.Instructions.Popping.{Pops, TakenOff, pop-pops}
+use Rattle.machine.proofs.Instructions.Popping.{Pops, TakenOff, number-kinds, pop-pops}
 use Rattle.stack.specs.Tops.{bytesBelow, isNumeric, numberOn, numbered, valueEnd, valueOn}
 use Rattle.stack.specs.declared.TopNumber.{TopNumber}
 use Rattle.stack.specs.declared.TopNumber.the-variants.{Is, NoNumber}
@@ -124,6 +124,17 @@ numeric-number CharOrFloat kind n h = either-number kind 1 4 refl refl h
 numeric-number AnyString kind n h = absurd (true-not-false n refl)
 numeric-number AnyValue kind n h = absurd (true-not-false n refl)
 numeric-number Nothing kind n h = absurd (true-not-false h refl)
+
+pub number-small : (kind : ℕ) → includes AnyNumber kind ≡ true → kind ≤ 4
+number-small kind h = ⊎-elim (λ e. omega arith) (λ o. ⊎-elim (λ e. omega arith) (λ e. omega arith) o) (number-kinds kind h)
+
+-- a value that is no string is a number
+pub value-small : (stack : List ℕ) (kind at len : ℕ) → OnTop AnyValue stack kind at len → (kind ≡ stringKind → ⊥) → len ≤ 4
+unfolding includes
+value-small stack kind at len t n =
+    let z = sym (t .size) ∙ t .off .number n in
+    ⊎-elim (λ e. absurd (n (eqb-true kind stringKind e))) (λ h. omega (arith, number-small kind h))
+    (or-cases (eqb kind stringKind) (includes AnyNumber kind) (t .off .taken))
 
 -- an operator takes numbers alone
 conversion-numeric : (o : Conversion) → isNumeric (conversionTypes o) ≡ true

@@ -1,15 +1,14 @@
 -- The number is that of the value's bytes, of which there are at most four.
 use Prim.Native.Nat.{ℕ, _≤_}
-use mathlib.Core.Logic.{⊎-elim}
 use mathlib.Core.Path.{sym, ap, _∙_}
 use lib.ListN.{take}
 use native.Mathlib.Omega.{arith}
 use Rattle.buffer.proofs.Parts.{part-to}
-use Rattle.machine.proofs.Instructions.Popping.{number-kinds, number-no-string}
+use Rattle.machine.proofs.Instructions.Popping.{number-no-string}
 use Rattle.number.specs.Value.{numberOf}
 use Rattle.number.specs.declared.Number.{Number}
 use Rattle.stack.specs.Tops.{numberAbove}
-use Rattle.stack.proofs.Popping.{OnTop, no-value, numeric-number, value-on-top}
+use Rattle.stack.proofs.Popping.{OnTop, no-value, number-small, numeric-number, value-on-top}
 use borrow.Author.Needs.{needs}
 use Rattle.stack.proofs.tops.top_number.Statement.{statement}
 use Rattle.stack.proofs.tops.top_number.Tie as tie
@@ -42,7 +41,7 @@ few c =
     let v = value c in
     let n = numeric-number (s .args .types) (kind c) (s .pre) (v .off .taken) in
     let z = sym (v .size) ∙ v .off .number (number-no-string (kind c) n) in
-    ⊎-elim (λ e. omega arith) (λ o. ⊎-elim (λ e. omega arith) (λ e. omega arith) o) (number-kinds (kind c) n)
+    omega (arith, number-small (kind c) n)
 
 add-end : tie.Need-add-end
 add-end c = omega (arith, value (c .before) .inside)
