@@ -1,0 +1,6 @@
+pub mod Reading
+pub mod Runs
+pub mod Tables
+pub mod Owned
+pub mod Lengths
+pub mod Writing

@@ -1,0 +1,118 @@
+-- A part of the state changed and the whole written: the part's own bytes are laid over the area, and no other.
+use Prim.Native.Nat.{ℕ, suc, _+_, _<_}
+use mathlib.Core.Path.{_≡_, refl, sym, ap, ap₂, _∙_}
+use mathlib.Core.List.{List, [], _∷_, _++_, append-assoc}
+use native.Mathlib.Omega.{arith}
+use lib.ListN.{length, take, drop, set, length-append}
+use lib.Seq.{set-split, split-at}
+use Rattle.buffer.specs.Buffer.{overwrite, wordBytes}
+use Rattle.buffer.specs.Lists.{flat}
+use Rattle.variable.specs.Table.{Shaped}
+use Rattle.variable.specs.declared.Variables.{Variables}
+use Rattle.machine.specs.Area.{Whole, kernelBytes, kernelOf, processBytes}
+use Rattle.machine.specs.Limits.{areaLength, nextAt, slotCount}
+use Rattle.machine.specs.State.{noProcess, processAt, withProcess, withVariables}
+use Rattle.machine.specs.declared.Kernel.{Kernel}
+use Rattle.machine.specs.declared.Process.{Process}
+use Rattle.machine.proofs.Bytes.Records.{process-bytes-length}
+use Rattle.machine.proofs.Bytes.Sizes.{Sized, SizedProcess, decoded-sized, with-process-sized}
+use Rattle.area.specs.Parts.{recordAt, variablesBytes}
+use Rattle.area.proofs.Runs.{overwrite-middle}
+use Rattle.area.proofs.Lengths.{head-bytes-length, headBytes, records-length, variables-bytes-length}
+
+-- what is made of each element before one, of that one, and of each behind it
+flat-around : {A : Type 0} (f : A → List ℕ) (l : List A) (x : A) (m : List A) → flat f (l ++ (x ∷ m)) ≡ flat f l ++ f x ++ flat f m
+unfolding flat
+flat-around f [] x m = refl
+flat-around f (y ∷ l) x m = rw (flat-around f l x m) (simp append-assoc)
+
+-- ---- a state of the right lengths
+abbrev pub withNext : Kernel → ℕ → Kernel
+withNext k next = record { variables = k .variables; next = next; zeros = k .zeros; processes = k .processes }
+
+module _ (k : Kernel) (sized : Sized k) where
+  -- the bytes around the record of a slot
+  abbrev before : ℕ → List ℕ
+  before i = headBytes k ++ flat processBytes (take i (k .processes))
+
+  abbrev behind : ℕ → List ℕ
+  behind i = flat processBytes (drop (suc i) (k .processes))
+
+  around : (i : ℕ) (p : Process) (l : List Process) → l ≡ take i (k .processes) ++ (p ∷ drop (suc i) (k .processes))
+      → headBytes k ++ flat processBytes l ≡ before i ++ processBytes p ++ behind i
+  around i p l e =
+      rw (e, flat-around processBytes (take i (k .processes)) p (drop (suc i) (k .processes))) (simp append-assoc)
+
+  pub process-bytes-put : (i : ℕ) (p : Process) → i < slotCount → SizedProcess p
+      → kernelBytes (withProcess k i p) ≡ overwrite (kernelBytes k) (recordAt i) (processBytes p)
+  unfolding kernelBytes
+  process-bytes-put i p h s =
+      let n : length (k .processes) ≡ slotCount = sized .processes in
+      let old = processAt k i in
+      let at : length (before i) ≡ recordAt i =
+      length-append (headBytes k) (flat processBytes (take i (k .processes)))
+      ∙ ap₂ _+_ (head-bytes-length k (sized .variables) (sized .zeros))
+      (records-length (k .processes) i (omega arith) (λ j m. sized .each j (omega arith))) in
+      let same : length (processBytes old) ≡ length (processBytes p) =
+      process-bytes-length old (sized .each i h) ∙ sym (process-bytes-length p s) in
+      around i p (set (k .processes) i p) (set-split (k .processes) i p (omega arith))
+      ∙ sym (overwrite-middle (before i) (processBytes old) (processBytes p) (behind i) (recordAt i) at same)
+      ∙ ap (λ (l : List ℕ). overwrite l (recordAt i) (processBytes p))
+      (sym (around i old (k .processes) (split-at (k .processes) i noProcess (omega arith))))
+
+  pub variables-bytes-put : (v : Variables) → Shaped v
+      → kernelBytes (withVariables k v) ≡ overwrite (kernelBytes k) 0 (variablesBytes v)
+  unfolding kernelBytes
+  variables-bytes-put v s =
+      let old = k .variables in
+      let rest : List ℕ = wordBytes (k .next) ++ k .zeros ++ flat processBytes (k .processes) in
+      let split : (b : List ℕ) → b ++ wordBytes (k .next) ++ k .zeros ++ flat processBytes (k .processes) ≡ b ++ rest =
+      λ b. simp append-assoc in
+      split (variablesBytes v)
+      ∙ sym (overwrite-middle [] (variablesBytes old) (variablesBytes v) rest 0 refl
+      (variables-bytes-length old (sized .variables) ∙ sym (variables-bytes-length v s)))
+      ∙ ap (λ (l : List ℕ). overwrite l 0 (variablesBytes v)) (sym (split (variablesBytes old)))
+
+  pub next-bytes-put : (next : ℕ) → kernelBytes (withNext k next) ≡ overwrite (kernelBytes k) nextAt (wordBytes next)
+  unfolding kernelBytes
+  next-bytes-put next =
+      let front = variablesBytes (k .variables) in
+      let rest : List ℕ = k .zeros ++ flat processBytes (k .processes) in
+      append-assoc (front ++ wordBytes next) (k .zeros) (flat processBytes (k .processes))
+      ∙ sym (overwrite-middle front (wordBytes (k .next)) (wordBytes next) rest nextAt
+      (variables-bytes-length (k .variables) (sized .variables)) refl)
+      ∙ ap (λ (l : List ℕ). overwrite l nextAt (wordBytes next))
+      (sym (append-assoc (front ++ wordBytes (k .next)) (k .zeros) (flat processBytes (k .processes))))
+
+-- ---- an area that is all that its state says
+module _ (area : List ℕ) (size : length area ≡ areaLength) (whole : Whole area) where
+  abbrev sized : Sized (kernelOf area)
+  sized = decoded-sized area size
+
+  pub process-written : (i : ℕ) (p : Process) → i < slotCount → SizedProcess p
+      → kernelBytes (withProcess (kernelOf area) i p) ≡ overwrite area (recordAt i) (processBytes p)
+  process-written i p h s =
+      process-bytes-put (kernelOf area) sized i p h s ∙ ap (λ (l : List ℕ). overwrite l (recordAt i) (processBytes p)) whole
+
+  pub variables-written : (v : Variables) → Shaped v
+      → kernelBytes (withVariables (kernelOf area) v) ≡ overwrite area 0 (variablesBytes v)
+  variables-written v s = variables-bytes-put (kernelOf area) sized v s ∙ ap (λ (l : List ℕ). overwrite l 0 (variablesBytes v)) whole
+
+  pub next-written : (next : ℕ) → kernelBytes (withNext (kernelOf area) next) ≡ overwrite area nextAt (wordBytes next)
+  next-written next = next-bytes-put (kernelOf area) sized next ∙ ap (λ (l : List ℕ). overwrite l nextAt (wordBytes next)) whole
+
+  -- a process, then the variables: as a SET and an ending do
+  pub process-variables-written : (i : ℕ) (p : Process) (v : Variables) → i < slotCount → SizedProcess p → Shaped v
+      → kernelBytes (withVariables (withProcess (kernelOf area) i p) v)
+      ≡ overwrite (overwrite area (recordAt i) (processBytes p)) 0 (variablesBytes v)
+  process-variables-written i p v h s t =
+      variables-bytes-put (withProcess (kernelOf area) i p) (with-process-sized (kernelOf area) sized i p (λ m. s)) v t
+      ∙ ap (λ (l : List ℕ). overwrite l 0 (variablesBytes v)) (process-written i p h s)
+
+  -- a process, then next ID: as a start does
+  pub process-next-written : (i : ℕ) (p : Process) (next : ℕ) → i < slotCount → SizedProcess p
+      → kernelBytes (withNext (withProcess (kernelOf area) i p) next)
+      ≡ overwrite (overwrite area (recordAt i) (processBytes p)) nextAt (wordBytes next)
+  process-next-written i p next h s =
+      next-bytes-put (withProcess (kernelOf area) i p) (with-process-sized (kernelOf area) sized i p (λ m. s)) next
+      ∙ ap (λ (l : List ℕ). overwrite l nextAt (wordBytes next)) (process-written i p h s)

@@ -1,0 +1,81 @@
+// A process's start and end, on the state by value.
+use machine::Kernel;
+use machine::OpenFile;
+use machine::Process;
+use machine::limits::STACK_SIZE;
+use place::Run;
+use store::Entry;
+ghost use mathlib.Core.Path.{_≡_};
+ghost use Prim.Native.Nat.{_<_, _≤_};
+ghost use Rattle.machine.specs.Limits.{slotCount};
+ghost use Rattle.machine.specs.Start.{startedProcess};
+ghost use Rattle.machine.specs.State.{ended, endedProcess};
+ghost use Rattle.variable.specs.Limits.{maxVariables};
+
+// Document 01: "loop 2 (hex FFFF: none)"
+const NO_LOOP: u16 = 65535;
+
+// Document 01: "Its record keeps name, ID and fault (0 unless a fault) and is otherwise zero."
+pub fn ended_process(p: Process, fault: u8) -> Process
+    ensures { λ r. ⌜ r ≡ endedProcess p fault ⌝ }
+{
+    let name = p.name;
+    Process {
+        name: name,
+        id: p.id,
+        state: 0,
+        fault: fault,
+        code: Run { start: 0, len: 0 },
+        pc: 0,
+        loopstart: 0,
+        file: OpenFile {
+            start: 0,
+            len: 0,
+            offset: 0,
+        },
+        sp: 0,
+        spare: 0,
+        stack: [0u8; STACK_SIZE],
+    }
+}
+
+// Document 01: "Ending (STOP, kill, fault) frees the process's variables."
+pub fn end_process(k: Kernel, slot: usize, fault: u8) -> Kernel
+    requires { ⌜ (slot < slotCount) × (k .variables .count ≤ maxVariables) ⌝ }
+    ensures { λ r. ⌜ r ≡ ended k slot fault ⌝ }
+{
+    let p = k.processes[slot];
+    let variables = k.variables;
+    let left = variable::table::free_all(variables, p.id);
+    let mut after = k;
+    after.variables = left;
+    after.processes[slot] = ended_process(p, fault);
+    after
+}
+
+// Document 01, Run: "state 'r', no loop, name, ID and code filled in, all else of the record zero."
+pub fn started_process(e: Entry, id: u16) -> Process
+    ensures { λ r. ⌜ r ≡ startedProcess e id ⌝ }
+{
+    let name = e.name;
+    Process {
+        name: name,
+        id: id,
+        state: b'r',
+        fault: 0,
+        code: Run {
+            start: e.start,
+            len: e.len,
+        },
+        pc: 0,
+        loopstart: NO_LOOP,
+        file: OpenFile {
+            start: 0,
+            len: 0,
+            offset: 0,
+        },
+        sp: 0,
+        spare: 0,
+        stack: [0u8; STACK_SIZE],
+    }
+}
