@@ -157,7 +157,8 @@ fn print_value(kind: u8, bytes: &[u8], ends: bool, kept: usize, pc: usize, loops
 // PRINT, and PRINTLN with a newline.
 pub fn print(code: &[u8], stack: &[u8], at: usize, loopstart: u16, ends: bool) -> Step
     requires { ⌜ Ready (now code) (now stack) at ⌝ }
-    ensures { λ r. ⌜ Means (now (stack .entry)) r (prints (now (code .entry)) (now (stack .entry)) loopstart at ends) ⌝ }
+    ensures { λ r. ⌜ Means (now (stack .entry)) r
+        (prints (now (code .entry)) (now (stack .entry)) loopstart at ends) ⌝ }
 {
     match top_value(stack, Types::AnyValue) {
         TopValue::Lies(kind, place, len) => {

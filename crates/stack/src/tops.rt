@@ -21,7 +21,8 @@ pub fn wide(byte: u8) -> usize
 }
 
 fn string_on_top(stack: &[u8]) -> TopValue
-    ensures { λ r. ⌜ (valueOn (now (stack .entry)) r ≡ popString (now (stack .entry)) (length (now (stack .entry))))
+    ensures { λ r. ⌜ (valueOn (now (stack .entry)) r
+        ≡ popString (now (stack .entry)) (length (now (stack .entry))))
         × (valueEnd r ≤ length (now (stack .entry))) ⌝ }
 {
     let n = stack.len();
@@ -41,7 +42,8 @@ fn string_on_top(stack: &[u8]) -> TopValue
 }
 
 fn number_on_top(stack: &[u8], kind: u8) -> TopValue
-    ensures { λ r. ⌜ (valueOn (now (stack .entry)) r ≡ popNumber (now (stack .entry)) (length (now (stack .entry))) kind)
+    ensures { λ r. ⌜ (valueOn (now (stack .entry)) r
+        ≡ popNumber (now (stack .entry)) (length (now (stack .entry))) kind)
         × (valueEnd r ≤ length (now (stack .entry))) ⌝ }
 {
     let n = stack.len();

@@ -1,4 +1,5 @@
 -- The number goes, and what lies below it stays.
+use native.Mathlib.Omega.{arith}
 use Rattle.number.specs.declared.instruction.Types.the-variants.{AnyNumber}
 use Rattle.stack.proofs.Popping.{NumberOnTop, no-number, number-on-top}
 use Rattle.stack.proofs.Steps.{last-means}
@@ -20,7 +21,7 @@ go-requires : tie.Need-go-requires
 go-requires c κs =
     let k = c .before in
     let s = start (popped k) in
-    record { short = s .pre .short; low = s .pre .low; there = top k .below }
+    record { short = s .pre .short; low = s .pre .low; there = omega (arith, top k .below) }
 
 returns : tie.Need-returns
 returns c = rw (top (c .before .before) .pops) (c .go .ensures)

@@ -11,7 +11,10 @@ use borrow.Author.Needs.{needs}
 use Rattle.instruction.proofs.flow.end_while.Statement.{statement}
 use Rattle.instruction.proofs.flow.end_while.Tie as tie
 
--- ---- the state: the raw byte read
+-- ---- the states: nothing there; the raw byte read
+abbrev empty : tie.Then1 → tie.Start
+empty c = c .before .before .before
+
 abbrev some : tie.After-wide → tie.Else1
 some c = c .before .before
 
@@ -20,7 +23,7 @@ start c = some c .before .before .before
 
 returns : tie.Need-returns
 returns c =
-    let a = c .before .before .before .before .args in
+    let a = empty (c .before) .args in
     rw (lt-leb 1 (length (a .stack .now)) (omega arith)) (last-means (a .stack .now) (c .last-step .ensures))
 
 returns-2 : tie.Need-returns-2

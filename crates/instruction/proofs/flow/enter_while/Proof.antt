@@ -10,7 +10,10 @@ use borrow.Author.Needs.{needs}
 use Rattle.instruction.proofs.flow.enter_while.Statement.{statement}
 use Rattle.instruction.proofs.flow.enter_while.Tie as tie
 
--- ---- the states: the argument bytes are there; popped; a number; judged
+-- ---- the states: the code ends; the argument bytes are there; popped; a number; judged
+abbrev ended : tie.Then1 → tie.Start
+ended c = c .before .before .before
+
 abbrev start : tie.Else1 → tie.Start
 start c = c .before .before .before
 
@@ -29,7 +32,7 @@ top c = number-on-top AnyNumber (start (popped c .before) .args .stack .now) (po
 
 returns : tie.Need-returns
 returns c =
-    let a = c .before .before .before .before .args in
+    let a = ended (c .before) .args in
     rw (lt-leb (a .at + 1 + 2) (length (a .code .now)) (omega arith)) (last-means (a .stack .now) (c .last-step .ensures))
 
 choose-while-requires : tie.Need-choose-while-requires

@@ -13,7 +13,10 @@ use borrow.Author.Needs.{needs}
 use Rattle.instruction.proofs.flow.jump_if.Statement.{statement}
 use Rattle.instruction.proofs.flow.jump_if.Tie as tie
 
--- ---- the states: an argument byte is there; popped; a number; judged
+-- ---- the states: the code ends; an argument byte is there; popped; a number; judged
+abbrev ended : tie.Then1 → tie.Start
+ended c = c .before .before .before
+
 abbrev start : tie.Else1 → tie.Start
 start c = c .before .before .before
 
@@ -36,7 +39,7 @@ judged c = ap (λ (b : Bool). Bool·beq b (start (popped (number c) .before) .ar
 
 returns : tie.Need-returns
 returns c =
-    let a = c .before .before .before .before .args in
+    let a = ended (c .before) .args in
     rw (lt-leb (a .at + 1 + 1) (length (a .code .now)) (omega arith)) (last-means (a .stack .now) (c .last-step .ensures))
 
 add-jump : tie.Need-add-jump

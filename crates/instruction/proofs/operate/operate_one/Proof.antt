@@ -18,9 +18,6 @@ top : (c : tie.After-x) → let y = popped c .before in
 top c = let y = popped c .before in
     number-on-top (y .types-of .result) (start y .args .stack .now) (popped c .top-number .ensures) (c .x .given .1)
 
-top-number-requires : tie.Need-top-number-requires
-top-number-requires c κs = rw (c .types-of .ensures) (unary-numeric (start c .args .operator))
-
 push-outcome-requires : tie.Need-push-outcome-requires
 push-outcome-requires c κs =
     let k = c .before .before in
@@ -50,7 +47,7 @@ operate-one-spec =
     tie.close
     (tie.spec
     (λ c κs. search needs)
-    top-number-requires
+    (λ c κs. rw (c .types-of .ensures) (unary-numeric (start c .args .operator)))
     (λ c. search needs)
     (λ c κs. search needs)
     (λ c. search needs)

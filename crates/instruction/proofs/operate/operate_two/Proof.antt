@@ -45,9 +45,6 @@ below : (c : tie.After-x) → let k = second (popped-2 c) in
 below c = let k = second (popped-2 c) in
     number-on-top (popped k .before .types-of .result) (rest k) (popped-2 c .top-number2 .ensures) (c .x .given .1)
 
-top-number-requires : tie.Need-top-number-requires
-top-number-requires c κs = rw (c .types-of .ensures) (binary-numeric (start c .args .operator))
-
 top-number-requires-2 : tie.Need-top-number-requires-2
 top-number-requires-2 c κs =
     let y = popped (c .before .before) .before in
@@ -108,7 +105,7 @@ operate-two-spec =
     tie.close
     (tie.spec
     (λ c κs. search needs)
-    top-number-requires
+    (λ c κs. rw (c .types-of .ensures) (binary-numeric (start c .args .operator)))
     (λ c. search needs)
     (λ c. sym (lent (c .before .before)))
     top-number-requires-2

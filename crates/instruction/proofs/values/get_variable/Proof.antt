@@ -7,9 +7,10 @@ use lib.Seq.{length-take-le, take-length}
 use native.Mathlib.Omega.{arith}
 use borrow.Author.Tests.{le-leb, lt-leb}
 use Rattle.buffer.specs.Buffer.{part}
+use Rattle.buffer.specs.declared.Found.the-variants.{At}
 use Rattle.variable.specs.Assign.{valueBytes}
 use Rattle.variable.specs.Limits.{valueSize}
-use Rattle.variable.specs.Table.{Cell, cellOf, noVariable}
+use Rattle.variable.specs.Table.{Cell, cellOf, find, noVariable}
 use Rattle.variable.specs.declared.Value.{Value}
 use Rattle.variable.specs.declared.Variable.{Variable}
 use Rattle.variable.proofs.Reading.{Own, find-own, find-own-none, value-made}
@@ -20,7 +21,10 @@ use borrow.Author.Needs.{needs}
 use Rattle.instruction.proofs.values.get_variable.Statement.{statement}
 use Rattle.instruction.proofs.values.get_variable.Tie as tie
 
--- ---- the states: the name is there; looked up; found; its value at hand
+-- ---- the states: the code ends; the name is there; looked up; found; its value at hand
+abbrev ended : tie.Then1 → tie.Start
+ended c = c .before .before .before
+
 abbrev start : tie.Else1 → tie.Start
 start c = c .before .before .before
 
@@ -46,17 +50,20 @@ fits c = omega arith
 abbrev entry : tie.After-i → Variable
 entry c = getD (start (named (looked c)) .args .v .entries) (c .i .given .0 .0) noVariable
 
+lookup : (c : tie.After-i) → let s = start (named (looked c)) in
+    find (s .args .v) (name s) (s .args .owner) ≡ At (c .i .given .0 .0)
+lookup c = sym (looked c .find-variable .ensures) ∙ c .i .given .1
+
 held : (c : tie.After-i) → Held (start (named (looked c)) .args .v) (c .i .given .0 .0)
 held c =
     let s = start (named (looked c)) in
-    found-held (s .args .v) (name s) (s .args .owner) (c .i .given .0 .0) (s .pre .1) (sym (looked c .find-variable .ensures) ∙ c .i .given .1)
+    found-held (s .args .v) (name s) (s .args .owner) (c .i .given .0 .0) (s .pre .1) (lookup c)
 
 own : (c : tie.After-i) → let a = start (named (looked c)) .args in
     Own (a .v) (name (start (named (looked c)))) (a .owner) noCell (cellOf (a .v .memory) (entry c))
 own c =
     let s = start (named (looked c)) in
-    let v = s .args .v in
-    rw (held c .same) at (find-own v (name s) (s .args .owner) noCell (c .i .given .0 .0) (sym (looked c .find-variable .ensures) ∙ c .i .given .1))
+    rw (held c .same) at (find-own (s .args .v) (name s) (s .args .owner) noCell (c .i .given .0 .0) (lookup c))
 
 -- the value: its type, its bytes, and that they are there
 record Valued (c : tie.After-value-of) : Type 0 where
@@ -84,7 +91,7 @@ valued c =
 
 returns : tie.Need-returns
 returns c =
-    let a = c .before .before .before .before .args in
+    let a = ended (c .before) .args in
     rw (lt-leb (a .at + 1 + 1) (length (a .code .now)) (omega arith)) (last-means (a .stack .now) (c .last-step .ensures))
 
 mul-value-of : tie.Need-mul-value-of
@@ -111,7 +118,8 @@ returns-2 c =
     let e = named (looked i) in
     let o = own i in
     let x = valued r in
-    rw (le-leb _ _ (fits e), o .found, o .is, ← x .kind, ← x .bytes) (rw (take-length (start e .args .stack .now)) at (c .push-item .ensures))
+    rw (le-leb _ _ (fits e), o .found, o .is, ← x .kind, ← x .bytes)
+    (rw (take-length (start e .args .stack .now)) at (c .push-item .ensures))
 
 returns-3 : tie.Need-returns-3
 returns-3 c =

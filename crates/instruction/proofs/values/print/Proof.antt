@@ -1,13 +1,14 @@
 -- The value comes off the stack, and its text is the output.
 use mathlib.Core.List.{_++_}
-use Prim.Native.Nat.{_+_}
-use lib.ListN.{take}
+use Prim.Native.Nat.{_+_, _≤_}
+use lib.ListN.{length, take}
 use lib.Seq.{length-take-le}
 use native.Mathlib.Omega.{arith}
 use Rattle.buffer.specs.Buffer.{part}
 use Rattle.buffer.proofs.Parts.{part-to}
 use Rattle.number.specs.declared.instruction.Types.the-variants.{AnyValue}
 use Rattle.machine.specs.Effect.{newline, printed}
+use Rattle.machine.specs.Limits.{stackSize}
 use Rattle.machine.proofs.Instructions.Settling.{settle-goes}
 use Rattle.stack.proofs.Popping.{OnTop, no-value, value-on-top, value-small}
 use Rattle.stack.proofs.Steps.{last-means, step-means}
@@ -59,9 +60,10 @@ returns c =
     let t = top k in
     let out = printed (record { kind = g .0; bytes = part st (g .1 .0) (g .1 .1 .0) }) ++ newline (a .ends) in
     let l = length-take-le (g .1 .0) st (omega (arith, t .inside)) in
+    let low : length (take (g .1 .0) st) ≤ stackSize = omega (arith, t .inside, s .pre .low) in
     rw (
       t .pops,
-      settle-goes (a .code .now) (take (g .1 .0) st) (a .loopstart) out (omega (arith, t .inside, s .pre .low)) (a .at + 1) (s .pre .inside),
+      settle-goes (a .code .now) (take (g .1 .0) st) (a .loopstart) out low (a .at + 1) (s .pre .inside),
     ) (step-means st out (rw (part-to st (g .1 .0) (g .1 .1 .0)) at (c .print-value .ensures)) (omega (arith, t .inside)))
 
 returns-2 : tie.Need-returns-2

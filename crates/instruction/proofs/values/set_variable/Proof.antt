@@ -10,7 +10,10 @@ use borrow.Author.Needs.{needs}
 use Rattle.instruction.proofs.values.set_variable.Statement.{statement}
 use Rattle.instruction.proofs.values.set_variable.Tie as tie
 
--- ---- the states: the name is there; popped; a value
+-- ---- the states: the code ends; the name is there; popped; a value
+abbrev ended : tie.Then1 → tie.Start
+ended c = c .before .before .before
+
 abbrev start : tie.Else1 → tie.Start
 start c = c .before .before .before
 
@@ -26,7 +29,7 @@ top c = value-on-top AnyValue (start (popped c .before) .args .stack .now) (popp
 
 returns : tie.Need-returns
 returns c =
-    let a = c .before .before .before .before .args in
+    let a = ended (c .before) .args in
     rw (lt-leb (a .at + 1 + 1) (length (a .code .now)) (omega arith)) (last-means (a .stack .now) (c .last-step .ensures))
 
 with-part-requires : tie.Need-with-part-requires

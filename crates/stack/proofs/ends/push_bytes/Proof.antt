@@ -27,7 +27,8 @@ returns c =
     let s = start (c .before .before) in
     let a = s .args in
     let h = high s in
-    rw (settle-full (a .code .now) (pushed s) (a .loopstart) [] (At (a .to)) (omega arith)) (last-means (a .stack .now) (c .last-step .ensures))
+    rw (settle-full (a .code .now) (pushed s) (a .loopstart) [] (At (a .to)) (omega arith))
+    (last-means (a .stack .now) (c .last-step .ensures))
 
 returns-2 : tie.Need-returns-2
 returns-2 c =

@@ -59,7 +59,8 @@ returns c =
     let k = c .before .before .before in
     let st = start (popped k) .args .stack .now in
     let v = value k in (
-      rw (v .pops) (ap (λ (a : Number). numberAbove a (take (at k) st)) (c .number-of .ensures ∙ ap (numberOf (kind k)) (part-to st (at k) (len k)))),
+      rw (v .pops) (ap (λ (a : Number). numberAbove a (take (at k) st))
+          (c .number-of .ensures ∙ ap (numberOf (kind k)) (part-to st (at k) (len k)))),
       omega (arith, v .inside),
     )
 
