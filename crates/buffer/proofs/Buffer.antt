@@ -2,13 +2,14 @@
 use Prim.Native.Nat.{ℕ, suc, _+_, _*_, _/_, _%_, _-_, _≤_, _<_}
 use mathlib.Core.Path.{_≡_, refl, sym, ap, _∙_}
 use mathlib.Core.List.{List, [], _∷_, _++_, append-assoc}
-use native.Mathlib.Nat.{add-assoc}
+use native.Mathlib.Nat.{add-assoc, zero-add}
 use native.Mathlib.Numerals.{add-one}
 use native.Mathlib.Omega.{arith}
-use lib.ListN.{length, getD, set, take, drop, length-drop, length-append}
+use lib.ListN.{length, getD, set, take, drop, replicate, length-drop, length-append}
 use lib.Seq.{take-suc, take-suc-set, getD-drop, getD-take, length-take-le, take-at, drop-at, drop-drop, drop-append-add, take-append-le}
 use lib.Seq.{paste, paste-suc, drop-paste, set-split, append-snoc, take-length, take-take}
 use Rattle.buffer.specs.Buffer.{part, overwrite}
+use Rattle.buffer.proofs.Lists.{drop-replicate}
 
 module _ {A : Type 0} where
   -- one more turn of a loop that fills l with the elements of t
@@ -81,6 +82,10 @@ overwrite-joined d s t at b q h = ap (λ (k : ℕ). overwrite (overwrite d at s)
         let m : drop (at + length s + length t) (overwrite d at s) ≡ drop (at + (length s + length t)) d =
         rw (← n, drop-append-add, n, drop-drop) (rw add-assoc) in
         rw (take-at (take at d ++ s) (drop (at + length s) d) (at + length s) n, m, length-append, ← append-assoc)
+
+-- laid over zeros, from the first
+pub overwrite-zeros : (s : List ℕ) (n : ℕ) → overwrite (replicate n 0) 0 s ≡ s ++ replicate (n - length s) 0
+overwrite-zeros s n = rw zero-add (ap (λ (l : List ℕ). s ++ l) (drop-replicate 0 n (length s)))
 
 -- one byte written
 pub overwrite-set : (l : List ℕ) (i x : ℕ) → i < length l → set l i x ≡ overwrite l i (x ∷ [])

@@ -18,6 +18,10 @@ part-length l at n h = length-take-le n (drop at l) (simp length-drop (omega ari
 pub part-byte : (l : List ℕ) (at n i : ℕ) → i < n → getD (part l at n) i 0 ≡ getD l (at + i) 0
 part-byte l at n i h = rw (getD-take, getD-drop)
 
+-- a part by its ends, as code lends it
+pub part-to : (l : List ℕ) (at n : ℕ) → take (at + n - at) (drop at l) ≡ part l at n
+part-to l at n = let e : at + n - at ≡ n = omega arith in rw e
+
 -- a part, cut in two
 pub part-split : (l : List ℕ) (at m n : ℕ) → part l at (m + n) ≡ part l at m ++ part l (at + m) n
 part-split l at m n = take-add m n (drop at l) ∙ ap (λ (r : List ℕ). part l at m ++ take n r) (drop-drop m at l)

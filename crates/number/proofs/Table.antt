@@ -17,11 +17,11 @@ use Rattle.number.specs.declared.operators.Operator.the-variants.{OfOne,
 use Rattle.number.specs.declared.operators.Unary.the-variants.{BitwiseNot}
 
 -- U, and that n is the number of no entry: what the last arm of a `match` knows, in the order of the arms
-abbrev pub Absent : ℕ → List (ℕ × Operator) → Type 0 → Type 0
+abbrev pub Absent : {A : Type 0} → ℕ → List (ℕ × A) → Type 0 → Type 0
 Absent n [] U = U
 Absent n (entry ∷ table) U = Absent n table (U × (n ≡ entry .0 → ⊥))
 
-first : (n : ℕ) (table : List (ℕ × Operator)) (U : Type 0) → Absent n table U → U
+pub first : {A : Type 0} (n : ℕ) (table : List (ℕ × A)) (U : Type 0) → Absent n table U → U
 first n [] U u = u
 first n (entry ∷ table) U u = first n table (U × (n ≡ entry .0 → ⊥)) u .0
 

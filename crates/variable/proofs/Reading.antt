@@ -1,16 +1,21 @@
 -- GET: what the table's lookup finds is what a process finds by name among its own variables.
-use Prim.Native.Nat.{ℕ}
+use Prim.Native.Nat.{ℕ, _-_, _<_}
 use mathlib.Core.Path.{_≡_, refl, sym, ap, _∙_}
 use mathlib.Core.Bool.{Bool, true, false, _&&_}
 use mathlib.Core.List.{List, [], _∷_, map}
 use lib.Dec.{eqb}
-use lib.ListN.{getD}
+use lib.ListN.{length, getD, replicate}
+use lib.Seq.{getD-take, take-at}
+use native.Mathlib.Omega.{arith}
 use Rattle.buffer.specs.Lists.{consIf, hereOr, index, keep, later}
 use Rattle.buffer.specs.declared.Found.{Found}
 use Rattle.buffer.specs.declared.Found.the-variants.{At, Nowhere}
-use Rattle.buffer.proofs.Bools.{true-not-false}
-use Rattle.variable.specs.Table.{Cell, cellOf, counted, find, noVariable, owned, ownedBy}
+use Rattle.buffer.proofs.Tables.{index-at}
+use Rattle.variable.specs.Assign.{valueBytes, valueOf}
+use Rattle.variable.specs.Limits.{valueSize}
+use Rattle.variable.specs.Table.{Cell, cellOf, counted, find, isOf, noVariable, owned, ownedBy}
 use Rattle.variable.specs.declared.Variables.{Variables}
+use Rattle.variable.proofs.Views.{take-bound}
 
 -- what is made of a search in l: `next` of what it found, or `none`
 abbrev pub foundIn : {A C : Type 0} → List A → A → (A → C) → C → Found → C
@@ -58,14 +63,44 @@ module _ (v : Variables) (name id : ℕ) where
   unfolding find owned
   variable-found d next none = found-kept (ownedBy id) (cellOf (v .memory)) named noVariable d next none (counted v)
 
-  -- none in the table: none among its own
-  pub find-own-none : find v name id ≡ Nowhere → index named (owned v id) ≡ Nowhere
-  find-own-none h = go (index named (owned v id)) (variable-found noCell (λ c. false) true
-      ∙ ap (foundIn (counted v) noVariable (λ e. false) true) h)
-    where
-      noCell : Cell
-      noCell = record { name = 0; kind = 0; bytes = [] }
+  -- a variable among the process's own, the one of that name
+  pub record Own (d x : Cell) : Type 0 where
+    pub place : ℕ
+    pub found : index named (owned v id) ≡ At place
+    pub is : getD (owned v id) place d ≡ x
 
-      go : (f : Found) → foundIn (owned v id) noCell (λ c. false) true f ≡ true → f ≡ Nowhere
-      go (At k) e = absurd (true-not-false refl (sym e))
-      go Nowhere e = refl
+  module _ (d : Cell) where
+    abbrev alone : Found → List Cell
+    alone f = foundIn (owned v id) d (λ c. c ∷ []) [] f
+
+    -- found in the table: found among its own, and the same
+    pub find-own : (i : ℕ) → find v name id ≡ At i → Own d (cellOf (v .memory) (getD (counted v) i noVariable))
+    find-own i h = go (index named (owned v id)) refl (variable-found d (λ c. c ∷ []) []
+        ∙ ap (foundIn (counted v) noVariable (λ e. cellOf (v .memory) e ∷ []) []) h)
+      where
+        go : (f : Found) → index named (owned v id) ≡ f → alone f ≡ cellOf (v .memory) (getD (counted v) i noVariable) ∷ []
+            → Own d (cellOf (v .memory) (getD (counted v) i noVariable))
+        go (At k) q e = record { place = k; found = q; is = cc }
+        go Nowhere q e = absurd (let z : _≡_ {A = ℕ} 0 1 = cc in omega arith)
+
+    -- none in the table: none among its own
+    pub find-own-none : find v name id ≡ Nowhere → index named (owned v id) ≡ Nowhere
+    find-own-none h = go (index named (owned v id)) (variable-found d (λ c. c ∷ []) []
+        ∙ ap (foundIn (counted v) noVariable (λ e. cellOf (v .memory) e ∷ []) []) h)
+      where
+        go : (f : Found) → alone f ≡ [] → f ≡ Nowhere
+        go (At k) e = absurd (let z : _≡_ {A = ℕ} 0 1 = cc in omega arith)
+        go Nowhere e = refl
+
+-- a counted variable is the table's entry at that place
+pub find-counted : (v : Variables) (name id i : ℕ) → find v name id ≡ At i
+    → (i < v .count) × (getD (counted v) i noVariable ≡ getD (v .entries) i noVariable)
+unfolding find
+find-counted v name id i h =
+    let f = index-at (isOf name id) noVariable (counted v) i h in
+    let n : i < v .count = omega (arith, f .inside, take-bound (v .count) (v .entries)) in
+    (n, getD-take (v .count) (v .entries) i noVariable n)
+
+-- a value's bytes are those it was made of
+pub value-made : (kind : ℕ) (bytes : List ℕ) → valueBytes (valueOf kind bytes) ≡ bytes
+value-made kind bytes = take-at bytes (replicate (valueSize - length bytes) 0) (length bytes) refl

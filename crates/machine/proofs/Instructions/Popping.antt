@@ -1,17 +1,18 @@
 -- What popping a value gives: a value of a good size that lay on the stack, the stack below it, or fault 5 or 6.
 use Prim.Native.Nat.{ℕ, _+_, _-_, _≤_}
-use mathlib.Core.Path.{_≡_, refl, sym, ap, subst, subst⁻¹}
+use mathlib.Core.Path.{_≡_, refl, sym, ap, subst, subst⁻¹, _∙_}
 use mathlib.Core.Bool.{Bool, true, false, _||_, cond}
 use mathlib.Core.List.{List, [], _∷_, _++_}
 use mathlib.Core.Logic.{_⊎_, inl, inr, ⊎-elim}
 use native.Mathlib.Omega.{arith}
 use lib.Dec.{eqb, leb}
 use lib.ListN.{length, getD, take, length-append}
-use lib.Seq.{length-take-le}
+use lib.Seq.{length-take-le, take-all}
 use borrow.Author.Tests.{eqb-false, eqb-true, le-leb, leb-true}
 use Rattle.buffer.specs.Buffer.{part}
+use Rattle.buffer.specs.Lists.{same}
 use Rattle.buffer.proofs.Bools.{and-both, true-not-false}
-use Rattle.buffer.proofs.Lists.{same-eq}
+use Rattle.buffer.proofs.Lists.{same-differ, same-eq, same-refl}
 use Rattle.buffer.proofs.Parts.{part-length}
 use Rattle.number.specs.Instruction.{includes}
 use Rattle.number.specs.Text.{textOf}
@@ -19,7 +20,7 @@ use Rattle.number.specs.declared.instruction.Types.{Types}
 use Rattle.number.specs.declared.instruction.Types.the-variants.{AnyNumber, AnyString, AnyValue}
 use Rattle.number.proofs.Texts.{text-short}
 use Rattle.store.specs.Name.{trimmed}
-use Rattle.store.proofs.Names.{trimmed-short}
+use Rattle.store.proofs.Names.{text-with-zero, trimmed-short}
 use Rattle.variable.specs.Good.{goodSize}
 use Rattle.variable.specs.Limits.{maxString}
 use Rattle.machine.specs.Effect.{number, printed}
@@ -54,6 +55,19 @@ pub well-formed-is : (bytes : List ℕ) → wellFormed bytes ≡ true → bytes 
 unfolding wellFormed
 well-formed-is bytes t = same-eq bytes (trimmed bytes ++ (0 ∷ [])) t
 
+-- the text ends just before the last byte
+pub is-well-formed : (bytes : List ℕ) → length (trimmed bytes) + 1 ≡ length bytes → wellFormed bytes ≡ true
+unfolding wellFormed
+is-well-formed bytes h =
+    let e : bytes ≡ trimmed bytes ++ (0 ∷ []) =
+    sym (take-all (length (trimmed bytes) + 1) bytes (omega arith)) ∙ text-with-zero bytes (omega arith) in
+    subst (λ (l : List ℕ). same bytes l ≡ true) e (same-refl bytes)
+
+pub not-well-formed : (bytes : List ℕ) → (length (trimmed bytes) + 1 ≡ length bytes → ⊥) → wellFormed bytes ≡ false
+unfolding wellFormed
+not-well-formed bytes h = same-differ bytes (trimmed bytes ++ (0 ∷ []))
+    (λ e. h (sym (ap length e ∙ length-append (trimmed bytes) (0 ∷ []))))
+
 module _ (types : Types) (stack : List ℕ) where
   string-pops : includes types stringKind ≡ true → Pops types stack (popString stack (length stack))
   unfolding Pops popString
@@ -68,7 +82,8 @@ module _ (types : Types) (stack : List ℕ) where
         taken = t;
         lay = omega arith;
         string = λ e. record { zero-last = well-formed-is _ formed; lay = omega arith };
-        number = λ other. absurd (other refl);
+        number =
+            λ other. absurd (other refl);
       }
     where
       n : ℕ
@@ -110,14 +125,21 @@ pub number-no-string : (kind : ℕ) → includes AnyNumber kind ≡ true → kin
 unfolding includes
 number-no-string kind t e = true-not-false (subst (λ (k : ℕ). includes AnyNumber k ≡ true) e t) refl
 
-number-good-size : (kind : ℕ) → includes AnyNumber kind ≡ true → goodSize kind kind ≡ true
-unfolding goodSize includes
-number-good-size kind t =
-    ⊎-elim (λ u. ⊎-elim (is 1 refl) (is 2 refl) (or-cases (eqb kind 1) (eqb kind 2) u)) (is 4 refl)
+-- CHAR, INT or FLOAT
+pub number-kinds : (kind : ℕ) → includes AnyNumber kind ≡ true → (kind ≡ 1) ⊎ (kind ≡ 2) ⊎ (kind ≡ 4)
+unfolding includes
+number-kinds kind t =
+    ⊎-elim
+    (λ u. ⊎-elim (λ e. inl (eqb-true kind 1 e)) (λ e. inr (inl (eqb-true kind 2 e))) (or-cases (eqb kind 1) (eqb kind 2) u))
+    (λ e. inr (inr (eqb-true kind 4 e)))
     (or-cases (eqb kind 1 || eqb kind 2) (eqb kind 4) t)
+
+number-good-size : (kind : ℕ) → includes AnyNumber kind ≡ true → goodSize kind kind ≡ true
+unfolding goodSize
+number-good-size kind t = ⊎-elim (is 1 refl) (λ u. ⊎-elim (is 2 refl) (is 4 refl) u) (number-kinds kind t)
   where
-    is : (n : ℕ) → goodSize n n ≡ true → eqb kind n ≡ true → goodSize kind kind ≡ true
-    is n h e = subst⁻¹ (λ (k : ℕ). goodSize k k ≡ true) (eqb-true kind n e) h
+    is : (n : ℕ) → goodSize n n ≡ true → kind ≡ n → goodSize kind kind ≡ true
+    is n h e = subst⁻¹ (λ (k : ℕ). goodSize k k ≡ true) e h
 
 pub string-not-empty : (stack : List ℕ) (item : Item) (rest : List ℕ) → IsString stack item rest → 1 ≤ length (item .bytes)
 string-not-empty stack item rest s = omega (arith, ap length (s .zero-last), length-append (trimmed (item .bytes)) (0 ∷ []))

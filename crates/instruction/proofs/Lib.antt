@@ -1,0 +1,2 @@
+-- what reading a variable finds
+pub mod Held

@@ -1,0 +1,81 @@
+-- The number is compared with the clock: it stays, or is dropped.
+use mathlib.Core.List.{append-nil}
+use mathlib.Core.Path.{_≡_, sym, ap, _∙_}
+use mir.Syntax.{w16, w32}
+use Rattle.number.specs.Compare.{exceeds}
+use Rattle.number.specs.declared.instruction.Types.the-variants.{AnyNumber}
+use Rattle.number.proofs.Operands.{widened, widens}
+use Rattle.machine.specs.Effect.{clockInt}
+use Rattle.stack.proofs.Popping.{NumberOnTop, no-number, number-on-top}
+use Rattle.stack.proofs.Steps.{last-means}
+use borrow.Author.Needs.{needs}
+use Rattle.instruction.proofs.clock.delay.Statement.{statement}
+use Rattle.instruction.proofs.clock.delay.Tie as tie
+
+-- ---- the states: popped; a number; judged
+abbrev start : tie.After-top-number → tie.Start
+start c = c .before .before .before
+
+abbrev popped : tie.After-x → tie.After-top-number
+popped c = c .before .before
+
+abbrev number : tie.After-exceeds-whole → tie.After-x
+number c = c .before .before .before
+
+top : (c : tie.After-x) → NumberOnTop AnyNumber (start (popped c) .args .stack .now) (c .x .given .0 .0) (c .x .given .0 .1 .0)
+top c = number-on-top AnyNumber (start (popped c) .args .stack .now) (popped c .top-number .ensures) (c .x .given .1)
+
+judged : (c : tie.After-exceeds-whole) → let clock = start (popped (number c)) .args .clock in
+    exceeds (number c .x .given .0 .0) (clockInt clock) ≡ c .exceeds-whole .result
+judged c =
+    let k = c .before in
+    sym (c .exceeds-whole .ensures
+    ∙ ap (exceeds (number c .x .given .0 .0)) (widened w16 w32 tt (k .clock-int .result) (search needs) ∙ k .clock-int .ensures))
+
+cast-exceeds-whole : tie.Need-cast-exceeds-whole
+cast-exceeds-whole c = widens w16 w32 tt (c .clock-int .result) (search needs)
+
+returns : tie.Need-returns
+returns c =
+    let then = c .before in
+    let j = then .before in
+    let t = top (number j) in
+    rw (t .pops, t .is, judged j ∙ then .if1 .taken) (rw append-nil at (c .with-stack .ensures))
+
+go-requires : tie.Need-go-requires
+go-requires c κs =
+    let k = number (c .before) in
+    let s = start (popped k) in
+    record { short = s .pre .short; low = s .pre .low; there = top k .below }
+
+returns-2 : tie.Need-returns-2
+returns-2 c =
+    let else = c .before in
+    let j = else .before in
+    let t = top (number j) in
+    rw (t .pops, t .is, judged j ∙ else .if1 .left) (c .go .ensures)
+
+returns-3 : tie.Need-returns-3
+returns-3 c =
+    let k = c .before .before in
+    let p = k .before .before in
+    let st = start p .args .stack .now in
+    rw (no-number AnyNumber st (p .top-number .ensures) (k .fault .given .1)) (last-means st (c .last-step .ensures))
+
+pub delay-spec : {M : Type 1} → statement M
+delay-spec =
+    tie.close
+    (tie.spec
+    (λ c κs. search needs)
+    (λ c. search needs)
+    (λ c κs. search needs)
+    cast-exceeds-whole
+    (λ c κs. search needs)
+    (λ c κs. search needs)
+    returns
+    (λ c. search needs)
+    go-requires
+    (λ c. search needs)
+    (λ c κs. search needs)
+    returns-2
+    returns-3)

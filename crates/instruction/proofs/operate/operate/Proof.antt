@@ -1,0 +1,33 @@
+-- By the number of operands.
+use Rattle.machine.specs.Effect.{operates}
+use Rattle.stack.proofs.Steps.{last-means}
+use borrow.Author.Needs.{needs}
+use Rattle.instruction.proofs.operate.operate.Statement.{statement}
+use Rattle.instruction.proofs.operate.operate.Tie as tie
+
+abbrev start : tie.After-enum-told → tie.Start
+start c = let matched = c .before in matched .before .before .before
+
+returns : tie.Need-returns
+returns c = rw (c .before .before .operator .given .1) (c .operate-one .ensures)
+
+returns-2 : tie.Need-returns-2
+returns-2 c = rw (c .before .before .operator2 .given .1) (c .operate-two .ensures)
+
+returns-3 : tie.Need-returns-3
+unfolding operates
+returns-3 c = rw (c .before .enum-told .given .1) (last-means (start (c .before) .args .stack .now) (c .last-step .ensures))
+
+pub operate-spec : {M : Type 1} → statement M
+operate-spec =
+    tie.close
+    (tie.spec
+    (λ c. search needs)
+    (λ c κs. search needs)
+    (λ c. search needs)
+    (λ c κs. search needs)
+    (λ c. search needs)
+    (λ c κs. search needs)
+    returns
+    returns-2
+    returns-3)
