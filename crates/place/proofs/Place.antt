@@ -78,8 +78,7 @@ module _ (runs : List Run) (lo hi n : ℕ) where
       record {
         low = leb-true _ _ (and-left (leb lo s) _ e);
         high = leb-true _ _ (and-left (leb (s + n) hi) _ r);
-        free =
-            and-right (leb (s + n) hi) _ r;
+        free = and-right (leb (s + n) hi) _ r;
       }
 
   pub is-fits : (s : ℕ) → Fits runs lo hi n s → fits runs lo hi n s ≡ true

@@ -33,8 +33,7 @@ module _ {disc name : List ℕ} {s : ℕ} (bytes : List ℕ) (good : goodDisc di
   inside = record {
     low = a .placed .low;
     high = omega (arith, entered-length (length bytes) s (room a), a .placed .high);
-    fits =
-        omega arith;
+    fits = omega arith;
   }
 
   well : goodDisc (entered disc name (length bytes) s) ≡ true
@@ -107,8 +106,7 @@ store-done disc name bytes k =
     store-cases disc name bytes (λ u. u .number ≡ pos k → NewFile disc name bytes (u .disc)) (λ r d h. absurd (refused-not-done r k h))
     (λ s l g a h. record {
       found = stored-found bytes g a;
-      holds =
-          ap (λ (e : Entry). contents (stored disc name bytes s) (runOf e)) (stored-new bytes g a) ∙ stored-data bytes g a;
+      holds = ap (λ (e : Entry). contents (stored disc name bytes s) (runOf e)) (stored-new bytes g a) ∙ stored-data bytes g a;
     })
 
 -- what was stored is retrieved

@@ -34,8 +34,7 @@ good-entry-is end e t =
     record {
       field = and-left (goodField (e .name)) _ t;
       some = leb-true _ _ (and-left (leb 1 (e .len)) _ r);
-      low =
-          leb-true _ _ (and-left (leb dataStart (e .start)) _ s);
+      low = leb-true _ _ (and-left (leb dataStart (e .start)) _ s);
       high = leb-true _ _ (and-right (leb dataStart (e .start)) _ s);
     }
 
@@ -74,8 +73,7 @@ unfolding goodFiles
 good-files-is end es t =
     record {
       each = and-left (all (goodEntry end) es) (pairs beside es) t;
-      between =
-          and-right (all (goodEntry end) es) (pairs beside es) t;
+      between = and-right (all (goodEntry end) es) (pairs beside es) t;
     }
 
 pub is-good-files : (end : ℕ) (es : List Entry) → GoodFiles end es → goodFiles end es ≡ true
@@ -106,8 +104,7 @@ unfolding goodDisc
 good-disc-is disc t =
     record {
       few = leb-true _ _ (and-left (leb (fileCount disc) maxFiles) (goodFiles (length disc) (files disc)) t);
-      entries =
-          and-right (leb (fileCount disc) maxFiles) (goodFiles (length disc) (files disc)) t;
+      entries = and-right (leb (fileCount disc) maxFiles) (goodFiles (length disc) (files disc)) t;
     }
 
 pub is-good-disc : (disc : List ℕ) → GoodDisc disc → goodDisc disc ≡ true

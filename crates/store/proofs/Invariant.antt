@@ -25,8 +25,7 @@ module _ {disc name : List ℕ} {n s : ℕ} (a : Admitted disc name n s) where
   room = record {
     low = omega (arith, a .placed .low, a .placed .high);
     few = a .few;
-    short =
-        omega (arith, good-name-is name (a .good) .short);
+    short = omega (arith, good-name-is name (a .good) .short);
   }
 
   pub new-entry-good : GoodEntry (length disc) (newEntry name n s)

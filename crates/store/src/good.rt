@@ -1,5 +1,6 @@
 // The tests that every operation makes of the disc before it reads or writes a file. They run at every call, so they
-// read the bytes in place, and the loops over bytes and over earlier entries have no way out: docs/DECISIONS.md says why.
+// read the bytes in place, and the loops over bytes and over earlier entries have no way out: docs/DECISIONS.md says
+// why.
 use crate::Checked;
 use crate::Refusal;
 use crate::layout::DATA_START;

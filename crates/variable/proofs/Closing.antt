@@ -66,8 +66,7 @@ module _ {A : Type 0} (p : A → Bool) (d : A) (l : List A) where
         record {
           bound = omega (arith, f .bound);
           count = rw q (f .count);
-          list =
-              rw (q, f .list, w) (blanked d (keep p (take n l)) l n bounded b);
+          list = rw (q, f .list, w) (blanked d (keep p (take n l)) l n bounded b);
         }
 
     -- it stays

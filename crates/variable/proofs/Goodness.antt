@@ -61,10 +61,8 @@ good-variable-is live e h =
     let r = and-right (goodSize (e .kind) (e .size)) (leb (e .address + e .size) memorySize && any (eqb (e .owner)) live) h in
     record {
       size = and-left (goodSize (e .kind) (e .size)) (leb (e .address + e .size) memorySize && any (eqb (e .owner)) live) h;
-      inside =
-          leb-true _ _ (and-left (leb (e .address + e .size) memorySize) (any (eqb (e .owner)) live) r);
-      owner =
-          and-right (leb (e .address + e .size) memorySize) (any (eqb (e .owner)) live) r;
+      inside = leb-true _ _ (and-left (leb (e .address + e .size) memorySize) (any (eqb (e .owner)) live) r);
+      owner = and-right (leb (e .address + e .size) memorySize) (any (eqb (e .owner)) live) r;
     }
 
 pub is-good-variable : (live : List ℕ) (e : Variable) → GoodVariable live e → goodVariable live e ≡ true
@@ -86,8 +84,7 @@ module _ (live : List ℕ) (v : Variables) where
       record {
         few = leb-true _ _ (and-left (leb (v .count) maxVariables) (each && pairwise) h);
         each = and-left each pairwise r;
-        pairwise =
-            and-right each pairwise r;
+        pairwise = and-right each pairwise r;
       }
 
   pub is-good-variables : GoodVariables live v → goodVariables live v ≡ true

@@ -40,8 +40,7 @@ pub isOf-is : (name id : ℕ) (e : Variable) → isOf name id e ≡ true → IsO
 isOf-is name id e h =
     record {
       name = eqb-true _ _ (and-left (eqb (e .name) name) (eqb (e .owner) id) h);
-      owner =
-          eqb-true _ _ (and-right (eqb (e .name) name) (eqb (e .owner) id) h);
+      owner = eqb-true _ _ (and-right (eqb (e .name) name) (eqb (e .owner) id) h);
     }
 
 module _ (v : Variables) (name id : ℕ) where

@@ -82,8 +82,7 @@ module _ (types : Types) (stack : List ℕ) where
         taken = t;
         lay = omega arith;
         string = λ e. record { zero-last = well-formed-is _ formed; lay = omega arith };
-        number =
-            λ other. absurd (other refl);
+        number = λ other. absurd (other refl);
       }
     where
       n : ℕ

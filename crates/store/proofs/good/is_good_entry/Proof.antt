@@ -56,7 +56,11 @@ unfolding goodEntry
 returns-3 c =
     let s = c .before .before in
     let r = read s in
-    rw (good-field r, le-leb _ _ (of-entry r (λ u. 1 ≤ u .len) (s .if2 .left)), lt-leb _ _ (of-entry r (λ u. u .start < dataStart) (c .if3 .taken)))
+    rw (
+      good-field r,
+      le-leb _ _ (of-entry r (λ u. 1 ≤ u .len) (s .if2 .left)),
+      lt-leb _ _ (of-entry r (λ u. u .start < dataStart) (c .if3 .taken)),
+    )
 
 returns-4 : tie.Need-returns-4
 unfolding goodEntry
@@ -64,7 +68,11 @@ returns-4 c =
     let l = c .before in
     let s = some l in
     let r = read s in
-    rw (good-field r, le-leb _ _ (of-entry r (λ u. 1 ≤ u .len) (s .if2 .left)), le-leb _ _ (of-entry r (λ u. dataStart ≤ u .start) (l .if3 .left)))
+    rw (
+      good-field r,
+      le-leb _ _ (of-entry r (λ u. 1 ≤ u .len) (s .if2 .left)),
+      le-leb _ _ (of-entry r (λ u. dataStart ≤ u .start) (l .if3 .left)),
+    )
     (ap (λ (n : ℕ). leb n (length (start (named r) .args .disc .now)))
     (c .run-end .ensures .0 ∙ ap (λ (u : Run). u .start + u .len) (r .run-at .ensures)))
 

@@ -27,8 +27,11 @@ loop-holds c = (omega arith, pass-begins (start c .args .disc .now) (start c .ar
 loop-again : tie.Need-loop-again Inv-loop μ-loop
 loop-again c =
     let l = turn (c .before) in
-    let a = start (l .before) .args in
-    (omega arith, pass-more (a .disc .now) (a .at) (l .loop .i) (l .loop .good) (c .is-field-byte .result) (l .loop .inv .1) (c .is-field-byte .ensures))
+    let a = start (l .before) .args in (
+      omega arith,
+      pass-more (a .disc .now) (a .at) (l .loop .i) (l .loop .good) (c .is-field-byte .result) (l .loop .inv .1)
+          (c .is-field-byte .ensures),
+    )
 
 returns : tie.Need-returns Inv-loop μ-loop
 returns c =
