@@ -136,13 +136,15 @@ def spoiled(i, left, right):
 
 def call(op, args, b):
     if op == "store":
-        return "answer (store %s %s) %s" % (par(hexed(args[0])), par(hexed(args[1])), b)
-    if op in ("retrieve", "erase", "run"):
-        return "answer (%s %s) %s" % (op, par(hexed(args[0])), b)
+        return "answer (other (store %s %s)) %s" % (par(hexed(args[0])), par(hexed(args[1])), b)
+    if op in ("retrieve", "erase"):
+        return "answer (other (%s %s)) %s" % (op, par(hexed(args[0])), b)
+    if op == "run":
+        return "answer (run %s) %s" % (par(hexed(args[0])), b)
     if op == "files" or op == "list":
-        return "answer %s %s" % (op, b)
+        return "answer (other %s) %s" % (op, b)
     if op == "free":
-        return "answer freeSpace %s" % b
+        return "answer (other freeSpace) %s" % b
     if op in ("suspend", "resume", "kill"):
         return "answer (command %s %s) %s" % (op, args[0], b)
     if op == "turn":
@@ -167,7 +169,7 @@ def main():
     uses, names = opened()
     head = "\n".join(
         ["use Prim.Native.Nat.{ℕ}", "use mathlib.Core.Bool.{true, false}", "use mathlib.Core.List.{List, [], _∷_}", "use mathlib.Core.Path.{_≡_, ap, refl}", "use lib.IntN.{ℤ, pos, negsuc}",
-         "use Rattle.machine.specs.Answer.{Buffers, answer, bootAnswer, formatAnswer, store, retrieve, erase, run, files, freeSpace, list, command, turn, round}",
+         "use Rattle.machine.specs.Answer.{Buffers, answer, bootAnswer, formatAnswer, turn, round, command, run, other, store, retrieve, erase, files, freeSpace, list}",
          "use Rattle.machine.specs.Operations.{suspend, resume, kill}", "use Rattle.machine_try.proofs.Try.{bytes, free-run, lent, says}", "use native.Mathlib.Nat.{not-suc-le-zero}", "use native.Mathlib.Omega.{arith}",
          "use Rattle.place.specs.Place.{longest}", "use Rattle.store.specs.Directory.{taken}"] + uses) + "\n"
     mods = ["Try"]
@@ -197,7 +199,7 @@ def main():
                 has = "λ _. refl" if int(n) else "λ h. absurd (not-suc-le-zero h)"
                 text += "\nf%d : longest (taken %s) 161 %d ≡ %s\nunfolding %s\nf%d = free-run (taken %s) 161 %d %s (omega arith) (%s) refl\n" % (
                     i, b[0], len(hexed(d)), n, lazy, i, b[0], len(hexed(d)), n, has)
-                text += "\nv%d : says (answer freeSpace l%d) l%d (pos %s) [] [] [] ≡ true\nunfolding %s\n" % (i, i, i, n, lazy)
+                text += "\nv%d : says (answer (other freeSpace) l%d) l%d (pos %s) [] [] [] ≡ true\nunfolding %s\n" % (i, i, i, n, lazy)
                 text += "v%d = ap (λ (n : ℕ). says (record { number = pos n; disc = l%d .disc; area = l%d .area; out = l%d .out }) l%d (pos %s) [] [] []) f%d\n" % (i, i, i, i, i, n, i)
                 continue
             text += "\nv%d : says (%s) l%d %s %s %s %s ≡ %s\nunfolding %s\nv%d = refl\n" % (
