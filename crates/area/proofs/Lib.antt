@@ -1,3 +1,4 @@
+-- The laws of the work area in code, by topic.
 pub mod Reading
 pub mod Runs
 pub mod Tables
