@@ -28,14 +28,16 @@ pub const SIZE_AT: usize = 3;
 pub const OWNER_AT: usize = 4;
 
 pub fn wide(b: u8) -> u16
-    ensures { λ r. ⌜ r ≡ b ⌝ }
+    ensures { λ r. ⌜ (r ≡ b) × (r < 256) ⌝ }
 {
     b as u16
 }
 
 pub fn fill_bytes(column: &mut [u16; PLACES], area: &[u8], field: usize, count: usize)
-    requires { ⌜ (length (now area) ≡ areaLength) × (field < entrySize) × (count ≤ maxVariables) ⌝ }
-    ensures { λ _. ⌜ now (column .exit) ≡ overwrite (now (column .entry)) 0 (bytesOf (now (area .entry)) field count) ⌝ }
+    requires { ⌜ (length (now column) ≡ places) × (length (now area) ≡ areaLength) ⌝ }
+    requires { ⌜ (field < entrySize) × (count ≤ maxVariables) ⌝ }
+    ensures { λ _. ⌜ now (column .exit)
+        ≡ overwrite (now (column .entry)) 0 (bytesOf (now (area .entry)) field count) ⌝ }
 {
     let mut i: usize = 0;
     while i < count {
@@ -46,8 +48,10 @@ pub fn fill_bytes(column: &mut [u16; PLACES], area: &[u8], field: usize, count: 
 }
 
 pub fn fill_words(column: &mut [u16; PLACES], area: &[u8], field: usize, count: usize)
-    requires { ⌜ (length (now area) ≡ areaLength) × (field + 1 < entrySize) × (count ≤ maxVariables) ⌝ }
-    ensures { λ _. ⌜ now (column .exit) ≡ overwrite (now (column .entry)) 0 (wordsOf (now (area .entry)) field count) ⌝ }
+    requires { ⌜ (length (now column) ≡ places) × (length (now area) ≡ areaLength) ⌝ }
+    requires { ⌜ (field + 1 < entrySize) × (count ≤ maxVariables) ⌝ }
+    ensures { λ _. ⌜ now (column .exit)
+        ≡ overwrite (now (column .entry)) 0 (wordsOf (now (area .entry)) field count) ⌝ }
 {
     let mut i: usize = 0;
     while i < count {
@@ -58,7 +62,7 @@ pub fn fill_words(column: &mut [u16; PLACES], area: &[u8], field: usize, count: 
 }
 
 pub fn fill_ends(column: &mut [u16; PLACES], area: &[u8], count: usize)
-    requires { ⌜ (length (now area) ≡ areaLength) × (count ≤ maxVariables) ⌝ }
+    requires { ⌜ (length (now column) ≡ places) × (length (now area) ≡ areaLength) × (count ≤ maxVariables) ⌝ }
     ensures { λ _. ⌜ now (column .exit) ≡ overwrite (now (column .entry)) 0 (endsOf (now (area .entry)) count) ⌝ }
 {
     let mut i: usize = 0;

@@ -42,7 +42,7 @@ pub fn live_ids(area: &[u8]) -> [u16; SLOT_COUNT]
 
 // Whether slot i has no ID, or one that no earlier slot has. No way out of the loop: speed.
 fn is_new(ids: &[u16; SLOT_COUNT], i: usize) -> bool
-    requires { ⌜ i < slotCount ⌝ }
+    requires { ⌜ (length (now ids) ≡ slotCount) × (i < slotCount) ⌝ }
     ensures { λ r. ⌜ r ≡ all (λ d. differs d (getD (now (ids .entry)) i 0)) (take i (now (ids .entry))) ⌝ }
 {
     let id = ids[i];
@@ -57,6 +57,7 @@ fn is_new(ids: &[u16; SLOT_COUNT], i: usize) -> bool
 
 // "distinct live IDs"
 pub fn are_distinct(ids: &[u16; SLOT_COUNT]) -> bool
+    requires { ⌜ length (now ids) ≡ slotCount ⌝ }
     ensures { λ r. ⌜ r ≡ pairs differs (now (ids .entry)) ⌝ }
 {
     let mut i: usize = 0;

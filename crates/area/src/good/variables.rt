@@ -25,7 +25,7 @@ ghost use lib.ListN.{length, replicate, take};
 ghost use Rattle.buffer.specs.Buffer.{overwrite};
 ghost use Rattle.buffer.specs.Lists.{all, any, keep, pairs, tab};
 ghost use Rattle.machine.specs.Area.{variablesOf};
-ghost use Rattle.machine.specs.Limits.{areaLength};
+ghost use Rattle.machine.specs.Limits.{areaLength, slotCount};
 ghost use Rattle.variable.specs.Good.{beside, goodSize, goodVariables};
 ghost use Rattle.variable.specs.Limits.{maxVariables, memorySize};
 ghost use Rattle.area.specs.Columns.{clash, firsts, isId, places, sized, variableIn, wordsOf};
@@ -73,6 +73,7 @@ fn are_sized(area: &[u8], count: usize) -> bool
 
 // "belong to live processes"
 fn is_owner(ids: &[u16; SLOT_COUNT], id: u16) -> bool
+    requires { ⌜ length (now ids) ≡ slotCount ⌝ }
     ensures { λ r. ⌜ r ≡ any (eqb id) (keep isId (now (ids .entry))) ⌝ }
 {
     let mut hit = false;
@@ -85,7 +86,7 @@ fn is_owner(ids: &[u16; SLOT_COUNT], id: u16) -> bool
 }
 
 fn are_owned(owners: &[u16; PLACES], ids: &[u16; SLOT_COUNT], count: usize) -> bool
-    requires { ⌜ count ≤ places ⌝ }
+    requires { ⌜ (length (now owners) ≡ places) × (length (now ids) ≡ slotCount) × (count ≤ places) ⌝ }
     ensures { λ r. ⌜ r ≡ all (λ id. any (eqb id) (keep isId (now (ids .entry)))) (take count (now (owners .entry))) ⌝ }
 {
     let mut good = true;
@@ -146,7 +147,7 @@ fn are_beside(area: &[u8], owners: &[u16; PLACES], count: usize) -> bool
 
 // The IDs are by slot, 0 where nothing lives.
 pub fn are_good(area: &[u8], ids: &[u16; SLOT_COUNT]) -> bool
-    requires { ⌜ length (now area) ≡ areaLength ⌝ }
+    requires { ⌜ (length (now area) ≡ areaLength) × (length (now ids) ≡ slotCount) ⌝ }
     ensures { λ r. ⌜ r ≡ goodVariables (keep isId (now (ids .entry))) (variablesOf (now (area .entry))) ⌝ }
 {
     let count = area[COUNT_AT] as usize;

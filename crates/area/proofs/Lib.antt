@@ -1,0 +1,4 @@
+pub mod Columns
+pub mod Reading
+pub mod Slots
+pub mod Tables

@@ -1,0 +1,36 @@
+-- IDs by slot: 0 where nothing lives.
+use Prim.Native.Nat.{ℕ, _≤_, _<_}
+use mathlib.Core.Path.{_≡_, refl, sym, ap, _∙_}
+use mathlib.Core.Bool.{Bool, true, false, cond, _&&_, _||_, not, and-false}
+use mathlib.Core.List.{List, [], _∷_, map}
+use native.Mathlib.Omega.{arith}
+use lib.Dec.{eqb}
+use borrow.Author.Tests.{eq-eqb, eqb-false, eqb-true, ne-eqb}
+use Rattle.buffer.specs.Lists.{all, any, consIf, keep, pairs}
+use Rattle.machine.specs.declared.Process.{Process}
+use Rattle.area.specs.Columns.{differs, isId, slotId}
+
+-- whatever a test of the rest says
+pub or-all : {A : Type 0} (b : Bool) (p : A → Bool) (l : List A) → b || all p l ≡ all (λ x. b || p x) l
+unfolding all
+or-all true p [] = refl
+or-all true p (x ∷ l) = or-all true p l
+or-all false p l = refl
+
+-- ---- owners
+-- 0 is among the slots, and no owner
+pub owner-kept : (id : ℕ) (l : List ℕ) → not (eqb id 0) && any (eqb id) l ≡ any (eqb id) (keep isId l)
+unfolding any keep
+owner-kept id [] = and-false (not (eqb id 0))
+owner-kept id (x ∷ l) = go (eqb id 0) refl (eqb x 0) refl (owner-kept id l)
+  where
+    go : (b : Bool) → eqb id 0 ≡ b → (c : Bool) → eqb x 0 ≡ c → not b && any (eqb id) l ≡ any (eqb id) (keep isId l)
+        → not b && (eqb id x || any (eqb id) l) ≡ any (eqb id) (consIf (not c) x (keep isId l))
+    go true p true q e = e
+    go true p false q e =
+        let z : id ≡ 0 = eqb-true id 0 p in
+        rw (ne-eqb id x (λ s. eqb-false x 0 q (sym s ∙ z))) e
+    go false p true q e =
+        let z : x ≡ 0 = eqb-true x 0 q in
+        rw (ne-eqb id x (λ s. eqb-false id 0 p (s ∙ z))) e
+    go false p false q e = rw e
