@@ -10,6 +10,7 @@ use Rattle.buffer.specs.Buffer.{overwrite}
 use Rattle.buffer.specs.Lists.{tab}
 use Rattle.buffer.proofs.Buffer.{overwrite-end, overwrite-next}
 use Rattle.buffer.proofs.Lists.{tab-at, tab-length}
+use Rattle.buffer.proofs.Parts.{byte-behind, byte-inside}
 
 module _ (d : List ℕ) (f : ℕ → ℕ) (n : ℕ) (h : n ≤ length d) where
   -- one more turn of a loop that fills a column
@@ -22,3 +23,17 @@ module _ (d : List ℕ) (f : ℕ → ℕ) (n : ℕ) (h : n ≤ length d) where
 
   pub column-filled : (l : List ℕ) (i : ℕ) → i ≡ n → l ≡ paste d 0 (tab f n) i → l ≡ overwrite d 0 (tab f n)
   column-filled l i q e = overwrite-end d (tab f n) l 0 i (q ∙ sym (tab-length f n)) e
+
+  -- ---- what stands in a filled column
+  size : length (tab f n) ≡ n
+  size = tab-length f n
+
+  pub column-at : (i : ℕ) → i < n → getD (overwrite d 0 (tab f n)) i 0 ≡ f i
+  column-at i k =
+      let q = size in
+      subst (λ (j : ℕ). getD (overwrite d 0 (tab f n)) j 0 ≡ getD (tab f n) i 0) (zero-add i)
+      (byte-inside d (tab f n) 0 (omega arith) i (omega arith))
+      ∙ tab-at f n i 0 k
+
+  pub column-behind : (i : ℕ) → n ≤ i → getD (overwrite d 0 (tab f n)) i 0 ≡ getD d i 0
+  column-behind i k = let q = size in byte-behind d (tab f n) 0 (omega arith) i (omega arith)

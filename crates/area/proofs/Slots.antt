@@ -1,12 +1,17 @@
 -- IDs by slot: 0 where nothing lives.
-use Prim.Native.Nat.{ℕ, _≤_, _<_}
+use Prim.Native.Nat.{ℕ, _+_, _≤_, _<_}
 use mathlib.Core.Path.{_≡_, refl, sym, ap, _∙_}
 use mathlib.Core.Bool.{Bool, true, false, cond, _&&_, _||_, not, and-false}
 use mathlib.Core.List.{List, [], _∷_, map}
+use native.Mathlib.Numerals.{add-one}
 use native.Mathlib.Omega.{arith}
 use lib.Dec.{eqb}
+use lib.ListN.{getD, length, take}
+use lib.Seq.{getD-take, length-take-le, take-suc}
 use borrow.Author.Tests.{eq-eqb, eqb-false, eqb-true, ne-eqb}
 use Rattle.buffer.specs.Lists.{all, any, consIf, keep, pairs}
+use Rattle.buffer.proofs.Bools.{and-both, not-true-is-false, true-not-false}
+use Rattle.buffer.proofs.Lists.{all-each, pairs-at, pairs-snoc}
 use Rattle.machine.specs.declared.Process.{Process}
 use Rattle.area.specs.Columns.{differs, isId, slotId}
 
@@ -34,3 +39,21 @@ owner-kept id (x ∷ l) = go (eqb id 0) refl (eqb x 0) refl (owner-kept id l)
         let z : x ≡ 0 = eqb-true x 0 q in
         rw (ne-eqb id x (λ s. eqb-false id 0 p (s ∙ z))) e
     go false p false q e = rw e
+
+-- ---- turns of a loop over every two of a list: one more holds, or one fails
+module _ {A : Type 0} (r : A → A → Bool) (l : List A) (i : ℕ) (d : A) (h : i < length l) where
+  more : pairs r (take (i + 1) l) ≡ pairs r (take i l) && all (λ x. r x (getD l i d)) (take i l)
+  more = rw (add-one, take-suc l i d) (pairs-snoc r (take i l) (getD l i d))
+
+  pub pairs-take-next : pairs r (take i l) ≡ true → all (λ x. r x (getD l i d)) (take i l) ≡ true → pairs r (take (i + 1) l) ≡ true
+  pairs-take-next p q = more ∙ and-both p q
+
+  pub pairs-take-stop : all (λ x. r x (getD l i d)) (take i l) ≡ false → pairs r l ≡ false
+  pairs-take-stop e =
+      not-true-is-false (pairs r l)
+      (λ t. true-not-false
+      (all-each (λ x. r x (getD l i d)) (take i l) d
+      (λ j k.
+      let m : j < i = omega (arith, length-take-le i l (omega arith)) in
+      rw (getD-take i l j d m) (pairs-at r l j i d m h t)))
+      e)
