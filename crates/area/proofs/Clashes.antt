@@ -12,6 +12,7 @@ use borrow.Author.Tests.{eqb-false, eqb-true, leb-true, lt-leb, lt-ltb, le-leb, 
 use Rattle.buffer.specs.Buffer.{overwrite, part, wordAt}
 use Rattle.buffer.specs.Lists.{any, pairs, tab}
 use Rattle.buffer.proofs.Bools.{not-true-is-false, true-not-false}
+use Rattle.buffer.proofs.Buffer.{overwrite-length}
 use Rattle.buffer.proofs.Fours.{Bytes}
 use Rattle.buffer.proofs.Lists.{pairs-each, tab-at, tab-length}
 use Rattle.buffer.proofs.Parts.{part-byte}
@@ -71,7 +72,7 @@ not-beside d e =
     go false false true = refl
     go false false false = refl
 
-word-of-part : (l : List ℕ) (at n i : ℕ) → i + 1 < n → wordAt (part l at n) i ≡ wordAt l (at + i)
+pub word-of-part : (l : List ℕ) (at n i : ℕ) → i + 1 < n → wordAt (part l at n) i ≡ wordAt l (at + i)
 word-of-part l at n i h = rw (part-byte l at n i (omega arith), part-byte l at n (i + 1) h, ← add-assoc at i 1)
 
 -- every two of a table
@@ -208,3 +209,8 @@ module _ (area : List ℕ) (count : ℕ) where
       go : (t : Bool) → eqb k d ≡ t → clashBy area count k ≡ false
       go true t = rw (eqb-true k d t) e
       go false t = let n = eqb-false k d t in h k l (omega arith)
+
+  pub owner-column-length : count ≤ maxVariables → length (ownerColumn area count) ≡ places
+  owner-column-length h =
+      let n = tab-length (λ i. wordAt area (entriesAt + i * entrySize + 4)) count in
+      overwrite-length (replicate places 0) (wordsOf area 4 count) 0 (omega arith)

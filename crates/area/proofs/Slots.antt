@@ -10,8 +10,10 @@ use lib.ListN.{getD, length, take}
 use lib.Seq.{getD-take, length-take-le, take-suc}
 use borrow.Author.Tests.{eq-eqb, eqb-false, eqb-true, ne-eqb}
 use Rattle.buffer.specs.Lists.{all, any, consIf, keep, pairs}
-use Rattle.buffer.proofs.Bools.{and-both, not-true-is-false, true-not-false}
+use Rattle.buffer.proofs.Bools.{and-both, and-left, and-right, not-true-is-false, true-not-false}
 use Rattle.buffer.proofs.Lists.{all-each, pairs-at, pairs-snoc}
+use Rattle.machine.specs.GoodArea.{otherId}
+use Rattle.machine.specs.State.{isLive}
 use Rattle.machine.specs.declared.Process.{Process}
 use Rattle.area.specs.Columns.{differs, isId, slotId}
 
@@ -57,3 +59,42 @@ module _ {A : Type 0} (r : A → A → Bool) (l : List A) (i : ℕ) (d : A) (h :
       let m : j < i = omega (arith, length-take-le i l (omega arith)) in
       rw (getD-take i l j d m) (pairs-at r l j i d m h t)))
       e)
+
+-- ---- the IDs of good records
+abbrev liveId : Process → ℕ
+liveId p = p .id
+
+-- where every live process has an ID that is not 0, those by slot say the same as those of the live processes
+module _ (good : Process → Bool) (named : (p : Process) → good p ≡ true → isLive p ≡ true → p .id ≡ 0 → ⊥) where
+  pub ids-kept : (l : List Process) → all good l ≡ true → keep isId (map slotId l) ≡ map liveId (keep isLive l)
+  unfolding all keep slotId
+  ids-kept [] g = refl
+  ids-kept (p ∷ l) g = go (isLive p) refl (ids-kept l (and-right (good p) (all good l) g))
+    where
+      go : (b : Bool) → isLive p ≡ b → keep isId (map slotId l) ≡ map liveId (keep isLive l)
+          → consIf (isId (cond b (p .id) 0)) (cond b (p .id) 0) (keep isId (map slotId l)) ≡ map liveId (consIf b p (keep isLive l))
+      go true t e = rw (ne-eqb (p .id) 0 (named p (and-left (good p) (all good l) g) t), e)
+      go false t e = e
+
+  differ-same : (p q : Process) → good q ≡ true → differs (slotId p) (slotId q) ≡ otherId p q
+  unfolding slotId otherId
+  differ-same p q g = go (isLive p) (isLive q) refl
+    where
+      go : (a b : Bool) → isLive q ≡ b → differs (cond a (p .id) 0) (cond b (q .id) 0) ≡ not (a && (b && eqb (p .id) (q .id)))
+      go true true t = rw (ne-eqb (q .id) 0 (named q g t))
+      go true false t = refl
+      go false true t = rw (ne-eqb (q .id) 0 (named q g t), ne-eqb 0 (q .id) (λ e. named q g t (sym e)))
+      go false false t = refl
+
+  differ-all : (p : Process) (l : List Process) → all good l ≡ true → all (differs (slotId p)) (map slotId l) ≡ all (otherId p) l
+  unfolding all
+  differ-all p [] g = refl
+  differ-all p (q ∷ l) g =
+      rw (differ-same p q (and-left (good q) (all good l) g), differ-all p l (and-right (good q) (all good l) g))
+
+  pub ids-distinct : (l : List Process) → all good l ≡ true → pairs differs (map slotId l) ≡ pairs otherId l
+  unfolding pairs all
+  ids-distinct [] g = refl
+  ids-distinct (p ∷ l) g =
+      let r = and-right (good p) (all good l) g in
+      rw (differ-all p l r, ids-distinct l r)
