@@ -5,10 +5,10 @@ use std::hint::black_box;
 use std::time::Instant;
 
 extern "C" {
-    fn area_check(disc: *const u8, disc_len: usize, area: *const u8, area_len: usize) -> i32;
+    fn area_check(disc: *const u8, disc_len: usize, area: *const u8, area_len: usize) -> u32;
 }
 
-fn proved(disc: &[u8], area: &[u8]) -> i32 {
+fn proved(disc: &[u8], area: &[u8]) -> u32 {
     unsafe { area_check(disc.as_ptr(), disc.len(), area.as_ptr(), area.len()) }
 }
 
@@ -156,7 +156,7 @@ fn time(disc: &[u8], area: &[u8]) -> (f64, f64) {
     least
 }
 
-fn block(call: impl Fn() -> i32) -> f64 {
+fn block(call: impl Fn() -> u32) -> f64 {
     let began = Instant::now();
     for _ in 0..CALLS {
         black_box(call());

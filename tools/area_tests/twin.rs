@@ -5,10 +5,10 @@ const AREA_LENGTH: usize = 1056;
 const COUNT_AT: usize = 160;
 const DATA_START: usize = 161;
 
-pub const PASS: i32 = 0;
-pub const WRONG_LENGTH: i32 = 1;
-pub const BAD_DISC: i32 = 2;
-pub const BAD_AREA: i32 = 3;
+pub const PASS: u32 = 0;
+pub const WRONG_LENGTH: u32 = 1;
+pub const BAD_DISC: u32 = 2;
+pub const BAD_AREA: u32 = 3;
 
 fn word(bytes: &[u8], at: usize) -> usize {
     bytes[at] as usize + bytes[at + 1] as usize * 256
@@ -143,7 +143,7 @@ fn good_area(disc: &[u8], area: &[u8]) -> bool {
 
 /// "1: a buffer has the wrong length. 2: disc not good. 3: work area not good."
 #[inline(never)]
-pub fn check(disc: &[u8], area: &[u8]) -> i32 {
+pub fn check(disc: &[u8], area: &[u8]) -> u32 {
     if disc.len() != DISC_LENGTH || area.len() != AREA_LENGTH {
         return WRONG_LENGTH;
     }
