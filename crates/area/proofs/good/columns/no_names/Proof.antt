@@ -1,0 +1,46 @@
+-- The loop: the first i of them.
+use Prim.Native.Nat.{ℕ, _+_, _-_}
+use mathlib.Core.Path.{refl}
+use native.Mathlib.Omega.{arith}
+use Rattle.buffer.specs.Lists.{tab}
+use Rattle.area.specs.Columns.{places}
+use Rattle.area.proofs.Tables.{Filled, filled-all, filled-next}
+use Rattle.area.proofs.good.columns.no_names.Statement.{statement}
+use Rattle.area.proofs.good.columns.no_names.Tie as tie
+
+abbrev noName : ℕ → ℕ
+noName i = 256 + i
+
+abbrev Inv-loop : tie.InvT-loop
+Inv-loop names₀ i₀ names i = Filled noName places names i
+
+abbrev μ-loop : tie.MeasureT-loop
+μ-loop names₀ i₀ names i = places - i
+
+loop-holds : tie.Need-loop-holds Inv-loop μ-loop
+unfolding tab
+loop-holds c = record { few = omega arith; size = refl; first = refl }
+
+loop-again : tie.Need-loop-again Inv-loop μ-loop
+loop-again c =
+    let l = c .before in
+    filled-next noName places (l .loop .names) (l .loop .i) (256 + l .loop .i) (l .loop .inv) (omega arith) refl
+
+returns : tie.Need-returns Inv-loop μ-loop
+returns c = let l = c .before in filled-all noName places (l .loop .names) (l .loop .i) (l .loop .inv) (omega arith)
+
+pub no-names-spec : {M : Type 1} → statement M
+no-names-spec =
+    tie.close
+    (tie.spec
+    Inv-loop
+    μ-loop
+    loop-holds
+    (λ c. omega arith)
+    (λ c. omega arith)
+    (λ c. omega arith)
+    (λ c. omega arith)
+    (λ c. omega arith)
+    (λ c. omega arith)
+    loop-again
+    returns)

@@ -1,0 +1,60 @@
+-- The loop: the IDs of the first i slots.
+use Prim.Native.Nat.{ℕ, _-_}
+use mathlib.Core.Path.{refl, ap, _∙_}
+use mathlib.Core.List.{List}
+use native.Mathlib.Omega.{arith}
+use borrow.Author.Needs.{needs}
+use Rattle.buffer.specs.Lists.{tab}
+use Rattle.machine.specs.Area.{processOf}
+use Rattle.machine.specs.Limits.{slotCount}
+use Rattle.area.specs.Columns.{processIn, slotId}
+use Rattle.area.proofs.Tables.{Filled, filled-all, filled-next}
+use Rattle.area.proofs.good.ids.live_ids.Statement.{statement}
+use Rattle.area.proofs.good.ids.live_ids.Tie as tie
+
+abbrev idIn : List ℕ → ℕ → ℕ
+idIn area i = slotId (processIn area i)
+
+abbrev Inv-loop : tie.InvT-loop
+Inv-loop area ids₀ i₀ ids i = Filled (idIn area) slotCount ids i
+
+abbrev μ-loop : tie.MeasureT-loop
+μ-loop area ids₀ i₀ ids i = slotCount - i
+
+-- the states: the start, and in a turn its head
+abbrev start : tie.At-loop Inv-loop μ-loop → tie.Start Inv-loop μ-loop
+start c = c .before .before
+
+abbrev turn : tie.After-live-id Inv-loop μ-loop → tie.At-loop Inv-loop μ-loop
+turn c = c .before .before .before
+
+loop-holds : tie.Need-loop-holds Inv-loop μ-loop
+unfolding tab
+loop-holds c = record { few = omega arith; size = refl; first = refl }
+
+loop-again : tie.Need-loop-again Inv-loop μ-loop
+loop-again c =
+    let l = turn c in
+    filled-next (idIn (start l .args .area .now)) slotCount (l .loop .ids) (l .loop .i) (c .live-id .result) (l .loop .inv) (omega arith)
+    (c .live-id .ensures ∙ ap (λ (b : List ℕ). slotId (processOf b)) (c .before .record-in .ensures .0))
+
+returns : tie.Need-returns Inv-loop μ-loop
+returns c =
+    let l = c .before in
+    filled-all (idIn (start l .args .area .now)) slotCount (l .loop .ids) (l .loop .i) (l .loop .inv) (omega arith)
+
+pub live-ids-spec : {M : Type 1} → statement M
+live-ids-spec =
+    tie.close
+    (tie.spec
+    Inv-loop
+    μ-loop
+    loop-holds
+    (λ c κs. search needs)
+    (λ c κs. search needs)
+    (λ c. omega arith)
+    (λ c. omega arith)
+    (λ c. omega arith)
+    (λ c. omega arith)
+    loop-again
+    returns)

@@ -1,0 +1,63 @@
+// Whether a work area is good, tested on its bytes. These tests run at every call: docs/DECISIONS.md has their speed.
+mod columns;
+mod ids;
+mod records;
+mod variables;
+
+use buffer::bytes::word_at;
+use machine::limits::ID_LIMIT;
+use machine::limits::NEXT_AT;
+use machine::limits::ZEROS_AT;
+use machine::limits::ZEROS_SIZE;
+ghost use mathlib.Core.Path.{_≡_};
+ghost use mathlib.Core.Bool.{true};
+ghost use lib.Dec.{eqb};
+ghost use lib.ListN.{length};
+ghost use Rattle.buffer.specs.Buffer.{part};
+ghost use Rattle.buffer.specs.Lists.{all};
+ghost use Rattle.store.specs.Directory.{Readable, goodDisc};
+ghost use Rattle.machine.specs.Answer.{goodArea};
+ghost use Rattle.machine.specs.Area.{kernelOf};
+ghost use Rattle.machine.specs.GoodArea.{goodHeader};
+ghost use Rattle.machine.specs.Limits.{areaLength, zerosAt, zerosSize};
+
+// "its seven zeros"
+fn has_zeros(area: &[u8]) -> bool
+    requires { ⌜ length (now area) ≡ areaLength ⌝ }
+    ensures { λ r. ⌜ r ≡ all (eqb 0) (part (now (area .entry)) zerosAt zerosSize) ⌝ }
+{
+    let mut good = true;
+    let mut i: usize = 0;
+    while i < ZEROS_SIZE {
+        good = good & (0 == area[ZEROS_AT + i]);
+        i += 1;
+    }
+    good
+}
+
+// "next ID 1 to 32768"
+fn is_good_header(area: &[u8]) -> bool
+    requires { ⌜ length (now area) ≡ areaLength ⌝ }
+    ensures { λ r. ⌜ r ≡ goodHeader (kernelOf (now (area .entry))) ⌝ }
+{
+    let next = word_at(area, NEXT_AT);
+    has_zeros(area) & ((1 <= next) & (next <= ID_LIMIT))
+}
+
+pub fn is_good_area(disc: &[u8], area: &[u8]) -> bool
+    requires { ⌜ (Readable (now disc)) × (goodDisc (now disc) ≡ true) × (length (now area) ≡ areaLength) ⌝ }
+    ensures { λ r. ⌜ r ≡ goodArea (now (disc .entry)) (now (area .entry)) ⌝ }
+{
+    if !is_good_header(area) {
+        return false;
+    }
+    let runs = records::file_runs(disc);
+    if !records::are_good(disc, &runs, area) {
+        return false;
+    }
+    let ids = ids::live_ids(area);
+    if !ids::are_distinct(&ids) {
+        return false;
+    }
+    variables::are_good(area, &ids)
+}
