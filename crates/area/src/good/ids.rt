@@ -1,8 +1,8 @@
 // The IDs of live processes, by slot.
-use super::records::ID_AT;
-use super::records::STATE_AT;
 use super::records::is_live;
-use super::records::record_in;
+use crate::records::ID_AT;
+use crate::records::STATE_AT;
+use crate::records::record_at;
 use buffer::bytes::word_at;
 use machine::limits::SLOT_COUNT;
 ghost use mathlib.Core.Path.{_≡_};
@@ -33,7 +33,7 @@ pub fn live_ids(area: &[u8]) -> [u16; SLOT_COUNT]
     let mut ids = [0u16; SLOT_COUNT];
     let mut i: usize = 0;
     while i < SLOT_COUNT {
-        let id = live_id(record_in(area, i));
+        let id = live_id(record_at(area, i));
         ids[i] = id;
         i += 1;
     }

@@ -1,9 +1,19 @@
 // The ten process records, each tested on its bytes against the directory.
+use crate::records::CODE_AT;
+use crate::records::FILE_AT;
+use crate::records::ID_AT;
+use crate::records::LOOP_AT;
+use crate::records::NO_LOOP;
+use crate::records::PAUSED;
+use crate::records::PC_AT;
+use crate::records::RUNNING;
+use crate::records::SP_AT;
+use crate::records::SPARE_AT;
+use crate::records::STATE_AT;
+use crate::records::record_at;
 use buffer::bytes::four_at;
 use buffer::bytes::word_at;
 use machine::limits::NEXT_AT;
-use machine::limits::RECORD_SIZE;
-use machine::limits::RECORDS_AT;
 use machine::limits::SLOT_COUNT;
 use store::layout::ENTRY_SIZE;
 use store::layout::MAX_FILES;
@@ -13,7 +23,6 @@ ghost use mathlib.Core.Bool.{true, _||_};
 ghost use Prim.Native.Nat.{_+_, _<_, _≤_};
 ghost use lib.Dec.{eqb};
 ghost use lib.ListN.{length};
-ghost use Rattle.buffer.specs.Buffer.{part};
 ghost use Rattle.buffer.specs.Lists.{all, any};
 ghost use Rattle.store.specs.Directory.{Readable, files};
 ghost use Rattle.machine.specs.Area.{kernelOf, processOf};
@@ -21,31 +30,8 @@ ghost use Rattle.machine.specs.GoodArea.{goodFile, goodLive, goodProcess, goodR
 ghost use Rattle.machine.specs.Limits.{areaLength, recordSize, slotCount};
 ghost use Rattle.machine.specs.State.{paused, running};
 ghost use Rattle.area.specs.Columns.{FileOf, Listed, fileRuns};
-ghost use Rattle.area.specs.Parts.{recordAt};
 
-// Where the fields of a record begin.
-pub const ID_AT: usize = 12;
-
-pub const STATE_AT: usize = 14;
-
-const CODE_AT: usize = 16;
-
-const PC_AT: usize = 20;
-
-const LOOP_AT: usize = 22;
-
-const FILE_AT: usize = 24;
-
-const SP_AT: usize = 30;
-
-const SPARE_AT: usize = 31;
-
-const RUNNING: u8 = 114;
-
-const PAUSED: u8 = 112;
-
-const NO_LOOP: u16 = 65535;
-
+// SP is one byte.
 const STACK_SIZE: u8 = 32;
 
 // Start and length of each file as one number; behind the last file 0, which is no file's.
@@ -165,15 +151,6 @@ fn is_good_record(disc: &[u8], runs: &[u32; MAX_FILES], next: u16, bytes: &[u8])
     is_good_live(disc, runs, next, bytes)
 }
 
-pub fn record_in(area: &[u8], slot: usize) -> &[u8]
-    requires { ⌜ (length (now area) ≡ areaLength) × (slot < slotCount) ⌝ }
-    ensures { λ r. ⌜ (now r ≡ part (now (area .entry)) (recordAt slot) recordSize) × (length (now r) ≡ recordSize) ⌝ }
-{
-    let at = RECORDS_AT + slot * RECORD_SIZE;
-    let end = at + RECORD_SIZE;
-    &area[at..end]
-}
-
 pub fn are_good(disc: &[u8], runs: &[u32; MAX_FILES], area: &[u8]) -> bool
     requires { ⌜ (Listed (now disc) (now runs)) × (length (now area) ≡ areaLength) ⌝ }
     ensures { λ r. ⌜ r ≡ all (goodProcess (files (now (disc .entry))) (kernelOf (now (area .entry)) .next))
@@ -182,7 +159,7 @@ pub fn are_good(disc: &[u8], runs: &[u32; MAX_FILES], area: &[u8]) -> bool
     let next = word_at(area, NEXT_AT);
     let mut i: usize = 0;
     while i < SLOT_COUNT {
-        if !is_good_record(disc, runs, next, record_in(area, i)) {
+        if !is_good_record(disc, runs, next, record_at(area, i)) {
             return false;
         }
         i += 1;

@@ -36,7 +36,7 @@ loop-again : tie.Need-loop-again Inv-loop μ-loop
 loop-again c =
     let l = turn c in
     filled-next (idIn (start l .args .area .now)) slotCount (l .loop .ids) (l .loop .i) (c .live-id .result) (l .loop .inv) (omega arith)
-    (c .live-id .ensures ∙ ap (λ (b : List ℕ). slotId (processOf b)) (c .before .record-in .ensures .0))
+    (c .live-id .ensures ∙ ap (λ (b : List ℕ). slotId (processOf b)) (c .before .record-at .ensures .0))
 
 returns : tie.Need-returns Inv-loop μ-loop
 returns c =
