@@ -60,7 +60,8 @@ not-beside : (d e : Variable) → (ltb (d .address) (e .address + e .size) && lt
 unfolding beside apart
 not-beside d e =
     rw (less-not (d .address) (e .address + e .size), less-not (e .address) (d .address + d .size))
-    (go (leb (d .address + d .size) (e .address)) (leb (e .address + e .size) (d .address)) (eqb (d .name) (e .name) && eqb (d .owner) (e .owner)))
+    (go (leb (d .address + d .size) (e .address)) (leb (e .address + e .size) (d .address)) (eqb (d .name) (e .name)
+    && eqb (d .owner) (e .owner)))
   where
     go : (a b c : Bool) → (not b && not a) || c ≡ not ((a || b) && not c)
     go true true true = refl
@@ -161,7 +162,8 @@ module _ (area : List ℕ) (count : ℕ) (few : count ≤ maxVariables) where
     unfolding clash
     none-behind i j l k h =
         rw (
-          le-ltb (getD (startColumn area count) j 0) (getD (endColumn area count) i 0) (omega (arith, start-behind j h k, end-low i (omega arith))),
+          le-ltb (getD (startColumn area count) j 0) (getD (endColumn area count) i 0)
+              (omega (arith, start-behind j h k, end-low i (omega arith))),
           and-false (ltb (getD (startColumn area count) i 0) (getD (endColumn area count) j 0)),
           ne-eqb _ _ (name-other i j l k h),
         )
@@ -194,7 +196,8 @@ module _ (area : List ℕ) (count : ℕ) (few : count ≤ maxVariables) where
           let e : i + (j - i) ≡ j = omega arith in
           not-false _ (sym (clash-is i j (omega arith) k)
           ∙ subst (λ (n : ℕ). clashIn area count i n ≡ false) e
-          (any-tab-false (λ k. clashIn area count k (k + (j - i))) (λ k. k) firsts (none (j - i) (omega arith) (omega arith)) i (omega arith)))
+          (any-tab-false (λ k. clashIn area count k (k + (j - i))) (λ k. k) firsts (none (j - i) (omega arith) (omega arith)) i
+          (omega arith)))
 
 -- ---- the loop over the distances
 module _ (area : List ℕ) (count : ℕ) where

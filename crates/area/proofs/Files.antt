@@ -95,12 +95,14 @@ module _ (disc runs : List ℕ) (listed : Listed disc runs) (bd : Bytes disc) (b
   one-of-run i j h k p q = go (eqb i j) refl
     where
       start : (n : ℕ) → ofRun bytes at (entryAt disc n) ≡ true → wordAt bytes at ≡ entryAt disc n .start
-      start n t = eqb-true _ _ (and-left (eqb (wordAt bytes at) (entryAt disc n .start)) (eqb (wordAt bytes (at + 2)) (entryAt disc n .len)) t)
+      start n t = eqb-true _ _
+          (and-left (eqb (wordAt bytes at) (entryAt disc n .start)) (eqb (wordAt bytes (at + 2)) (entryAt disc n .len)) t)
 
       go : (t : Bool) → eqb i j ≡ t → i ≡ j
       go true t = eqb-true i j t
       go false t =
-          absurd (same-start (runOf (entryAt disc i)) (runOf (entryAt disc j)) (sym (start i p) ∙ start j q) (good i h .some) (good j k .some)
+          absurd (same-start (runOf (entryAt disc i)) (runOf (entryAt disc j)) (sym (start i p)
+          ∙ start j q) (good i h .some) (good j k .some)
           (beside-at disc (listed .sound) i j h k (eqb-false i j t) .clear))
 
   module _ (file : ℕ) (sought : FileOf runs (fourAt bytes at) file) where

@@ -55,7 +55,11 @@ module _ (disc area : List ℕ) where
     pub bad-ids : pairs differs (slotIds area) ≡ false → goodArea disc area ≡ false
     unfolding goodArea goodKernel
     bad-ids h =
-        rw (sym distinct ∙ h, and-false (all (goodProcess (files disc) (kernelOf area .next)) (kernelOf area .processes)), and-false (goodHeader (kernelOf area)))
+        rw (
+          sym distinct ∙ h,
+          and-false (all (goodProcess (files disc) (kernelOf area .next)) (kernelOf area .processes)),
+          and-false (goodHeader (kernelOf area)),
+        )
         (and-false (goodVariables (liveIds (kernelOf area)) (kernelOf area .variables)))
 
     pub variables-left : goodHeader (kernelOf area) ≡ true → pairs differs (slotIds area) ≡ true

@@ -77,6 +77,7 @@ module _ (live area : List ℕ) where
         (all (isOwner live) (take (variableCount area) (ownerColumn area (variableCount area))))
         (pairs beside (tab (variableIn area) (variableCount area))))
 
-  pub column-owners : (r : Bool) (o : List ℕ) → o ≡ ownerColumn area (variableCount area) → r ≡ all (isOwner live) (take (variableCount area) o)
+  pub column-owners : (r : Bool) (o : List ℕ) → o ≡ ownerColumn area (variableCount area)
+      → r ≡ all (isOwner live) (take (variableCount area) o)
       → r ≡ all (isOwner live) (take (variableCount area) (ownerColumn area (variableCount area)))
   column-owners r o e h = rw (← e) h

@@ -28,7 +28,8 @@ variableIn area i = variableOf (part area (entriesAt + i * entrySize) entrySize)
 -- ---- files
 -- start and length of each file as one number; behind the last file 0, which is none of a good disc
 unfoldable pub fileRuns : List ℕ → List ℕ
-fileRuns disc = overwrite (replicate maxFiles 0) 0 (tab (λ i. fourAt disc (i * fileEntrySize + nameSize)) (fileCount disc))
+fileRuns disc = overwrite (replicate maxFiles 0) 0
+    (tab (λ i. fourAt disc (i * fileEntrySize + nameSize)) (fileCount disc))
 
 -- what the tests of the records are given of the disc
 pub record Listed (disc runs : List ℕ) : Type 0 where

@@ -41,7 +41,8 @@ loop-again c =
     let at = entriesAt + l .loop .i * entrySize in
     let p = s .pre in (
       omega arith,
-      column-next (s .args .column .now) (end s) (s .args .count) (omega arith) (l .loop .column) (l .loop .i) (first c .wide .result + c .wide2 .result)
+      column-next (s .args .column .now) (end s) (s .args .count) (omega arith) (l .loop .column) (l .loop .i)
+          (first c .wide .result + c .wide2 .result)
           (omega arith) (l .loop .inv .1)
           (rw (part-byte a at entrySize 2 (omega arith), part-byte a at entrySize 3 (omega arith))
           (ap₂ (λ (x y : ℕ). x + y) (first c .wide .ensures .0) (c .wide2 .ensures .0))),
@@ -52,7 +53,8 @@ returns c =
     let l = c .before in
     let s = start l in
     let p = s .pre in
-    column-filled (s .args .column .now) (end s) (s .args .count) (omega arith) (l .loop .column) (l .loop .i) (omega arith) (l .loop .inv .1)
+    column-filled (s .args .column .now) (end s) (s .args .count) (omega arith) (l .loop .column) (l .loop .i) (omega arith)
+    (l .loop .inv .1)
 
 pub fill-ends-spec : {M : Type 1} → statement M
 fill-ends-spec =

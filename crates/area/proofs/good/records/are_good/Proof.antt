@@ -45,7 +45,8 @@ tested c =
     let n = turn c .before in
     let a = start n .args in
     c .is-good-record .ensures
-    ∙ ap₂ (λ (k : ℕ) (b : List ℕ). goodProcess (files (a .disc .now)) k (processOf b)) (n .word-at .ensures) (c .before .record-at .ensures .0)
+    ∙ ap₂ (λ (k : ℕ) (b : List ℕ). goodProcess (files (a .disc .now)) k (processOf b)) (n .word-at .ensures)
+    (c .before .record-at .ensures .0)
 
 returns : tie.Need-returns Inv-loop μ-loop
 unfolding kernelOf

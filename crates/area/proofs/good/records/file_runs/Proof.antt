@@ -53,7 +53,8 @@ returns c =
     let l = c .before in
     let n = l .before in
     let d = start n .args .disc .now in
-    column-filled (replicate maxFiles 0) (run d) (n .file-count .result) (few n) (l .loop .runs) (l .loop .i) (omega arith) (l .loop .inv .1)
+    column-filled (replicate maxFiles 0) (run d) (n .file-count .result) (few n) (l .loop .runs) (l .loop .i) (omega arith)
+    (l .loop .inv .1)
     ∙ ap (λ (k : ℕ). overwrite (replicate maxFiles 0) 0 (tab (run d) k)) (n .file-count .ensures)
 
 pub file-runs-spec : {M : Type 1} → statement M

@@ -52,9 +52,11 @@ returns-3 c =
       ne-eqb _ _ (some (t .before)),
       le-leb _ _ (subst₂ (λ (n l : ℕ). n ≤ l) (r .word-at2 .ensures) (r .before .word-at .ensures) (t .if2 .left)),
     )
-    (open-listed (a .disc .now) (a .runs .now) (start k .pre .0) (λ n. omega (arith, k .before .shared-slice-known .given n)) (a .bytes .now)
+    (open-listed (a .disc .now) (a .runs .now) (start k .pre .0) (λ n. omega (arith, k .before .shared-slice-known .given n))
+    (a .bytes .now)
     (λ n. omega (arith, k .shared-slice-known2 .given n)) 24 (c .file-of .result)
-    (subst (λ (n : ℕ). FileOf (a .runs .now) n (c .file-of .result)) (c .before .four-at .ensures) (c .file-of .ensures)) (some (t .before)))
+    (subst (λ (n : ℕ). FileOf (a .runs .now) n (c .file-of .result)) (c .before .four-at .ensures) (c .file-of .ensures))
+    (some (t .before)))
 
 pub is-good-file-spec : {M : Type 1} → statement M
 is-good-file-spec =

@@ -66,7 +66,12 @@ unfolding goodLive
 returns-5 c =
     let p = c .before in
     let r = program p in
-    rw (good-id (registers r), good-registers r, sym (p .before .is-good-program .ensures) ∙ not-false _ (p .if4 .left)) (c .is-good-file .ensures)
+    rw (
+      good-id (registers r),
+      good-registers r,
+      sym (p .before .is-good-program .ensures)
+          ∙ not-false _ (p .if4 .left),
+    ) (c .is-good-file .ensures)
 
 pub is-good-live-spec : {M : Type 1} → statement M
 is-good-live-spec =

@@ -62,14 +62,24 @@ returns-3 : tie.Need-returns-3
 returns-3 c =
     let s = sizes (filled (c .before)) in
     let a = start (few s) .args in
-    rw (in-parts (keep isId (a .ids .now)) (a .area .now) (few s .if1 .left), good-sizes s, sym (owned (c .before)) ∙ not-true _ (c .if3 .taken))
+    rw (
+      in-parts (keep isId (a .ids .now)) (a .area .now) (few s .if1 .left),
+      good-sizes s,
+      sym (owned (c .before))
+          ∙ not-true _ (c .if3 .taken),
+    )
 
 returns-4 : tie.Need-returns-4
 returns-4 c =
     let o = c .before .before in
     let s = sizes (filled (o .before)) in
     let a = start (few s) .args in
-    rw (in-parts (keep isId (a .ids .now)) (a .area .now) (few s .if1 .left), good-sizes s, sym (owned (o .before)) ∙ not-false _ (o .if3 .left))
+    rw (
+      in-parts (keep isId (a .ids .now)) (a .area .now) (few s .if1 .left),
+      good-sizes s,
+      sym (owned (o .before))
+          ∙ not-false _ (o .if3 .left),
+    )
     (c .are-beside .ensures)
 
 pub are-good-spec : {M : Type 1} → statement M

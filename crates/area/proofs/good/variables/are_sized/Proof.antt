@@ -49,7 +49,8 @@ loop-again : tie.Need-loop-again Inv-loop μ-loop
 loop-again c =
     let l = turn (size (judged c)) in (
       omega arith,
-      ap₂ (λ (x y : Bool). x && y) (l .loop .inv .1) (tested c) ∙ sym (all-tab-more sized (variableIn (start l .args .area .now)) (l .loop .i)),
+      ap₂ (λ (x y : Bool). x && y) (l .loop .inv .1) (tested c)
+          ∙ sym (all-tab-more sized (variableIn (start l .args .area .now)) (l .loop .i)),
     )
 
 returns : tie.Need-returns Inv-loop μ-loop

@@ -41,7 +41,8 @@ returns c =
     let l = c .before in
     let a = l .before .args in
     let p = l .before .pre in
-    ap (λ (x : Bool). not (eqb (a .id) 0) && x) (l .loop .inv .1 ∙ ap (any (eqb (a .id))) (take-all (l .loop .i) (a .ids .now) (omega arith)))
+    ap (λ (x : Bool). not (eqb (a .id) 0) && x) (l .loop .inv .1
+    ∙ ap (any (eqb (a .id))) (take-all (l .loop .i) (a .ids .now) (omega arith)))
     ∙ owner-kept (a .id) (a .ids .now)
 
 pub is-owner-spec : {M : Type 1} → statement M
