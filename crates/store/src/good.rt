@@ -1,6 +1,6 @@
 // The tests that every operation makes of the disc before it reads or writes a file. They run at every call, so they
-// read the bytes in place, and the loops over bytes and over earlier entries have no way out: docs/DECISIONS.md says
-// why.
+// read the bytes in place, and the loop over a name's bytes has no way out; the loops over entries leave at the first
+// that is not good or clashes: docs/DECISIONS.md says why.
 use crate::Checked;
 use crate::Refusal;
 use crate::layout::DATA_START;
@@ -12,6 +12,7 @@ use crate::layout::NAME_SIZE;
 use buffer::bytes::four_at;
 use buffer::bytes::word_at;
 use place::Run;
+use place::is_apart;
 use place::run_end;
 ghost use mathlib.Core.Path.{_≡_};
 ghost use mathlib.Core.Bool.{_&&_, _||_};
@@ -20,7 +21,6 @@ ghost use lib.Dec.{eqb};
 ghost use lib.ListN.{length};
 ghost use Rattle.buffer.specs.Buffer.{part};
 ghost use Rattle.buffer.specs.Lists.{all, same, tab};
-ghost use Rattle.place.specs.Place.{apart};
 ghost use Rattle.store.specs.Answer.{checked};
 ghost use Rattle.store.specs.Directory.{beside, entryAt, goodDisc, goodEntry, isDiscLength, runOf};
 ghost use Rattle.store.specs.Layout.{dataStart, maxFiles, nameSize};
@@ -94,32 +94,24 @@ pub fn same_name(a: &[u8], i: usize, b: &[u8], j: usize) -> bool
         & ((four_at(a, i + 4) == four_at(b, j + 4)) & (four_at(a, i + 8) == four_at(b, j + 8)))
 }
 
-fn are_apart(a: Run, b: Run) -> bool
-    ensures { λ r. ⌜ r ≡ apart a b ⌝ }
-{
-    (run_end(a) <= b.start as usize) | (run_end(b) <= a.start as usize)
-}
-
-fn is_beside(disc: &[u8], i: usize, j: usize) -> bool
-    requires { ⌜ (dataStart ≤ length (now disc)) × (i < maxFiles) × (j < maxFiles) ⌝ }
-    ensures { λ r. ⌜ r ≡ beside (entryAt (now (disc .entry)) i) (entryAt (now (disc .entry)) j) ⌝ }
-{
-    !same_name(disc, i * ENTRY_SIZE, disc, j * ENTRY_SIZE)
-        & are_apart(run_at(disc, i), run_at(disc, j))
-}
-
 // Whether the entry at i is beside every earlier one.
 fn is_beside_earlier(disc: &[u8], i: usize) -> bool
     requires { ⌜ (dataStart ≤ length (now disc)) × (i < maxFiles) ⌝ }
     ensures { λ r. ⌜ r ≡ all (λ e. beside e (entryAt (now (disc .entry)) i)) (tab (entryAt (now (disc .entry))) i) ⌝ }
 {
-    let mut good = true;
+    let run = run_at(disc, i);
     let mut j: usize = 0;
     while j < i {
-        good = good & is_beside(disc, j, i);
+        if same_name(disc, j * ENTRY_SIZE, disc, i * ENTRY_SIZE) {
+            return false;
+        }
+        let earlier = run_at(disc, j);
+        if !is_apart(earlier.start as usize, earlier.len as usize, run) {
+            return false;
+        }
         j += 1;
     }
-    good
+    true
 }
 
 pub fn is_good_disc(disc: &[u8]) -> bool

@@ -7,7 +7,7 @@ ghost use Prim.Native.Nat.{_+_, _≤_};
 ghost use lib.ListN.{length, take};
 ghost use Rattle.buffer.specs.Text.{appended, textSize};
 ghost use Rattle.store.specs.Layout.{nameSize};
-ghost use Rattle.store.specs.Name.{goodField, goodName, isNameByte, padded, trimmed};
+ghost use Rattle.store.specs.Name.{goodName, isNameByte, padded, trimmed};
 
 fn is_name_byte(b: u8) -> bool
     ensures { λ r. ⌜ r ≡ isNameByte b ⌝ }
@@ -69,16 +69,4 @@ pub fn append_name(text: Text, field: [u8; NAME_SIZE]) -> Text
 {
     let n = text_length(&field);
     buffer::text::append(text, &field[..n])
-}
-
-pub fn is_good_field(field: [u8; NAME_SIZE]) -> bool
-    ensures { λ r. ⌜ r ≡ goodField field ⌝ }
-{
-    let n = text_length(&field);
-    let name = &field[..n];
-    if !is_good_name(name) {
-        return false;
-    }
-    let whole = pad(name);
-    buffer::bytes::same_bytes(&field, &whole)
 }
