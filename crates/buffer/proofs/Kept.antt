@@ -26,11 +26,6 @@ module _ {A : Type 0} (p : A → Bool) where
   any-at (x ∷ l) zero d h e = rw e
   any-at (x ∷ l) (suc i) d h e = rw (any-at l i d (le-of-suc-le-suc h) e) (or-true (p x))
 
-  -- one more turn of a loop that seeks an element
-  pub any-take-next : (l : List A) (i : ℕ) (d : A) → i < length l → any p (take i l) ≡ false → p (getD l i d) ≡ false
-      → any p (take (i + 1) l) ≡ false
-  any-take-next l i d h e v = rw (add-one, take-suc l i d, any-snoc (take i l) (getD l i d), e, v)
-
 -- ---- keep
 module _ {A : Type 0} (p : A → Bool) where
   pub keep-append : (l m : List A) → keep p (l ++ m) ≡ keep p l ++ keep p m

@@ -1,13 +1,12 @@
 // Variable memory: 256 bytes and 25 entries that all processes share, by value.
 pub mod assign;
-pub mod good;
 pub mod table;
 
 pub const MEMORY_SIZE: usize = 256;
 
 pub const MAX_VARIABLES: usize = 25;
 
-pub const MAX_STRING: u8 = 30;
+pub const MAX_STRING: u16 = 30;
 
 pub const VALUE_SIZE: usize = 32;
 

@@ -15,6 +15,7 @@ use machine::limits::COUNT_AT;
 use machine::limits::ENTRIES_AT;
 use machine::limits::ENTRY_SIZE;
 use machine::limits::SLOT_COUNT;
+use variable::MAX_STRING;
 use variable::MAX_VARIABLES;
 ghost use mathlib.Core.Path.{_≡_};
 ghost use mathlib.Core.Bool.{_&&_};
@@ -31,8 +32,6 @@ ghost use Rattle.variable.specs.Limits.{maxVariables, memorySize};
 ghost use Rattle.area.specs.Columns.{clash, firsts, isId, places, sized, variableIn, wordsOf};
 
 const MEMORY_SIZE: u16 = 256;
-
-const MAX_STRING: u16 = 30;
 
 // No variable's: as start of a place behind the last one it lies behind every variable.
 const NOWHERE: u16 = 65535;
