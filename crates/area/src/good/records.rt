@@ -15,6 +15,7 @@ use buffer::bytes::four_at;
 use buffer::bytes::word_at;
 use machine::limits::NEXT_AT;
 use machine::limits::SLOT_COUNT;
+use machine::limits::STACK_SIZE;
 use store::layout::ENTRY_SIZE;
 use store::layout::MAX_FILES;
 use store::layout::NAME_SIZE;
@@ -30,9 +31,6 @@ ghost use Rattle.machine.specs.GoodArea.{goodFile, goodLive, goodProcess, goodR
 ghost use Rattle.machine.specs.Limits.{areaLength, recordSize, slotCount};
 ghost use Rattle.machine.specs.State.{paused, running};
 ghost use Rattle.area.specs.Columns.{FileOf, Listed, fileRuns};
-
-// SP is one byte.
-const STACK_SIZE: u8 = 32;
 
 // Start and length of each file as one number; behind the last file 0, which is no file's.
 pub fn file_runs(disc: &[u8]) -> [u32; MAX_FILES]
@@ -50,19 +48,18 @@ pub fn file_runs(disc: &[u8]) -> [u32; MAX_FILES]
     runs
 }
 
-// The place of the file of that start and length, or MAX_FILES. No way out of the loop: speed.
+// The place of the first file of that start and length, or MAX_FILES.
 fn file_of(runs: &[u32; MAX_FILES], run: u32) -> usize
     ensures { λ r. ⌜ FileOf (now (runs .entry)) run r ⌝ }
 {
-    let mut file = MAX_FILES;
     let mut i: usize = 0;
     while i < MAX_FILES {
         if runs[i] == run {
-            file = i;
+            return i;
         }
         i += 1;
     }
-    file
+    MAX_FILES
 }
 
 // Document 01: "Live means running or paused."
@@ -113,7 +110,8 @@ fn are_good_registers(bytes: &[u8]) -> bool
     let pc = word_at(bytes, PC_AT);
     let start = word_at(bytes, LOOP_AT);
     (bytes[SPARE_AT] == 0)
-        & ((bytes[SP_AT] <= STACK_SIZE) & ((pc <= len) & ((start == NO_LOOP) | (start <= len))))
+        & ((bytes[SP_AT] as usize <= STACK_SIZE)
+            & ((pc <= len) & ((start == NO_LOOP) | (start <= len))))
 }
 
 fn is_good_live(disc: &[u8], runs: &[u32; MAX_FILES], next: u16, bytes: &[u8]) -> bool

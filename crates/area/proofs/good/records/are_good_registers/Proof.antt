@@ -1,8 +1,13 @@
 -- Its tests are those of `goodRegisters`, on the fields in place.
+use native.Mathlib.Omega.{arith}
 use borrow.Author.Needs.{needs}
 use Rattle.machine.specs.GoodArea.{goodRegisters}
 use Rattle.area.proofs.good.records.are_good_registers.Statement.{statement}
 use Rattle.area.proofs.good.records.are_good_registers.Tie as tie
+
+-- SP is one byte
+sp-fits : tie.Need-cast-result
+sp-fits c = omega (arith, c .shared-slice-known3 .given 30)
 
 returns : tie.Need-returns
 unfolding goodRegisters
@@ -18,4 +23,5 @@ are-good-registers-spec =
     (λ c κs. search needs)
     (λ c. search needs)
     (λ c. search needs)
+    sp-fits
     returns)
