@@ -10,11 +10,12 @@ use buffer::Found;
 use place::Run;
 ghost use mathlib.Core.Path.{_≡_};
 ghost use Prim.Native.Nat.{_+_, _<_, _≤_};
-ghost use lib.ListN.{length};
+ghost use lib.ListN.{drop, length};
 ghost use Rattle.buffer.specs.Buffer.{overwrite, part};
-ghost use Rattle.store.specs.Directory.{Readable, fileCount};
+ghost use Rattle.store.specs.Directory.{Readable, contents, fileCount};
 ghost use Rattle.store.specs.File.{admission, entered, erased, readAt, writtenAt};
 ghost use Rattle.store.specs.Layout.{entrySize, maxFiles, nameSize};
+ghost use Rattle.store.specs.Name.{trimmed};
 
 // Whether a new file of n bytes is admitted under this name, and where it goes.
 pub fn admit(disc: &[u8], name: &[u8], n: usize) -> Admission
@@ -103,4 +104,15 @@ pub fn read_at(disc: &[u8], run: Run, offset: usize, out: &mut [u8])
 {
     let start = run.start as usize;
     buffer::bytes::copy_part(out, disc, start + offset);
+}
+
+// How many bytes of a file lie from an offset to the next zero, or to its end where there is none.
+pub fn text_ahead(disc: &[u8], run: Run, offset: usize) -> usize
+    requires { ⌜ (offset ≤ run .len) × (run .start + run .len ≤ length (now disc)) ⌝ }
+    ensures { λ r. ⌜ r ≡ length (trimmed (drop offset (contents (now (disc .entry)) run))) ⌝ }
+{
+    let start = run.start as usize;
+    let at = start + offset;
+    let end = start + run.len as usize;
+    crate::name::text_length(&disc[at..end])
 }

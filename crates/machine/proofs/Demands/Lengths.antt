@@ -57,7 +57,7 @@ turn-short : (k : Kernel) (slot clock : ℕ) (disc : List ℕ) → GoodState k d
 turn-short k slot clock disc g h =
     turn-prints k slot clock disc g h (exec-sound _ clock _ _ (within-local g slot (running-live (processAt k slot) h)))
 
-turn-if-running-short : (k : Kernel) (slot clock : ℕ) (disc : List ℕ) → GoodState k disc
+pub turn-if-running-short : (k : Kernel) (slot clock : ℕ) (disc : List ℕ) → GoodState k disc
     → length (turnIfRunning k slot clock disc .out) ≤ turnRoom
 unfolding turnIfRunning
 turn-if-running-short k slot clock disc g = go (isRunning (processAt k slot)) refl
@@ -80,7 +80,7 @@ turns-short (slot ∷ l) k clock disc g =
     omega (arith, length-append (t .out) (turnsOf l (t .kernel) clock (t .disc) .out))
 
 -- ---- what turns leave of the disc's length
-turn-if-running-length : (k : Kernel) (slot clock : ℕ) (disc : List ℕ) → GoodState k disc
+pub turn-if-running-length : (k : Kernel) (slot clock : ℕ) (disc : List ℕ) → GoodState k disc
     → length (turnIfRunning k slot clock disc .disc) ≡ length disc
 unfolding turnIfRunning
 turn-if-running-length k slot clock disc g = go (isRunning (processAt k slot)) refl

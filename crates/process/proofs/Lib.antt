@@ -1,0 +1,2 @@
+-- The laws of a process's step, by topic.
+pub mod Assigning

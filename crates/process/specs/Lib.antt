@@ -1,0 +1,2 @@
+-- a process and the step that it takes
+pub mod Stepping
