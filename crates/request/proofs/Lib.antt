@@ -1,0 +1,4 @@
+-- The laws of answers, by topic.
+pub mod Answering
+pub mod Accesses
+pub mod Slots

@@ -1,0 +1,6 @@
+-- a step of a running process of good buffers can be carried out
+pub mod Bounded
+-- what is carried out and printed is the turn
+pub mod Printed
+-- turns one after the other
+pub mod Going

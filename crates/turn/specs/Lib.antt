@@ -1,0 +1,2 @@
+-- what a turn needs and leaves
+pub mod Turns

@@ -1,0 +1,57 @@
+// A round: a turn for each slot that runs when it is reached.
+use crate::take::take_turn;
+use area::records::RUNNING;
+use area::records::STATE_AT;
+use area::records::record_at;
+use machine::limits::SLOT_COUNT;
+ghost use mathlib.Core.Path.{_≡_};
+ghost use Prim.Native.Nat.{_<_, _≤_};
+ghost use lib.ListN.{length};
+ghost use Rattle.machine.specs.Area.{kernelOf};
+ghost use Rattle.machine.specs.Limits.{areaLength, roundRoom, slotCount, turnRoom};
+ghost use Rattle.machine.specs.Operations.{slots, turnIfRunning, turnsOf};
+ghost use Rattle.machine.specs.Refusals.{Passes};
+ghost use Rattle.machine.specs.State.{isRunning, processAt};
+ghost use Rattle.turn.specs.Turns.{turnLeft, turnLeftBy};
+
+pub fn is_running(area: &[u8], slot: usize) -> bool
+    requires { ⌜ (length (now area) ≡ areaLength) × (slot < slotCount) ⌝ }
+    ensures { λ r. ⌜ r ≡ isRunning (processAt (kernelOf (now (area .entry))) slot) ⌝ }
+{
+    let bytes = record_at(area, slot);
+    bytes[STATE_AT] == RUNNING
+}
+
+// Document 01: "each if running when reached".
+fn turn_if_running(
+    disc: &mut [u8],
+    area: &mut [u8],
+    slot: usize,
+    clock: u32,
+    out: &mut [u8],
+) -> usize
+    requires { ⌜ Passes (now disc) (now area) × (slot < slotCount) × (turnRoom ≤ length (now out)) ⌝ }
+    ensures { λ r. ⌜ turnLeft r (now (disc .exit)) (now (area .exit)) (now (out .exit))
+        ≡ turnLeftBy (turnIfRunning (kernelOf (now (area .entry))) slot clock (now (disc .entry))) (now (out .entry)) ⌝ }
+{
+    if is_running(area, slot) {
+        return take_turn(disc, area, slot, clock, out);
+    }
+    0
+}
+
+// Document 01: "a turn for slots 0 to 9, [..] under one clock reading, outputs joined". Good buffers stay good, so each
+// turn finds them as it needs them.
+pub fn take_turns(disc: &mut [u8], area: &mut [u8], clock: u32, out: &mut [u8]) -> usize
+    requires { ⌜ Passes (now disc) (now area) × (roundRoom ≤ length (now out)) ⌝ }
+    ensures { λ r. ⌜ turnLeft r (now (disc .exit)) (now (area .exit)) (now (out .exit))
+        ≡ turnLeftBy (turnsOf slots (kernelOf (now (area .entry))) clock (now (disc .entry))) (now (out .entry)) ⌝ }
+{
+    let mut printed: usize = 0;
+    let mut slot: usize = 0;
+    while slot < SLOT_COUNT {
+        printed += turn_if_running(disc, area, slot, clock, &mut out[printed..]);
+        slot += 1;
+    }
+    printed
+}
