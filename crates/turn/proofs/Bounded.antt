@@ -7,34 +7,30 @@ use mathlib.Core.Logic.{⊎-elim}
 use native.Mathlib.Omega.{arith}
 use lib.ListN.{length, take, length-append}
 use lib.Seq.{length-take-le}
-use borrow.Author.Tests.{eqb-true, le-leb}
+use borrow.Author.Tests.{le-leb}
 use Rattle.buffer.proofs.Bools.{and-both}
 use Rattle.buffer.proofs.Lists.{all-weaker}
 use Rattle.place.specs.declared.Run.{Run}
 use Rattle.store.specs.Directory.{files}
-use Rattle.store.specs.Directory.{Readable as ReadableDisc}
-use Rattle.store.proofs.Checks.{readable}
 use Rattle.store.proofs.Goodness.{good-entry-at}
 use Rattle.variable.specs.Good.{goodVariable}
 use Rattle.variable.specs.Limits.{valueSize}
 use Rattle.variable.specs.Table.{owned}
 use Rattle.variable.specs.declared.Variable.{Variable}
-use Rattle.variable.proofs.Goodness.{GoodVariables, good-size-bounds, good-variable-is, good-variables-is}
+use Rattle.variable.proofs.Goodness.{good-size-bounds, good-variable-is}
 use Rattle.machine.specs.Area.{kernelOf}
 use Rattle.machine.specs.Effect.{Effect}
 use Rattle.machine.specs.Exec.{exec}
-use Rattle.machine.specs.Limits.{areaLength, idLimit, slotCount, stackSize}
+use Rattle.machine.specs.Limits.{areaLength, slotCount, stackSize}
 use Rattle.machine.specs.Refusals.{Passes}
 use Rattle.machine.specs.State.{isLive, isRunning, liveIds, localOf, processAt}
 use Rattle.machine.specs.Turn.{effectAt, programOf}
 use Rattle.machine.specs.declared.Kernel.{Kernel}
 use Rattle.machine.specs.declared.Process.{Process}
-use Rattle.machine.proofs.Bytes.Sizes.{SizedProcess}
 use Rattle.machine.proofs.Changes.Change.{GoodState}
 use Rattle.machine.proofs.Changes.Directories.{FileAt, live-record, open-at, program-at}
 use Rattle.machine.proofs.Changes.LiveRecords.{running-live, within-local}
-use Rattle.machine.proofs.Demands.GoodCalls.{area-length, passes-good}
-use Rattle.machine.proofs.Goodness.GoodLaws.{GoodKernel, good-kernel-is}
+use Rattle.machine.proofs.Demands.GoodCalls.{passes-good}
 use Rattle.machine.proofs.Goodness.GoodRecords.{Closed, Opened}
 use Rattle.machine.proofs.Instructions.Executing.{exec-sound}
 use Rattle.machine.proofs.Instructions.Sound.{Asked, Sound}
@@ -46,6 +42,7 @@ use Rattle.stack.specs.declared.Action.the-variants.{Push, Print, Assign, Stop,
 use Rattle.stack.specs.declared.Step.{Step}
 use Rattle.request.specs.Answers.{Lies}
 use Rattle.turn.specs.Turns.{Bounds, Carries}
+use Rattle.turn.proofs.Passing.{area-size, disc-readable, few-variables, next-low, variables-good}
 
 -- a good area's variables lie in memory and are no longer than a stack
 held : (live : List ℕ) (e : Variable) → goodVariable live e ≡ true → isHeld e ≡ true
@@ -69,23 +66,11 @@ module _ (disc area : List ℕ) (passes : Passes disc area) where
   good : GoodState (kernelOf area) disc
   good = passes-good disc area passes
 
-  area-good : GoodKernel (files disc) (kernelOf area)
-  area-good = good-kernel-is (files disc) (kernelOf area) (good .area)
-
-  variables-good : GoodVariables (liveIds (kernelOf area)) (kernelOf area .variables)
-  variables-good = good-variables-is (liveIds (kernelOf area)) (kernelOf area .variables) (area-good .variables)
-
-  pub area-size : length area ≡ areaLength
-  area-size = eqb-true _ _ (area-length passes)
-
-  disc-readable : ReadableDisc disc
-  disc-readable = readable disc (good .long) (good .sound)
-
   variables-readable : Readable (kernelOf area .variables)
   variables-readable =
       record {
-        few = variables-good .few;
-        held = all-weaker (goodVariable (liveIds (kernelOf area))) isHeld _ (held (liveIds (kernelOf area))) (variables-good .each);
+        few = few-variables passes;
+        held = all-weaker (goodVariable (liveIds (kernelOf area))) isHeld _ (held (liveIds (kernelOf area))) (variables-good passes .each);
       }
 
   module _ (slot : ℕ) (low : slot < slotCount) (running : isRunning (processAt (kernelOf area) slot) ≡ true) where
@@ -144,17 +129,17 @@ module _ (disc area : List ℕ) (passes : Passes disc area) where
       carries-own =
           record {
             stepping = record {
-              size = area-size;
+              size = area-size passes;
               low = low;
               own = refl;
-              few = variables-good .few;
+              few = few-variables passes;
               sp = sp-low;
               kept = omega (arith, means .kept, stack-size);
               len = means .len;
             };
-            readable = disc-readable;
+            readable = disc-readable passes;
             file = file-lies;
-            next = area-good .header .high;
+            next = next-low passes;
             bounds = bounded (d .action) sound;
           }
 
@@ -165,7 +150,7 @@ module _ (disc area : List ℕ) (passes : Passes disc area) where
       may-step =
           subst⁻¹ (λ (r : Process). (r .code .start + r .code .len ≤ length disc) × (r .sp ≤ stackSize) × (length area ≡ areaLength)
           × Readable (kernelOf area .variables)) copied
-          (program-inside, sp-low, area-size, variables-readable)
+          (program-inside, sp-low, area-size passes, variables-readable)
 
       module _ (clock : ℕ) (d : Step) where
         pub carries : length (d .bytes) ≡ stackSize → Steps disc area clock q d → Carries disc area slot q d

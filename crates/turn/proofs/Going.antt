@@ -25,7 +25,7 @@ use Rattle.machine.proofs.Changes.Change.{GoodState}
 use Rattle.machine.proofs.Demands.GoodCalls.{good-back, good-passes, passes-good, turn-if-running-good}
 use Rattle.machine.proofs.Demands.Lengths.{turn-if-running-length, turn-if-running-short}
 use Rattle.turn.specs.Turns.{TurnLeft, turnLeft, turnLeftBy}
-use Rattle.turn.proofs.Bounded.{area-size}
+use Rattle.turn.proofs.Passing.{area-size}
 
 -- a text printed before
 abbrev pub joined : List ℕ → Turned → Turned
@@ -72,7 +72,7 @@ going-first clock disc area out passes bytes room =
       few = omega arith;
       passes = passes;
       long = refl;
-      whole = kernel-encode-decode area bytes (area-size disc area passes);
+      whole = kernel-encode-decode area bytes (area-size passes);
       text = [];
       count = refl;
       little = omega arith;

@@ -1,3 +1,5 @@
+-- what good buffers say
+pub mod Passing
 -- a step of a running process of good buffers can be carried out
 pub mod Bounded
 -- what is carried out and printed is the turn

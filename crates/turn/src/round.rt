@@ -44,8 +44,9 @@ fn turn_if_running(
 // turn finds them as it needs them.
 pub fn take_turns(disc: &mut [u8], area: &mut [u8], clock: u32, out: &mut [u8]) -> usize
     requires { ⌜ Passes (now disc) (now area) × (roundRoom ≤ length (now out)) ⌝ }
-    ensures { λ r. ⌜ turnLeft r (now (disc .exit)) (now (area .exit)) (now (out .exit))
-        ≡ turnLeftBy (turnsOf slots (kernelOf (now (area .entry))) clock (now (disc .entry))) (now (out .entry)) ⌝ }
+    ensures { λ r. ⌜ (turnLeft r (now (disc .exit)) (now (area .exit)) (now (out .exit))
+        ≡ turnLeftBy (turnsOf slots (kernelOf (now (area .entry))) clock (now (disc .entry))) (now (out .entry)))
+        × (r ≤ roundRoom) ⌝ }
 {
     let mut printed: usize = 0;
     let mut slot: usize = 0;

@@ -9,7 +9,7 @@ use borrow.Rule.Slice.PartMut.{post-is}
 use mathlib.Core.List.{List, _++_, append-nil}
 use Rattle.machine.specs.Area.{kernelOf}
 use Rattle.machine.specs.Limits.{slotCount, turnRoom}
-use Rattle.turn.proofs.Bounded.{area-size}
+use Rattle.turn.proofs.Passing.{area-size}
 use Rattle.turn.proofs.Going.{Going, going-all, going-first, going-next, next-short, out-size}
 use Rattle.turn.proofs.round.take_turns.Statement.{statement}
 use Rattle.turn.proofs.round.take_turns.Tie as tie
@@ -91,14 +91,17 @@ area-long : tie.Need-same-length-2 Inv-loop μ-loop
 area-long c =
     let l = c .before in
     let s = start l in
-    area-size (l .loop .disc) (l .loop .area) (l .loop .inv .passes) ∙ sym (area-size (s .args .disc .now) (s .args .area .now) (s .pre .0))
+    area-size (l .loop .inv .passes) ∙ sym (area-size (s .pre .0))
 
 returns : tie.Need-returns Inv-loop μ-loop
 returns c =
     let l = c .before in
     let s = start l in
-    going-all (kernelOf (s .args .area .now)) (s .args .clock) (s .args .disc .now) (s .args .out .now) (l .loop .slot) (l .loop .printed)
-    (l .loop .disc) (l .loop .area) (l .loop .out) (l .loop .inv) (omega arith)
+    let g = l .loop .inv in (
+      going-all (kernelOf (s .args .area .now)) (s .args .clock) (s .args .disc .now) (s .args .out .now) (l .loop .slot) (l .loop .printed)
+          (l .loop .disc) (l .loop .area) (l .loop .out) g (omega arith),
+      omega (arith, g .few, g .little),
+    )
 
 pub take-turns-spec : {M : Type 1} → statement M
 take-turns-spec =

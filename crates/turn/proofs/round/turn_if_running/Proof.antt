@@ -10,7 +10,7 @@ use Rattle.machine.specs.Operations.{turnIfRunning}
 use Rattle.machine.specs.State.{isRunning, processAt}
 use Rattle.machine.proofs.Bytes.Area.{kernel-encode-decode}
 use Rattle.turn.specs.Turns.{turnLeft}
-use Rattle.turn.proofs.Bounded.{area-size}
+use Rattle.turn.proofs.Passing.{area-size}
 use Rattle.turn.proofs.round.turn_if_running.Statement.{statement}
 use Rattle.turn.proofs.round.turn_if_running.Tie as tie
 
@@ -30,12 +30,12 @@ whole : (c : tie.After-slice-known3) → Whole (start c .args .area .now)
 whole c =
     let s = start c in
     kernel-encode-decode (s .args .area .now) (λ i. omega (arith, c .before .slice-known2 .given i))
-    (area-size (s .args .disc .now) (s .args .area .now) (s .pre .0))
+    (area-size (s .pre .0))
 
 is-running-requires : tie.Need-is-running-requires
 is-running-requires c κs =
     let s = start (c .before) in
-    (area-size (s .args .disc .now) (s .args .area .now) (s .pre .0), s .pre .1)
+    (area-size (s .pre .0), s .pre .1)
 
 take-turn-requires : tie.Need-take-turn-requires
 take-turn-requires c κs =

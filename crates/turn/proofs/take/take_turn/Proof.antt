@@ -9,7 +9,8 @@ use Rattle.machine.specs.Limits.{stackSize}
 use Rattle.machine.specs.State.{noProcess, processAt}
 use Rattle.machine.specs.declared.Process.{Process}
 use Rattle.process.specs.Stepping.{stackOf}
-use Rattle.turn.proofs.Bounded.{area-size, carries, effect-is, may-step}
+use Rattle.turn.proofs.Bounded.{carries, effect-is, may-step}
+use Rattle.turn.proofs.Passing.{area-size}
 use Rattle.turn.proofs.Printed.{turn-taken}
 use Rattle.turn.proofs.take.take_turn.Statement.{statement}
 use Rattle.turn.proofs.take.take_turn.Tie as tie
@@ -35,7 +36,7 @@ processes-of-requires : tie.Need-processes-of-requires
 processes-of-requires c κs =
     let known = c .before in
     let s = known .before .before .before in
-    area-size (s .args .disc .now) (s .args .area .now) (s .pre .0)
+    area-size (s .pre .0)
 
 next-step-requires : tie.Need-next-step-requires
 next-step-requires c κs =

@@ -1,0 +1,74 @@
+-- The tests that come first, as the code makes them: what a refused call answers, and what is known of buffers that pass.
+use Prim.Native.Nat.{ℕ, _≤_, _<_}
+use mathlib.Core.Path.{_≡_, refl, ap}
+use mathlib.Core.Bool.{Bool, true, false, _&&_}
+use mathlib.Core.List.{List}
+use native.Mathlib.Omega.{arith}
+use lib.ListN.{length}
+use borrow.Author.Tests.{le-leb, lt-leb}
+use Rattle.buffer.specs.declared.Found.the-variants.{At}
+use Rattle.store.specs.Directory.{goodDisc, isDiscLength}
+use Rattle.store.specs.File.{unless}
+use Rattle.machine.specs.Answer.{goodArea, onGood, refused, withRoom}
+use Rattle.machine.specs.Answer.{Answer as Expected}
+use Rattle.machine.specs.Area.{isAreaLength, kernelOf}
+use Rattle.machine.specs.Limits.{areaLength, slotCount}
+use Rattle.machine.specs.Refusals.{Passes}
+use Rattle.machine.specs.State.{slotOf}
+use Rattle.machine.proofs.Bytes.Sizes.{decoded-sized}
+use Rattle.machine.proofs.Changes.Slots.{slot-at}
+use Rattle.area.specs.Tests.{tested}
+use Rattle.area.specs.declared.Tested.the-variants as tests
+use Rattle.operation.specs.Answers.{answered, checked, lent, usable}
+use Rattle.operation.specs.declared.Answer.the-variants.{Refused}
+use Rattle.operation.specs.declared.Checked.the-variants.{Usable, Unusable}
+use Rattle.operation.specs.declared.Refusal.{Refusal}
+use Rattle.operation.specs.declared.Refusal.the-variants.{WrongLength, BadDisc, BadArea, ShortOutput}
+
+-- ---- one test after the other
+module _ (disc area : List ℕ) where
+  -- refused, whatever else the operation does
+  pub first-refused : {refusal : Refusal} → checked disc area ≡ Unusable refusal → (out : List ℕ) (rest : Expected)
+      → answered (Refused refusal) disc area out ≡ onGood (lent disc area out) rest
+  unfolding tested
+  first-refused {refusal} e out rest =
+      go (isDiscLength (length disc) && isAreaLength (length area)) (goodDisc disc) (goodArea disc area) e
+    where
+      told : (r : Refusal) → Unusable r ≡ Unusable refusal → answered (Refused refusal) disc area out ≡ answered (Refused r) disc area out
+      told r h = let q : refusal ≡ r = cc in ap (λ (x : Refusal). answered (Refused x) disc area out) q
+
+      go : (a b c : Bool)
+          → usable (unless a tests.WrongLength (unless b tests.BadDisc (unless c tests.BadArea tests.Pass))) ≡ Unusable refusal
+          → answered (Refused refusal) disc area out
+          ≡ unless a (refused 1 (lent disc area out))
+          (unless b (refused 2 (lent disc area out)) (unless c (refused 3 (lent disc area out)) rest))
+      go false b c h = told WrongLength h
+      go true false c h = told BadDisc h
+      go true true false h = told BadArea h
+      go true true true h = absurd (let z : _≡_ {A = ℕ} 0 1 = cc in omega arith)
+
+  -- passed, so that machine's `on-good` leaves the rest
+  pub first-passed : checked disc area ≡ Usable → Passes disc area
+  unfolding tested
+  first-passed e =
+      go (isDiscLength (length disc) && isAreaLength (length area)) refl (goodDisc disc) refl (goodArea disc area) refl e
+    where
+      go : (a : Bool) → isDiscLength (length disc) && isAreaLength (length area) ≡ a → (b : Bool) → goodDisc disc ≡ b
+          → (c : Bool) → goodArea disc area ≡ c
+          → usable (unless a tests.WrongLength (unless b tests.BadDisc (unless c tests.BadArea tests.Pass))) ≡ Usable → Passes disc area
+      go false p b q c r h = absurd (let z : _≡_ {A = ℕ} 0 1 = cc in omega arith)
+      go true p false q c r h = absurd (let z : _≡_ {A = ℕ} 0 1 = cc in omega arith)
+      go true p true q false r h = absurd (let z : _≡_ {A = ℕ} 0 1 = cc in omega arith)
+      go true p true q true r h = record { sizes = p; disc-good = q; area-good = r }
+
+  -- ---- the room of the output
+  module _ (out : List ℕ) (n : ℕ) (rest : Expected) where
+    pub room-refused : length out < n → answered (Refused ShortOutput) disc area out ≡ withRoom n (lent disc area out) rest
+    room-refused h = rw (lt-leb n (length out) h)
+
+    pub room-passed : n ≤ length out → withRoom n (lent disc area out) rest ≡ rest
+    room-passed h = rw (le-leb n (length out) h)
+
+-- the slot of an ID is one of the ten
+pub slot-low : (area : List ℕ) (id : ℕ) {slot : ℕ} → length area ≡ areaLength → slotOf (kernelOf area) id ≡ At slot → slot < slotCount
+slot-low area id {slot} h e = omega (arith, slot-at (kernelOf area) id slot e .0, decoded-sized area h .processes)

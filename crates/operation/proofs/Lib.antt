@@ -1,0 +1,7 @@
+-- The laws of the operations on both buffers, by topic.
+-- the tests that come first: refused by one, or passed
+pub mod FirstTests
+-- suspend and resume as commands
+pub mod Commanding
+-- the lines of list
+pub mod Lines
