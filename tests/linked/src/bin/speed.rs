@@ -188,16 +188,19 @@ fn print_row(name: &str, [first, second]: &Samples) {
     );
 }
 
-/// What the restoring costs, and by the least figures what of a turn are its tests and how many turns a round is.
+/// What the restoring costs, what of a turn are its tests and how many turns a round is: medians over the repeats, each
+/// repeat by itself, so that a slower while falls on both sides.
 fn print_parts(measured: &Measured) {
-    let restoring = least(&measured.restoring);
-    let typical = median(&measured.restoring);
+    let (restoring, typical) = (least(&measured.restoring), median(&measured.restoring));
     println!("disc and work area are copied afresh before each call, the output is not");
     println!("the copying, {restoring:.0}, {typical:.0}, is in every figure above and taken off below");
     for (index, (kernel, _)) in KERNELS.iter().enumerate() {
-        let [tests, turn, round] = [TESTS, TURN, ROUND].map(|row| least(&measured.rows[row][index]) - restoring);
-        let (rest, turns) = (turn - tests, round / turn);
-        print!("{kernel}, least: turn at INCREMENT {turn:.0} = tests {tests:.0} + {rest:.0}; ");
-        println!("round of ten INCREMENTs {round:.0} = {turns:.1} turns");
+        let of = |row: usize, repeat: usize| measured.rows[row][index][repeat] - measured.restoring[repeat];
+        let over = |part: &dyn Fn(usize) -> f64| median(&(0..REPEATS).map(part).collect::<Vec<f64>>());
+        let [turn, tests, round] = [TURN, TESTS, ROUND].map(|row| over(&|repeat| of(row, repeat)));
+        let share = over(&|repeat| of(TESTS, repeat) / of(TURN, repeat));
+        let turns = over(&|repeat| of(ROUND, repeat) / of(TURN, repeat));
+        print!("{kernel}, median: turn at INCREMENT {turn:.0}, its tests {tests:.0} ({share:.2} of it); ");
+        println!("round of ten INCREMENTs {round:.0} ({turns:.2} turns)");
     }
 }
