@@ -13,55 +13,61 @@ use second::layout::*;
 use second::{directory, records};
 use std::hint::black_box;
 
-/// Samples of each kernel, taken in turn.
+/// Samples of each kernel for each row, taken in turn.
 const REPEATS: usize = 21;
 const USUAL_CALLS: usize = 2_000;
 
 fn main() {
     let calls = std::env::args().nth(1).and_then(|argument| argument.parse().ok()).unwrap_or(USUAL_CALLS);
-    println!("{REPEATS} interleaved samples of {calls} calls, processor time; median (least to greatest)");
-    println!("disc and work area are copied afresh before each call, the output is not cleared");
-    println!("the copying, {} ns, is part of every figure", copying(calls));
-    println!("| call | first ns | second ns | first / second |\n|---|---|---|---|");
-    for (name, state, call) in measured() {
-        measure(name, &state, &call, calls);
+    let rows = rows();
+    let measured = measure(&rows, calls);
+    println!("{REPEATS} interleaved samples of {calls} calls, ns of processor time");
+    println!("ten live processes, 25 variables, ten files whose names differ in the last byte");
+    println!("| call | first: least, median | second: least, median | first / second: median (least to greatest) |");
+    println!("|---|---|---|---|");
+    for (row, samples) in rows.iter().zip(&measured.rows) {
+        print_row(row.name, samples);
+    }
+    print_parts(&measured);
+}
+
+/// A call, the state it is made on and the number it returns.
+struct Row {
+    name: &'static str,
+    state: State,
+    call: Call,
+    number: i32,
+}
+
+impl Row {
+    fn new(name: &'static str, state: &State, call: &Call) -> Row {
+        let mut work = state.clone();
+        let number = Second.answer(call, &mut work.disc, &mut work.area, &mut vec![0; call.room()]);
+        Row { name, state: state.clone(), call: call.clone(), number }
     }
 }
 
-/// Answers nothing, so that only the copying is timed.
-struct Nobody;
+/// Where the rows stand that [`print_parts`] speaks of.
+const TESTS: usize = 0;
+const TURN: usize = 1;
+const ROUND: usize = 4;
 
-impl Kernel for Nobody {
-    fn answer(&self, _: &Call, disc: &mut [u8], area: &mut [u8], _: &mut [u8]) -> i32 {
-        black_box((disc, area));
-        0
-    }
-}
-
-fn copying(calls: usize) -> String {
-    let state = State::zero();
-    spread((0..REPEATS).map(|_| sample(&Nobody, &state, &Call::FreeSpace, calls)).collect(), 0)
-}
-
-/// The calls and the full states they are made on.
-fn measured() -> Vec<(&'static str, State, Call)> {
+fn rows() -> Vec<Row> {
     let turn = Call::Turn { slot: 5, clock: 0, room: TURN_OUTPUT };
     let round = Call::Round { clock: 0, room: ROUND_OUTPUT };
+    let store = Call::Store { name: b"namediffer4".to_vec(), data: vec![7; 80] };
     let increment = full_state(&[INCREMENT], &[0, 5, 2]);
     let set = full_state(&[SET, b'b'], &[0, 5, 2]);
     let print = full_state(&[PRINT], &[66, 246, 230, 102, 4]);
-    let mut nine_files = increment.clone();
-    second::boot(&mut nine_files.area).expect("the length is right");
-    directory::remove(&mut nine_files.disc, 4);
-    let store = Call::Store { name: b"namediffer4".to_vec(), data: vec![7; 80] };
     vec![
-        ("turn, INCREMENT", increment.clone(), turn.clone()),
-        ("round, ten INCREMENTs", increment, round.clone()),
-        ("turn, SET", set.clone(), turn.clone()),
-        ("round, ten SETs", set, round.clone()),
-        ("turn, PRINT of FLOAT", print.clone(), turn),
-        ("round, ten PRINTs of FLOAT", print, round),
-        ("store, nine files there", nine_files, store),
+        Row::new("tests alone: turn of a paused slot, refused by 16", &paused(&increment), &turn),
+        Row::new("turn, INCREMENT", &increment, &turn),
+        Row::new("turn, SET", &set, &turn),
+        Row::new("turn, PRINT of FLOAT", &print, &turn),
+        Row::new("round, ten INCREMENTs", &increment, &round),
+        Row::new("round, ten SETs", &set, &round),
+        Row::new("round, ten PRINTs of FLOAT", &print, &round),
+        Row::new("store, nine files there", &nine_files(&increment), &store),
     ]
 }
 
@@ -91,35 +97,110 @@ fn full_state(code: &[u8], stack: &[u8]) -> State {
     state
 }
 
-/// Samples both kernels in turn and prints a row.
-fn measure(name: &str, state: &State, call: &Call, calls: usize) {
-    let mut first = Vec::new();
-    let mut second = Vec::new();
-    for _ in 0..REPEATS {
-        first.push(sample(&archive::Archive, state, call, calls));
-        second.push(sample(&Second, state, call, calls));
-    }
-    let ratios: Vec<f64> = first.iter().zip(&second).map(|(a, b)| a / b).collect();
-    println!("| {name} | {} | {} | {} |", spread(first, 0), spread(second, 0), spread(ratios, 2));
+/// The same with the process of slot 5 paused: a turn of it is refused after all tests, before anything is executed.
+fn paused(state: &State) -> State {
+    let mut state = state.clone();
+    second::suspend(&state.disc, &mut state.area, 6).expect("it runs");
+    state
 }
 
-/// Nanoseconds of processor time for one call, the copying included.
-fn sample(kernel: &dyn Kernel, state: &State, call: &Call, calls: usize) -> f64 {
-    let mut work = state.clone();
-    let mut output = vec![0; call.room()];
+/// The same without the fifth file, whose place the stored one takes; no process, since that one ran it.
+fn nine_files(state: &State) -> State {
+    let mut state = state.clone();
+    second::boot(&mut state.area).expect("the length is right");
+    directory::remove(&mut state.disc, 4);
+    state
+}
+
+/// Nanoseconds a call of the first and of the second kernel, a sample for each repeat.
+type Samples = [Vec<f64>; 2];
+
+const KERNELS: [(&str, &dyn Kernel); 2] = [("first", &archive::Archive), ("second", &Second)];
+
+struct Measured {
+    rows: Vec<Samples>,
+    restoring: Vec<f64>,
+}
+
+/// Every repeat samples every row of both kernels, so that a slower while of the machine falls on all of them.
+fn measure(rows: &[Row], calls: usize) -> Measured {
+    let mut measured = Measured { rows: rows.iter().map(|_| Samples::default()).collect(), restoring: Vec::new() };
+    for repeat in 0..REPEATS {
+        measured.restoring.push(sample(&Nobody(rows[TURN].number), &rows[TURN], calls));
+        for (row, samples) in rows.iter().zip(&mut measured.rows) {
+            for index in [repeat % 2, 1 - repeat % 2] {
+                samples[index].push(sample(KERNELS[index].1, row, calls));
+            }
+        }
+    }
+    measured
+}
+
+/// Answers a number and does nothing, so that only the restoring is timed.
+struct Nobody(i32);
+
+impl Kernel for Nobody {
+    fn answer(&self, _: &Call, disc: &mut [u8], area: &mut [u8], _: &mut [u8]) -> i32 {
+        black_box((disc, area));
+        self.0
+    }
+}
+
+/// Nanoseconds of processor time for one call; disc and work area are restored before each, the output is not.
+fn sample(kernel: &dyn Kernel, row: &Row, calls: usize) -> f64 {
+    let mut work = row.state.clone();
+    let mut output = vec![0; row.call.room()];
     let begin = cpu_clock::nanoseconds();
     for _ in 0..calls {
-        work.disc.copy_from_slice(&state.disc);
-        work.area.copy_from_slice(&state.area);
-        let number = kernel.answer(black_box(call), &mut work.disc, &mut work.area, &mut output);
-        assert!(black_box(number) >= 0, "a measured call was refused");
+        work.disc.copy_from_slice(&row.state.disc);
+        work.area.copy_from_slice(&row.state.area);
+        let number = kernel.answer(black_box(&row.call), &mut work.disc, &mut work.area, &mut output);
+        assert_eq!(black_box(number), row.number, "a measured call gave another number: {}", row.name);
     }
     (cpu_clock::nanoseconds() - begin) as f64 / calls as f64
 }
 
-/// "median (least to greatest)".
-fn spread(mut samples: Vec<f64>, decimals: usize) -> String {
+fn sorted(samples: &[f64]) -> Vec<f64> {
+    let mut samples = samples.to_vec();
     samples.sort_by(f64::total_cmp);
-    let (least, median, greatest) = (samples[0], samples[samples.len() / 2], samples[samples.len() - 1]);
-    format!("{median:.decimals$} ({least:.decimals$} to {greatest:.decimals$})")
+    samples
+}
+
+fn least(samples: &[f64]) -> f64 {
+    sorted(samples)[0]
+}
+
+fn median(samples: &[f64]) -> f64 {
+    sorted(samples)[samples.len() / 2]
+}
+
+fn print_row(name: &str, [first, second]: &Samples) {
+    let ratios = sorted(&first.iter().zip(second).map(|(a, b)| a / b).collect::<Vec<f64>>());
+    println!(
+        "| {name} | {:.0}, {:.0} | {:.0}, {:.0} | {:.2} ({:.2} to {:.2}) |",
+        least(first),
+        median(first),
+        least(second),
+        median(second),
+        median(&ratios),
+        ratios[0],
+        ratios[ratios.len() - 1]
+    );
+}
+
+/// What the restoring costs, what of a turn are its tests and how many turns a round is: medians over the repeats, each
+/// repeat by itself, so that a slower while falls on both sides.
+fn print_parts(measured: &Measured) {
+    let (restoring, typical) = (least(&measured.restoring), median(&measured.restoring));
+    println!("disc and work area are copied afresh before each call, the output is not");
+    println!("the copying, {restoring:.0}, {typical:.0}, is in every figure above and taken off below");
+    for (index, (kernel, _)) in KERNELS.iter().enumerate() {
+        let of = |row: usize, repeat: usize| measured.rows[row][index][repeat] - measured.restoring[repeat];
+        let over = |part: &dyn Fn(usize) -> f64| median(&(0..REPEATS).map(part).collect::<Vec<f64>>());
+        let [turn, tests, round] = [TURN, TESTS, ROUND].map(|row| over(&|repeat| of(row, repeat)));
+        let share = over(&|repeat| of(TESTS, repeat) / of(TURN, repeat));
+        let turns = over(&|repeat| of(ROUND, repeat) / of(TURN, repeat));
+        print!("{kernel}, median: turn at INCREMENT {turn:.0}, its tests {tests:.0} ({share:.2} of it); ");
+        println!("round of ten INCREMENTs {round:.0} ({turns:.2} turns)");
+    }
 }

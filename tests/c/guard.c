@@ -1,0 +1,431 @@
+/*
+ * A belt beside the proof: every function of the kernel on buffers of exact size beside pages that may not be touched.
+ * Calls with right and wrong lengths, done and refused, damaged buffers, turns of programs that use every instruction.
+ * Status 0: every test held. 1: one did not. A touch where none may be ends the program by SIGSEGV.
+ */
+#include "arduinos.h"
+#include "call.h"
+#include "programs.h"
+
+#include <stdio.h>
+#include <string.h>
+
+static struct state state;
+static uint8_t filler[ROOM];
+
+/* Where the disc and the work area are written directly, to make states that calls reach only after long. */
+enum { FILE_COUNT = 160, VARIABLE_COUNT = 406, NEXT_ID = 407, ZEROS = 409 };
+
+/* ---- Calls that must give a number ---- */
+
+static void expect(const struct call *call, int32_t number)
+{
+    int32_t given = call_guarded(call, &state);
+    if (given == number)
+        return;
+    tests_failed++;
+    printf("guard: call %lu, %s gave %ld and not %ld\n", calls_made, operations[call->operation].name, (long)given,
+           (long)number);
+}
+
+static void plain(enum operation operation, int32_t number)
+{
+    struct call call = call_of(operation);
+    expect(&call, number);
+}
+
+static void named(enum operation operation, const char *name, int32_t number)
+{
+    struct call call = call_of(operation);
+    call.name = (const uint8_t *)name;
+    call.name_length = strlen(name);
+    expect(&call, number);
+}
+
+static void store(const char *name, const uint8_t *data, size_t length, int32_t number)
+{
+    struct call call = call_of(STORE);
+    call.name = (const uint8_t *)name;
+    call.name_length = strlen(name);
+    call.data = data;
+    call.data_length = length;
+    expect(&call, number);
+}
+
+static void command(enum operation operation, uint32_t id, int32_t number)
+{
+    struct call call = call_of(operation);
+    call.id = id;
+    expect(&call, number);
+}
+
+static void turn(uint32_t slot, int32_t number)
+{
+    struct call call = call_of(TURN);
+    call.slot = slot;
+    expect(&call, number);
+}
+
+/* An operation lent exactly the output it needs, and then less. */
+static void output_of(enum operation operation, const char *name, size_t needed, int32_t number)
+{
+    struct call call = call_of(operation);
+    call.name = (const uint8_t *)name;
+    call.name_length = strlen(name);
+    call.out_length = needed;
+    expect(&call, number);
+    if (needed == 0)
+        return;
+    call.out_length = needed - 1;
+    expect(&call, ARDUINOS_SHORT_OUTPUT);
+    call.out_length = 0;
+    expect(&call, ARDUINOS_SHORT_OUTPUT);
+}
+
+static const uint8_t *record(uint32_t slot)
+{
+    return state.area + ARDUINOS_RECORD(slot);
+}
+
+static void set_next_id(unsigned id)
+{
+    state.area[NEXT_ID] = (uint8_t)(id % 256);
+    state.area[NEXT_ID + 1] = (uint8_t)(id / 256);
+}
+
+/* ---- Refusals 1 to 3, of every operation ---- */
+
+static void wrong_lengths(void)
+{
+    static const size_t lengths[] = { 0, 1, 160, 1023, 1024, 1025, 1055, 1056, 1057, ROOM };
+    enum { COUNT = sizeof lengths / sizeof lengths[0] };
+
+    plain(FORMAT, 0);
+    for (int i = 0; i < OPERATION_COUNT * COUNT * COUNT; i++) {
+        struct call call = call_of((enum operation)(i / (COUNT * COUNT)));
+        unsigned lent = operations[call.operation].lent;
+        call.disc_length = lengths[i / COUNT % COUNT];
+        call.area_length = lengths[i % COUNT];
+        if ((lent & DISC && call.disc_length != ARDUINOS_DISC_SIZE) ||
+            (lent & AREA && call.area_length != ARDUINOS_AREA_SIZE))
+            expect(&call, ARDUINOS_WRONG_LENGTH);
+    }
+}
+
+static void bad_buffers(void)
+{
+    plain(FORMAT, 0);
+    for (int i = 0; i < OPERATION_COUNT; i++) {
+        enum operation operation = (enum operation)i;
+        unsigned lent = operations[i].lent;
+        struct state good = state;
+        if (operation == FORMAT || operation == BOOT)
+            continue;
+        state.area[ZEROS] = 1;
+        if (lent & AREA)
+            plain(operation, ARDUINOS_BAD_AREA);
+        state.disc[FILE_COUNT] = ARDUINOS_MAX_FILES + 1;
+        plain(operation, ARDUINOS_BAD_DISC);
+        state = good;
+    }
+    memset(state.disc, 0xFF, ARDUINOS_DISC_SIZE);
+    plain(FREE_SPACE, ARDUINOS_BAD_DISC);
+    plain(FORMAT, 0);
+}
+
+/* ---- The limits that the header names ---- */
+
+static void names_and_sizes(void)
+{
+    plain(FORMAT, 0);
+    output_of(FILES, "", 0, 0);
+    output_of(LIST, "", 0, 0);
+    store("", filler, 1, ARDUINOS_BAD_NAME);
+    store("twelve_bytes", filler, 1, ARDUINOS_BAD_NAME);
+    store("a b", filler, 1, ARDUINOS_BAD_NAME);
+    store("\x7f", filler, 1, ARDUINOS_BAD_NAME);
+    store("p", filler, 0, ARDUINOS_BAD_SIZE);
+    store("p", filler, ARDUINOS_MAX_DATA + 1, ARDUINOS_BAD_SIZE);
+    store("eleven_byte", filler, ARDUINOS_MAX_DATA, 0);
+    plain(FREE_SPACE, 0);
+    store("p", filler, 1, ARDUINOS_NO_SPACE);
+    store("eleven_byte", filler, 1, ARDUINOS_NAME_EXISTS);
+    output_of(RETRIEVE, "eleven_byte", ARDUINOS_MAX_DATA, ARDUINOS_MAX_DATA);
+    if (memcmp(state.out, filler, ARDUINOS_MAX_DATA) != 0)
+        fail("retrieve gave other bytes than were stored");
+    named(RETRIEVE, "p", ARDUINOS_NO_SUCH_FILE);
+    named(RETRIEVE, "", ARDUINOS_NO_SUCH_FILE);
+    named(ERASE, "", ARDUINOS_NO_SUCH_FILE);
+    named(ERASE, "eleven_bytes", ARDUINOS_NO_SUCH_FILE);
+    named(ERASE, "eleven_byte", 0);
+    plain(FREE_SPACE, ARDUINOS_MAX_DATA);
+}
+
+/* Ten files with the longest lines that 863 bytes allow: eight of three digits, two of two. */
+static void ten_files(void)
+{
+    plain(FORMAT, 0);
+    for (int i = 0; i < ARDUINOS_MAX_FILES; i++) {
+        char name[] = "namediffer0";
+        name[ARDUINOS_MAX_NAME - 1] = (char)('0' + i);
+        store(name, filler, i < 8 ? 100 : 30, 0);
+    }
+    store("p", filler, 1, ARDUINOS_DIRECTORY_FULL);
+    output_of(FILES, "", 8 * 16 + 2 * 15, 8 * 16 + 2 * 15);
+    named(ERASE, "namediffer4", 0);
+    plain(FREE_SPACE, 100);
+    store("p", filler, 101, ARDUINOS_NO_SPACE);
+    store("p", filler, 100, 0);
+}
+
+static void processes(void)
+{
+    set_next_id(20000);
+    for (int i = 0; i < ARDUINOS_MAX_PROCESSES; i++)
+        named(RUN, "namediffer9", 20000 + i);
+    named(RUN, "missing", ARDUINOS_NO_SLOT);
+    output_of(LIST, "", ARDUINOS_LIST_OUTPUT, ARDUINOS_LIST_OUTPUT);
+    named(ERASE, "namediffer9", ARDUINOS_FILE_IN_USE);
+    command(SUSPEND, 20009, 0);
+    command(SUSPEND, 20009, ARDUINOS_ALREADY_IN_STATE);
+    turn(9, ARDUINOS_NOT_RUNNING);
+    command(RESUME, 20009, 0);
+    command(RESUME, 20009, ARDUINOS_ALREADY_IN_STATE);
+    turn(10, ARDUINOS_NOT_RUNNING);
+    turn(UINT32_MAX, ARDUINOS_NOT_RUNNING);
+    command(KILL, 20009, 0);
+    for (int i = SUSPEND; i <= KILL; i++) {
+        command((enum operation)i, 20009, ARDUINOS_NO_SUCH_PROCESS);
+        command((enum operation)i, 20000 + 65536, ARDUINOS_NO_SUCH_PROCESS);
+        command((enum operation)i, UINT32_MAX, ARDUINOS_NO_SUCH_PROCESS);
+    }
+    named(RUN, "", ARDUINOS_NO_SUCH_FILE);
+    named(RUN, "missing", ARDUINOS_NO_SUCH_FILE);
+    set_next_id(ARDUINOS_MAX_ID);
+    named(RUN, "namediffer9", ARDUINOS_MAX_ID);
+    command(KILL, ARDUINOS_MAX_ID, 0);
+    named(RUN, "namediffer9", ARDUINOS_NO_ID);
+    plain(BOOT, 0);
+    named(ERASE, "namediffer9", 0);
+}
+
+/* ---- Programs ---- */
+
+/* The program as the disc's first bytes, in slot 0; a file that it opens then fills the disc's last bytes. */
+static uint32_t at_first_place(const struct program *program)
+{
+    plain(FORMAT, 0);
+    store("p", program->bytes, program->length, 0);
+    store("rest", filler, ARDUINOS_MAX_DATA - LOG_SIZE - program->length, 0);
+    named(RUN, "p", 1);
+    return 0;
+}
+
+/* The program as the disc's last bytes, in slot 9, whose stack ends the work area. */
+static uint32_t at_last_place(const uint8_t *bytes, size_t length)
+{
+    plain(FORMAT, 0);
+    store("hole", filler, LOG_SIZE, 0);
+    store("rest", filler, ARDUINOS_MAX_DATA - LOG_SIZE - length, 0);
+    store("p", bytes, length, 0);
+    named(ERASE, "hole", 0);
+    for (int i = 1; i < ARDUINOS_MAX_PROCESSES; i++)
+        named(RUN, "rest", i);
+    named(RUN, "p", ARDUINOS_MAX_PROCESSES);
+    return ARDUINOS_MAX_PROCESSES - 1;
+}
+
+/* Turns of a slot until its process ends, the clock 10 ms on at each; what it printed is joined in text. */
+static void turns(uint32_t slot, int most, char *text, size_t room)
+{
+    size_t length = 0;
+    for (int i = 0; i < most && record(slot)[ARDUINOS_RECORD_STATE] == ARDUINOS_STATE_RUNNING; i++) {
+        struct call call = call_of(TURN);
+        call.slot = slot;
+        call.clock = (uint32_t)i * 10;
+        int32_t printed = call_guarded(&call, &state);
+        if (printed < 0)
+            fail("a turn of a running process was refused");
+        else if (length + (size_t)printed < room) {
+            memcpy(text + length, state.out, (size_t)printed);
+            length += (size_t)printed;
+        }
+    }
+    text[length] = 0;
+}
+
+static void run_program(const struct program *program, uint32_t slot)
+{
+    char text[200];
+    turns(slot, 200, text, sizeof text);
+    if (record(slot)[ARDUINOS_RECORD_STATE] == ARDUINOS_STATE_ENDED &&
+        record(slot)[ARDUINOS_RECORD_FAULT] == program->fault && strcmp(text, program->prints) == 0)
+        return;
+    tests_failed++;
+    printf("guard: program %s in slot %lu: state %d, fault %d and not %d, printed \"%s\"\n", program->what,
+           (unsigned long)slot, record(slot)[ARDUINOS_RECORD_STATE], record(slot)[ARDUINOS_RECORD_FAULT],
+           program->fault, text);
+}
+
+static void all_programs(void)
+{
+    for (size_t i = 0; i < program_count; i++) {
+        run_program(&programs[i], at_first_place(&programs[i]));
+        run_program(&programs[i], at_last_place(programs[i].bytes, programs[i].length));
+    }
+}
+
+/* Every byte as an instruction that ends the disc, with none, one or two argument bytes, on several stacks. */
+static void every_instruction(void)
+{
+    char text[400];
+    for (size_t i = 0; i < prefix_count; i++) {
+        for (size_t arguments = 0; arguments <= 2; arguments++) {
+            uint8_t code[LONGEST_PREFIX + 3] = { 0 };
+            size_t length = prefixes[i].length + 1 + arguments;
+            memcpy(code, prefixes[i].bytes, prefixes[i].length);
+            uint32_t slot = at_last_place(code, length);
+            struct state started = state;
+
+            for (int byte = 0; byte < 256; byte++) {
+                code[length - arguments - 1] = (uint8_t)byte;
+                state = started;
+                memcpy(state.disc + ARDUINOS_DISC_SIZE - length, code, length);
+                turns(slot, 8, text, sizeof text);
+            }
+        }
+    }
+}
+
+/* Rounds until nothing lives; returns what was printed as a text. */
+static const char *rounds(int most)
+{
+    static char text[ARDUINOS_ROUND_OUTPUT + 1];
+    size_t length = 0;
+    struct call call = call_of(LIST);
+    for (int i = 0; i < most && call_guarded(&call, &state) > 0; i++) {
+        struct call round = call_of(ROUND);
+        int32_t printed = call_guarded(&round, &state);
+        if (printed > 0 && length + (size_t)printed < sizeof text) {
+            memcpy(text + length, state.out, (size_t)printed);
+            length += (size_t)printed;
+        }
+    }
+    text[length] = 0;
+    return text;
+}
+
+static void several_processes(void)
+{
+    plain(FORMAT, 0);
+    store("letters", letters.bytes, letters.length, 0);
+    for (int i = 1; i <= ARDUINOS_MAX_PROCESSES; i++)
+        named(RUN, "letters", i);
+    output_of(ROUND, "", ARDUINOS_ROUND_OUTPUT, 0);
+    output_of(ROUND, "", ARDUINOS_ROUND_OUTPUT, ARDUINOS_MAX_PROCESSES * (int32_t)strlen(letters.prints));
+    output_of(TURN, "", ARDUINOS_TURN_OUTPUT, 0);
+    plain(ROUND, 0);
+    plain(ROUND, 0);
+
+    store("parent", parent.bytes, parent.length, 0);
+    store("child", child.bytes, child.length, 0);
+    named(RUN, "parent", 11);
+    if (strcmp(rounds(50), parent.prints) != 0)
+        fail("the parent and its child printed something else");
+}
+
+/* ---- Damaged buffers ---- */
+
+/* Always the same numbers. */
+static uint32_t chosen(uint32_t below)
+{
+    static uint32_t seed = 1;
+    seed = seed * 1664525u + 1013904223u;
+    return (seed >> 8) % below;
+}
+
+/* Ten files, ten live processes, 25 variables, some open files. */
+static void full_state(void)
+{
+    static const uint8_t code[] = {
+        1, 1, 5, 'a', 1, 2, 5, 'b', 1, 3, 5, 'c',                                 /* CHAR, SET: three variables */
+        3, 'n', 'a', 'm', 'e', 'd', 'i', 'f', 'f', 'e', 'r', '9', 0, 1, 1, 53,   /* STRING, CHAR, OPEN */
+        65, 1, 'x', 51, 66                                                       /* LOOP, CHAR, PRINT, ENDLOOP */
+    };
+    char name[] = "namediffer0", text[400];
+    char *digit = &name[ARDUINOS_MAX_NAME - 1];
+    plain(FORMAT, 0);
+    for (*digit = '0'; *digit <= '9'; ++*digit)
+        store(name, code, sizeof code, 0);
+    for (int i = 0; i < ARDUINOS_MAX_PROCESSES; i++) {
+        *digit = (char)('0' + i);
+        named(RUN, name, i + 1);
+        turns((uint32_t)i, i < 5 ? 9 + i : 4, text, sizeof text);
+    }
+    if (state.area[VARIABLE_COUNT] != ARDUINOS_MAX_VARIABLES)
+        fail("the state is not full");
+}
+
+static struct call any_call(void)
+{
+    struct call call = call_of((enum operation)chosen(OPERATION_COUNT));
+    call.name = (const uint8_t *)"namediffer5";
+    call.name_length = chosen(2) ? ARDUINOS_MAX_NAME : chosen(ARDUINOS_MAX_NAME);
+    call.data = filler;
+    call.data_length = chosen(100);
+    call.id = chosen(12);
+    call.slot = chosen(11);
+    return call;
+}
+
+/* Each byte of the directory and of the work area changed alone, then a few changed together. */
+static void damage(void)
+{
+    full_state();
+    struct state good = state;
+    for (size_t i = 0; i <= FILE_COUNT + ARDUINOS_AREA_SIZE; i++) {
+        static const uint8_t flips[] = { 1, 128, 255 };
+        for (size_t k = 0; k < sizeof flips; k++) {
+            struct call call = call_of(TURN);
+            call.slot = 9;
+            state = good;
+            *(i <= FILE_COUNT ? &state.disc[i] : &state.area[i - FILE_COUNT - 1]) ^= flips[k];
+            call_guarded(&call, &state);
+        }
+    }
+    for (int i = 0; i < 3000; i++) {
+        struct call call = any_call();
+        state = good;
+        for (uint32_t k = chosen(4); k > 0; k--) {
+            state.disc[chosen(FILE_COUNT + 1)] = (uint8_t)chosen(256);
+            state.area[chosen(ARDUINOS_AREA_SIZE)] = (uint8_t)chosen(256);
+        }
+        call_guarded(&call, &state);
+    }
+}
+
+static void all_calls(void)
+{
+    for (size_t i = 0; i < sizeof filler; i++)
+        filler[i] = (uint8_t)(i % 251 + 1);
+    memset(state.out, 0xEE, sizeof state.out);
+    wrong_lengths();
+    bad_buffers();
+    names_and_sizes();
+    ten_files();
+    processes();
+    all_programs();
+    every_instruction();
+    several_processes();
+    damage();
+    test_reached();
+}
+
+int main(void)
+{
+    setvbuf(stdout, NULL, _IOLBF, BUFSIZ);
+    prepare_guard();
+    all_calls();
+    printf("guard: %lu calls, %lu tests failed\n", calls_made, tests_failed);
+    return tests_failed != 0;
+}
