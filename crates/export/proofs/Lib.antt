@@ -1,0 +1,2 @@
+-- document 01's number for an answer
+pub mod Numbered

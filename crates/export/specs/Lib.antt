@@ -1,0 +1,2 @@
+-- what C gets back
+pub mod Returned
