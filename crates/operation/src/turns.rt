@@ -8,7 +8,7 @@ use machine::limits::SLOT_COUNT;
 use machine::limits::TURN_ROOM;
 use turn::round::is_running;
 use turn::round::take_turns;
-use turn::take::take_turn;
+use turn::take::turn_slot;
 ghost use mathlib.Core.Path.{_≡_};
 ghost use Rattle.machine.specs.Answer.{answer, round, turn};
 ghost use Rattle.operation.specs.Answers.{answered, lent};
@@ -32,7 +32,7 @@ pub fn turn(disc: &mut [u8], area: &mut [u8], slot: u32, clock: u32, out: &mut [
     if !is_running(area, at) {
         return Answer::Refused(Refusal::NotRunning);
     }
-    Answer::Done(take_turn(disc, area, at, clock, out) as u16)
+    Answer::Done(turn_slot(disc, area, at, clock, out) as u16)
 }
 
 // Document 01, Round: "needs 320 bytes". It tests goodness once, and returns the number of all bytes printed.

@@ -2,6 +2,7 @@
 use crate::take::take_turn;
 use area::records::RUNNING;
 use area::records::STATE_AT;
+use area::records::process_at;
 use area::records::record_at;
 use machine::limits::SLOT_COUNT;
 ghost use mathlib.Core.Path.{_≡_};
@@ -34,8 +35,9 @@ fn turn_if_running(
     ensures { λ r. ⌜ turnLeft r (now (disc .exit)) (now (area .exit)) (now (out .exit))
         ≡ turnLeftBy (turnIfRunning (kernelOf (now (area .entry))) slot clock (now (disc .entry))) (now (out .entry)) ⌝ }
 {
-    if is_running(area, slot) {
-        return take_turn(disc, area, slot, clock, out);
+    let p = process_at(area, slot);
+    if p.state == RUNNING {
+        return take_turn(disc, area, slot, p, clock, out);
     }
     0
 }

@@ -69,7 +69,27 @@ fn print(d: Step, out: &mut [u8]) -> usize
 }
 
 // Document 01: "Turn, one instruction of one slot [..] Returns the bytes printed; the rest of the output is untouched."
-pub fn take_turn(disc: &mut [u8], area: &mut [u8], slot: usize, clock: u32, out: &mut [u8]) -> usize
+// The process is the one of that slot, copied out.
+pub fn take_turn(
+    disc: &mut [u8],
+    area: &mut [u8],
+    slot: usize,
+    p: Process,
+    clock: u32,
+    out: &mut [u8],
+) -> usize
+    requires { ⌜ Passes (now disc) (now area) × (slot < slotCount) × (turnRoom ≤ length (now out))
+        × (p ≡ processAt (kernelOf (now area)) slot) × (isRunning p ≡ true) ⌝ }
+    ensures { λ r. ⌜ turnLeft r (now (disc .exit)) (now (area .exit)) (now (out .exit))
+        ≡ turnLeftBy (turned (kernelOf (now (area .entry))) slot clock (now (disc .entry))) (now (out .entry)) ⌝ }
+{
+    let d = next_step(disc, area, p, clock);
+    carry_out(disc, area, slot, p, d);
+    print(d, out)
+}
+
+// One of the ten processes.
+pub fn turn_slot(disc: &mut [u8], area: &mut [u8], slot: usize, clock: u32, out: &mut [u8]) -> usize
     requires { ⌜ Passes (now disc) (now area) × (slot < slotCount) × (turnRoom ≤ length (now out))
         × (isRunning (processAt (kernelOf (now area)) slot) ≡ true) ⌝ }
     ensures { λ r. ⌜ turnLeft r (now (disc .exit)) (now (area .exit)) (now (out .exit))
@@ -77,7 +97,5 @@ pub fn take_turn(disc: &mut [u8], area: &mut [u8], slot: usize, clock: u32, out:
 {
     let processes = processes_of(area);
     let p = processes[slot];
-    let d = next_step(disc, area, p, clock);
-    carry_out(disc, area, slot, p, d);
-    print(d, out)
+    take_turn(disc, area, slot, p, clock, out)
 }

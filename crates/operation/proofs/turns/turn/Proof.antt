@@ -38,10 +38,10 @@ begun c = tested (c .before .before)
 abbrev asked : tie.After-is-running → tie.Else2
 asked c = c .before .before
 
-abbrev taken : tie.After-slice-known6 → tie.After-take-turn
+abbrev taken : tie.After-slice-known6 → tie.After-turn-slot
 taken c = let lent = c .before .before .before in lent .before .before .before
 
-abbrev runs : tie.After-take-turn → tie.Else3
+abbrev runs : tie.After-turn-slot → tie.Else3
 runs c = c .before .before .before .before
 
 passes : (c : tie.After-enum-told) → let a = tested c .args in Passes (a .disc .now) (a .area .now)
@@ -92,7 +92,7 @@ cast-done c =
     let t = taken c in
     let r = runs t in
     let a = begun (asked (r .before)) .args in
-    let size = ap (λ (l : TurnLeft). l .count) (t .take-turn .ensures) in
+    let size = ap (λ (l : TurnLeft). l .count) (t .turn-slot .ensures) in
     omega (arith, prints-little (lent (a .disc .now) (a .area .now) (a .out .now)) (a .slot) (a .clock) (may-turn r))
 
 returns-5 : tie.Need-returns-5
@@ -102,7 +102,7 @@ returns-5 c =
     let two = asked (r .before) in
     let one = two .before in
     let a = begun two .args in
-    let left = t .take-turn .ensures in
+    let left = t .turn-slot .ensures in
     (λ i. answered (Done (left i .count)) (left i .disc) (left i .area) (left i .out))
     ∙ sym (turn-running (lent (a .disc .now) (a .area .now) (a .out .now)) (a .slot) (a .clock) (passes (one .before)) (room one) (low two)
     (running r))
