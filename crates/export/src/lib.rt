@@ -1,5 +1,6 @@
 // The C boundary. Document 01: "The box firmware, in C, calls each operation with numbers and byte buffers." Each
-// function is one equation with the machine's answer, for every buffer of every length; include/arduinos.h declares them.
+// function is one equation with the machine's answer, for every buffer of every length; include/arduinos.h declares
+// them.
 ghost use mathlib.Core.List.{List};
 ghost use mathlib.Core.Path.{_≡_};
 ghost use Prim.Native.Nat.{ℕ};

@@ -110,7 +110,8 @@ module _ (disc area : List ℕ) (passes : Passes disc area) where
       kept-size : length (take (d .kept) (stackOf p)) ≡ d .kept
       kept-size = length-take-le (d .kept) (stackOf p) (means .kept)
 
-      bounded : (a : Action) → Sound (programOf disc p) (localOf p) (effectBy a (stackOf p) (about d) (keeping (stackOf p) d)) → Bounds a p d
+      bounded : (a : Action) → Sound (programOf disc p) (localOf p) (effectBy a (stackOf p) (about d) (keeping (stackOf p) d))
+          → Bounds a p d
       unfolding Sound Asked
       bounded Push s = omega (arith, s .0 .stack, length-append (take (d .kept) (stackOf p)) (about d), kept-size, bytes-size)
       bounded Print s = tt

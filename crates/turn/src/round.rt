@@ -33,7 +33,8 @@ fn turn_if_running(
 ) -> usize
     requires { ⌜ Passes (now disc) (now area) × (slot < slotCount) × (turnRoom ≤ length (now out)) ⌝ }
     ensures { λ r. ⌜ turnLeft r (now (disc .exit)) (now (area .exit)) (now (out .exit))
-        ≡ turnLeftBy (turnIfRunning (kernelOf (now (area .entry))) slot clock (now (disc .entry))) (now (out .entry)) ⌝ }
+        ≡ turnLeftBy (turnIfRunning (kernelOf (now (area .entry))) slot clock (now (disc .entry)))
+        (now (out .entry)) ⌝ }
 {
     let p = process_at(area, slot);
     if p.state == RUNNING {

@@ -84,7 +84,8 @@ returns-4 c =
     let two = asked (c .before) in
     let one = two .before in
     let a = begun two .args in
-    sym (turn-not-running (lent (a .disc .now) (a .area .now) (a .out .now)) (a .slot) (a .clock) (passes (one .before)) (room one) (low two)
+    sym (turn-not-running (lent (a .disc .now) (a .area .now) (a .out .now)) (a .slot) (a .clock) (passes (one .before)) (room one)
+    (low two)
     (sym (c .before .is-running .ensures) ∙ not-true _ (c .if3 .taken)))
 
 cast-done : tie.Need-cast-t27

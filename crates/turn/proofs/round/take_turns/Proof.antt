@@ -84,7 +84,8 @@ loop-again c =
     going-next _ _ _ _ _ _ _ _ _ (l .loop .inv) low (turned .turn-if-running .result) (turned .turn-if-running .last .0)
     (turned .turn-if-running .last .1 .0) part _ _ (turned .turn-if-running .ensures)
     (take-all (length out - printed) (drop printed out) (simp length-drop (omega arith)))
-    (ap (λ (r : List ℕ). take printed out ++ (part ++ r)) (post-is printed (length out) out (omega arith) ∙ drop-of-length-le out {i = length out} (omega arith))
+    (ap (λ (r : List ℕ). take printed out ++ (part ++ r))
+    (post-is printed (length out) out (omega arith) ∙ drop-of-length-le out {i = length out} (omega arith))
     ∙ ap (λ (r : List ℕ). take printed out ++ r) (append-nil part))
 
 area-long : tie.Need-same-length-2 Inv-loop μ-loop

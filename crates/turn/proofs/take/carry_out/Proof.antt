@@ -44,7 +44,8 @@ module _ (s : tie.Start) where
   effect a = effectBy a (stackOf p) (about (s .args .d)) (keeping (stackOf p) (s .args .d))
 
   -- the step's effect is that of the action it is told to be
-  done-as : {a : Action} {after : Left} → s .args .d .action ≡ a → after ≡ does (effect a) → after ≡ does (effectOf (stackOf p) (s .args .d))
+  done-as : {a : Action} {after : Left} → s .args .d .action ≡ a → after ≡ does (effect a)
+      → after ≡ does (effectOf (stackOf p) (s .args .d))
   done-as told h = h ∙ ap (λ (a : Action). does (effect a)) (sym told)
 
   bounds : {a : Action} → s .args .d .action ≡ a → Bounds a p (s .args .d)
