@@ -7,8 +7,8 @@ store_vectors takes the lines of store, retrieve, files and free (free space). B
   data/vectors   for each vector a letter (s, r, f, u), then disc, name, data and output as lent, each as its length (two bytes, low byte first) and its bytes
   stdout         for each vector its letter, the number, and checksums of disc and output after the call
 operation_vectors takes all others. Below crates/operation_vectors:
-  data/vectors   for each vector a letter, the name (its length in one byte, and its bytes), two numbers of four bytes (ID or slot; clock), then disc, area
-                 and output as lent, each as its length in two bytes and what differs from the vector before: how many bytes stay, how many are new, these
+  data/vectors   for each vector a letter, two numbers of four bytes (ID or slot; clock), then name, disc, area and output as lent, each as its length in two
+                 bytes and what differs from the vector before (a name from zeros): how many bytes stay, how many are new, these
   stdout         for each vector its letter, the number, and checksums of disc, area and output after the call
 It knows nothing of what the operations do: number and changes are those of the vector.
 """
@@ -92,8 +92,8 @@ def on_both(words, arrow, kept):
     numbers = (numbers + [0, 0])[:2]
     number, *runs = words[arrow + 1 :]
     letter = ON_BOTH[words[0]]
-    record = letter.encode() + bytes([len(name)]) + name + b"".join(n.to_bytes(4, "little") for n in numbers)
-    record += b"".join(k.differences(data) for k, data in zip(kept, lent))
+    record = letter.encode() + b"".join(n.to_bytes(4, "little") for n in numbers)
+    record += b"".join(k.differences(data) for k, data in zip([Kept()] + kept, [name] + lent))
     after = [checksum(changed(data, run)) for data, run in zip(lent, runs)]
     return record, "%s %s %08x %08x %08x\n" % (letter, number, *after)
 

@@ -10,20 +10,20 @@ use store::layout::ENTRY_SIZE;
 fn refused_store(label: &[u8], disc: [u8; DISC_LENGTH], name: &[u8], data: &[u8]) {
     let mut after = disc;
     let number = discs::store(&mut after, name, data);
-    print::kept_line(label, number, &disc, &after);
+    printing::kept_line(label, number, &disc, &after);
 }
 
 // A retrieve into 14 bytes that must leave them as they were.
 fn refused_retrieve(label: &[u8], disc: [u8; DISC_LENGTH], name: &[u8]) {
     let mut out = [b'.'; 14];
     let number = discs::retrieve(&disc, name, &mut out);
-    print::kept_line(label, number, &[b'.'; 14], &out);
+    printing::kept_line(label, number, &[b'.'; 14], &out);
 }
 
 // Document 01: "863 bytes store on an empty disc, 864 give 6"
 pub fn sizes() {
     let mut disc = [0u8; DISC_LENGTH];
-    print::line(
+    printing::line(
         b"store 863 bytes",
         discs::store(&mut disc, b"all", &[1u8; 863]),
     );
@@ -35,15 +35,15 @@ pub fn sizes() {
 pub fn lowest_start() {
     let disc = discs::with_gap();
     let equal = discs::with(disc, b"equal", &[4u8; 100]);
-    print::line(b"start of 100 bytes", discs::start_of(equal, 2));
+    printing::line(b"start of 100 bytes", discs::start_of(equal, 2));
     let longer = discs::with(disc, b"longer", &[4u8; 101]);
-    print::line(b"start of 101 bytes", discs::start_of(longer, 2));
+    printing::line(b"start of 101 bytes", discs::start_of(longer, 2));
 }
 
 // Document 01: "8 ten files already, 7 name exists", in that order
 pub fn ten_files() {
     let mut disc = discs::with_files(9);
-    print::line(
+    printing::line(
         b"store the tenth file",
         discs::store(&mut disc, b"j", b"10"),
     );
@@ -70,27 +70,27 @@ pub fn refused_stores() {
 // Document 01: "1: a buffer has the wrong length."
 pub fn wrong_lengths() {
     let mut short = [0u8; 1023];
-    print::kept_line(
+    printing::kept_line(
         b"store on 1023 bytes",
         discs::store(&mut short, b"a", b"1"),
         &[0u8; 1023],
         &short,
     );
     let mut out = [b'.'; 14];
-    print::kept_line(
+    printing::kept_line(
         b"retrieve on 1023 bytes",
         discs::retrieve(&[0u8; 1023], b"a", &mut out),
         &[b'.'; 14],
         &out,
     );
     let mut text = [b'.'; 14];
-    print::kept_line(
+    printing::kept_line(
         b"files on 1025 bytes",
         discs::files(&[0u8; 1025], &mut text),
         &[b'.'; 14],
         &text,
     );
-    print::line(b"free space on 1025 bytes", discs::free_space(&[0u8; 1025]));
+    printing::line(b"free space on 1025 bytes", discs::free_space(&[0u8; 1025]));
 }
 
 // Document 01: "2: disc not good." One that counts eleven files is not.
@@ -100,13 +100,13 @@ pub fn damaged_disc() {
     refused_store(b"store on a damaged disc", disc, b"a", b"1");
     refused_retrieve(b"retrieve on a damaged disc", disc, b"one");
     let mut text = [b'.'; 14];
-    print::kept_line(
+    printing::kept_line(
         b"files on a damaged disc",
         discs::files(&disc, &mut text),
         &[b'.'; 14],
         &text,
     );
-    print::line(b"free space on a damaged disc", discs::free_space(&disc));
+    printing::line(b"free space on a damaged disc", discs::free_space(&disc));
 }
 
 // Document 01: "a line per file, name, space, length, newline; returns the bytes written". The rest of the output
@@ -114,19 +114,19 @@ pub fn damaged_disc() {
 pub fn files_text() {
     let disc = discs::with(discs::with_gap(), b"eleven.byte", b"11");
     let mut out = [b'.'; 34];
-    print::line(b"files into 34 bytes", discs::files(&disc, &mut out));
+    printing::line(b"files into 34 bytes", discs::files(&disc, &mut out));
     printing::text(&out);
     printing::text(b"\n");
     let mut exact = [b'.'; 32];
-    print::line(b"files into 32 bytes", discs::files(&disc, &mut exact));
+    printing::line(b"files into 32 bytes", discs::files(&disc, &mut exact));
     let mut short = [b'.'; 31];
-    print::kept_line(
+    printing::kept_line(
         b"files into 31 bytes",
         discs::files(&disc, &mut short),
         &[b'.'; 31],
         &short,
     );
-    print::line(
+    printing::line(
         b"files of an empty disc into no bytes",
         discs::files(&[0u8; DISC_LENGTH], &mut []),
     );
@@ -136,7 +136,7 @@ pub fn files_text() {
 pub fn retrieved() {
     let disc = discs::with(discs::with_gap(), b"note", b"Hoist the jib.\n");
     let mut out = [b'.'; 17];
-    print::line(
+    printing::line(
         b"retrieve 15 bytes into 17",
         discs::retrieve(&disc, b"note", &mut out),
     );
@@ -144,7 +144,7 @@ pub fn retrieved() {
     printing::text(b"\n");
     refused_retrieve(b"retrieve 15 bytes into 14", disc, b"note");
     refused_retrieve(b"retrieve no such file into 14", disc, b"notes");
-    print::line(
+    printing::line(
         b"retrieve no such file into none",
         discs::retrieve(&disc, b"notes", &mut []),
     );
@@ -152,20 +152,20 @@ pub fn retrieved() {
 
 // Document 01: "Free space: the longest free run, however many files there are."
 pub fn free_space() {
-    print::line(
+    printing::line(
         b"free space of an empty disc",
         discs::free_space(&[0u8; DISC_LENGTH]),
     );
     let low = discs::with([0u8; DISC_LENGTH], b"low", &[1u8; 300]);
     let middle = discs::with(low, b"middle", &[2u8; 400]);
-    print::line(b"free space above two files", discs::free_space(&middle));
+    printing::line(b"free space above two files", discs::free_space(&middle));
     let full = discs::with(middle, b"high", &[3u8; 163]);
-    print::line(b"free space of a full disc", discs::free_space(&full));
-    print::line(
+    printing::line(b"free space of a full disc", discs::free_space(&full));
+    printing::line(
         b"free space between two files",
         discs::free_space(&discs::without(full, b"middle")),
     );
-    print::line(
+    printing::line(
         b"free space beside ten files",
         discs::free_space(&discs::with_files(10)),
     );

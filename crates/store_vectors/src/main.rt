@@ -1,5 +1,5 @@
 // Runs the outside vectors, calls and answers of another implementation, from data/vectors, and prints what comes out.
-// tools/disc_vectors/generate.py writes that file, and the file stdout that the gate compares with.
+// tools/vectors/generate.py writes that file, and the file stdout that the gate compares with.
 use store::Answer;
 ghost use Rattle.io.specs.Counts.{Counts};
 
@@ -17,17 +17,6 @@ fn read_part(fd: i32, buf: &mut [u8]) -> usize
     io::read_full(fd, &mut buf[..len])
 }
 
-// Differs for buffers that differ in one byte or in their length.
-fn checksum(bytes: &[u8]) -> u64 {
-    let mut sum: u64 = 1;
-    let mut i: usize = 0;
-    while i < bytes.len() {
-        sum = (sum * 257 + bytes[i] as u64) % 4294967291;
-        i += 1;
-    }
-    sum
-}
-
 // The operation of a vector, told by its first letter; free space has 'u', for unused.
 fn perform(operation: u8, disc: &mut [u8], name: &[u8], bytes: &[u8], out: &mut [u8]) -> Answer {
     match operation {
@@ -43,10 +32,8 @@ fn run(operation: u8, disc: &mut [u8], name: &[u8], bytes: &[u8], out: &mut [u8]
     let answer = perform(operation, disc, name, bytes, out);
     printing::text(&[operation, b' ']);
     printing::number(store::numbers::number(answer));
-    printing::text(b" ");
-    printing::hex(checksum(disc));
-    printing::text(b" ");
-    printing::hex(checksum(out));
+    printing::checksum(disc);
+    printing::checksum(out);
     printing::text(b"\n");
 }
 

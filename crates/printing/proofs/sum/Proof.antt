@@ -1,9 +1,9 @@
--- `store_vectors::checksum` is safe and ends: the sum stays below the modulus.
+-- `printing::sum` is safe and ends: the sum stays below the modulus.
 use Prim.Native.Nat.{_≤_, _<_, _-_}
 use native.Mathlib.Omega.{arith}
 use lib.ListN.{length}
-use Rattle.store_vectors.proofs.checksum.Statement.{statement}
-use Rattle.store_vectors.proofs.checksum.Tie as tie
+use Rattle.printing.proofs.sum.Statement.{statement}
+use Rattle.printing.proofs.sum.Tie as tie
 
 abbrev Inv-loop : tie.InvT-loop
 Inv-loop bytes sum₀ i₀ sum i = (i ≤ length bytes) × (sum < 4294967291)
@@ -17,8 +17,8 @@ cast-sum c = omega (arith, c .shared-slice-known .given (c .before .before .loop
 add-sum : tie.Need-add-sum Inv-loop μ-loop
 add-sum c = omega (arith, c .shared-slice-known .given (c .before .before .loop .i))
 
-pub checksum-spec : {M : Type 1} → statement M
-checksum-spec =
+pub sum-spec : {M : Type 1} → statement M
+sum-spec =
     tie.close
     (tie.spec
     Inv-loop

@@ -1,0 +1,72 @@
+// Document 01's program bench, through the functions that the firmware calls. The gate compares what it writes with the
+// six lines of document 01, in the file stdout.
+use machine::limits::AREA_LENGTH;
+use machine::limits::ROUND_ROOM;
+use store::layout::DISC_LENGTH;
+
+// Document 01: "does rounds until nothing runs (29)".
+const ROUNDS: u16 = 29;
+
+// A proved loop ends; this one at the latest after so many rounds.
+const MOST_ROUNDS: u16 = 1000;
+
+// INT 3, SET n; GET n, WHILE; GET n, PRINTLN; GET n, DECREMENT, SET n; ENDWHILE; STOP
+const DOWN: [u8; 20] = [
+    2,
+    0,
+    3,
+    5,
+    110,
+    6,
+    110,
+    63,
+    2,
+    8,
+    6,
+    110,
+    52,
+    6,
+    110,
+    8,
+    5,
+    110,
+    64,
+    67,
+];
+
+fn print_files(disc: &[u8; DISC_LENGTH]) {
+    let mut out = [0u8; ROUND_ROOM];
+    let written = export::arduinos_files(disc, &mut out);
+    printing::output(written, &out);
+}
+
+fn print_list(disc: &[u8; DISC_LENGTH], area: &[u8; AREA_LENGTH]) {
+    let mut out = [0u8; ROUND_ROOM];
+    let written = export::arduinos_list(disc, area, &mut out);
+    printing::output(written, &out);
+}
+
+fn print_free_space(disc: &[u8; DISC_LENGTH]) {
+    printing::number(export::arduinos_free_space(disc));
+    printing::text(b"\n");
+}
+
+// Another number of rounds gets a line of its own, which the file stdout does not have.
+fn run_all(disc: &mut [u8; DISC_LENGTH], area: &mut [u8; AREA_LENGTH]) {
+    let rounds = running::rounds(disc, area, 1, MOST_ROUNDS);
+    if rounds != ROUNDS {
+        printing::line(b"rounds", rounds as i32);
+    }
+}
+
+fn main() {
+    let mut disc = [255u8; DISC_LENGTH];
+    let mut area = [255u8; AREA_LENGTH];
+    export::arduinos_format(&mut disc, &mut area);
+    export::arduinos_store(&mut disc, b"down", &DOWN);
+    print_files(&disc);
+    export::arduinos_run(&disc, &mut area, b"down");
+    print_list(&disc, &area);
+    run_all(&mut disc, &mut area);
+    print_free_space(&disc);
+}

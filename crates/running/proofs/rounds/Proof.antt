@@ -1,0 +1,27 @@
+-- `running::rounds` is safe and ends: the measure is how many rounds may still come.
+use Prim.Native.Nat.{_-_, _≤_}
+use borrow.Author.Needs.{needs}
+use Rattle.running.proofs.rounds.Statement.{statement}
+use Rattle.running.proofs.rounds.Tie as tie
+
+abbrev Inv-loop : tie.InvT-loop
+Inv-loop disc₀ area₀ step most clock₀ count₀ disc area clock count = count ≤ most
+
+abbrev μ-loop : tie.MeasureT-loop
+μ-loop disc₀ area₀ step most clock₀ count₀ disc area clock count = most - count
+
+pub rounds-spec : {M : Type 1} → statement M
+rounds-spec =
+    tie.close
+    (tie.spec
+    Inv-loop
+    μ-loop
+    (λ c. search needs)
+    (λ c κs. search needs)
+    (λ c κs. search needs)
+    (λ c κs. search needs)
+    (λ c. search needs)
+    (λ c. search needs)
+    (λ c. search needs)
+    (λ c. search needs)
+    (λ c. search needs))
