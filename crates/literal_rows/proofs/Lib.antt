@@ -1,0 +1,2 @@
+-- every row, by computing
+pub mod Rows

@@ -1,0 +1,8 @@
+-- bytes at their offsets, calls one after another
+pub mod Calls
+-- the run
+pub mod Run
+-- one byte changed
+pub mod Goodness
+-- K1 to K11 on bytes
+pub mod Programs

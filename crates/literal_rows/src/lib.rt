@@ -1,0 +1,29 @@
+// Literal rows: calls on bytes, and bytes written out at their offsets. What a definition that cites itself cannot show.
+ghost use Rattle.literal_rows.specs.Goodness.{AreaRows, DiscRows};
+ghost use Rattle.literal_rows.specs.Programs.{BenchOnBytes};
+ghost use Rattle.literal_rows.specs.Run.{Listings, RunOnBytes};
+
+// A run from format to turns, suspend and kill: every number, every byte of disc and work area.
+pub fn run_on_bytes()
+    ensures { λ _. ⌜ RunOnBytes ⌝ }
+{}
+
+// What files and list write then.
+pub fn listings()
+    ensures { λ _. ⌜ Listings ⌝ }
+{}
+
+// One byte of that work area changed: which stay good, and which do not.
+pub fn area_rows()
+    ensures { λ _. ⌜ AreaRows ⌝ }
+{}
+
+// The same of that disc.
+pub fn disc_rows()
+    ensures { λ _. ⌜ DiscRows ⌝ }
+{}
+
+// Document 01's bench cases K1 to K11 through the calls store, run and turn.
+pub fn bench_on_bytes()
+    ensures { λ _. ⌜ BenchOnBytes ⌝ }
+{}
