@@ -2,36 +2,34 @@
 // six lines of document 01, in the file stdout.
 use machine::limits::AREA_LENGTH;
 use machine::limits::ROUND_ROOM;
+use running::MOST_ROUNDS;
 use store::layout::DISC_LENGTH;
 
 // Document 01: "does rounds until nothing runs (29)".
 const ROUNDS: u16 = 29;
 
-// A proved loop ends; this one at the latest after so many rounds.
-const MOST_ROUNDS: u16 = 1000;
-
-// INT 3, SET n; GET n, WHILE; GET n, PRINTLN; GET n, DECREMENT, SET n; ENDWHILE; STOP
+// Document 01's program down.
 const DOWN: [u8; 20] = [
-    2,
+    2, // INT 0 3
     0,
     3,
-    5,
+    5, // SET n
     110,
-    6,
+    6, // GET n
     110,
-    63,
+    63, // WHILE 2 8
     2,
     8,
-    6,
+    6, // GET n
     110,
-    52,
-    6,
+    52, // PRINTLN
+    6, // GET n
     110,
-    8,
-    5,
+    8, // DECREMENT
+    5, // SET n
     110,
-    64,
-    67,
+    64, // ENDWHILE
+    67, // STOP
 ];
 
 fn print_files(disc: &[u8; DISC_LENGTH]) {
@@ -59,6 +57,7 @@ fn run_all(disc: &mut [u8; DISC_LENGTH], area: &mut [u8; AREA_LENGTH]) {
     }
 }
 
+// Format takes any bytes.
 fn main() {
     let mut disc = [255u8; DISC_LENGTH];
     let mut area = [255u8; AREA_LENGTH];

@@ -1,17 +1,11 @@
 // Programs that set 25 variables and then one more.
 use machine::limits::AREA_LENGTH;
+use running::MOST_ROUNDS;
+use running::instructions::CHAR;
+use running::instructions::SET;
+use running::instructions::STOP;
 use store::layout::DISC_LENGTH;
 ghost use Prim.Native.Nat.{_≤_};
-
-// Instructions, by their place in appendix C of the guide.
-const CHAR: u8 = 1;
-
-const SET: u8 = 5;
-
-const STOP: u8 = 67;
-
-// A proved loop ends; this one at the latest after so many rounds.
-const MOST_ROUNDS: u16 = 1000;
 
 // A CHAR and its SET.
 const PAIR: usize = 4;
@@ -51,10 +45,7 @@ fn run(label: &[u8], code: [u8; CODE_LENGTH]) {
     let rounds = running::rounds(&mut disc, &mut area, 1, MOST_ROUNDS);
     printing::text(label);
     printing::text(b": ");
-    printing::number(rounds as i32);
-    printing::text(b" rounds, ");
-    running::print_slot(&area, 0);
-    printing::text(b"\n");
+    running::print_end(rounds, &area);
 }
 
 // Document 01: "a 26th variable gives fault 10". Its SET is the 52nd instruction.

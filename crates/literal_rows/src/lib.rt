@@ -1,4 +1,4 @@
-// Literal rows: calls on bytes, and bytes written out at their offsets. What a definition that cites itself cannot show.
+// Literal rows: calls on bytes, against bytes written out at their offsets.
 ghost use Rattle.literal_rows.specs.Goodness.{AreaRows, DiscRows};
 ghost use Rattle.literal_rows.specs.Programs.{BenchOnBytes};
 ghost use Rattle.literal_rows.specs.Run.{Listings, RunOnBytes};

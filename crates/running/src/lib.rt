@@ -1,13 +1,21 @@
 // What programs do with the kernel, through the functions that C calls: rounds, and what they print.
+pub mod instructions;
+
 use machine::limits::AREA_LENGTH;
 use machine::limits::RECORD_SIZE;
 use machine::limits::RECORDS_AT;
 use machine::limits::ROUND_ROOM;
+use machine::limits::SLOT_COUNT;
 use store::layout::DISC_LENGTH;
 ghost use Prim.Native.Nat.{_<_};
 ghost use Rattle.machine.specs.Limits.{slotCount};
 
-// Where a process record has state and fault. Document 01: "0 ended".
+// A proved loop ends; one over rounds at the latest after so many.
+pub const MOST_ROUNDS: u16 = 1000;
+
+// Where a process record has ID, state and fault. Document 01: "0 ended".
+const ID_AT: usize = 12;
+
 const STATE_AT: usize = 14;
 
 const FAULT_AT: usize = 15;
@@ -49,17 +57,36 @@ fn print_byte(byte: u8) {
     printing::number(byte as i32);
 }
 
-// Whether the process of a slot lives, and if not, by which fault it ended.
-pub fn print_slot(area: &[u8; AREA_LENGTH], slot: u8)
+// Whether the process of a slot lives, and if not, by which fault it ended. Nothing for a slot that has had none.
+fn print_slot(area: &[u8; AREA_LENGTH], slot: usize)
     requires { ⌜ slot < slotCount ⌝ }
 {
-    let at = RECORDS_AT + slot as usize * RECORD_SIZE;
-    printing::text(b"slot ");
-    print_byte(slot);
+    let at = RECORDS_AT + slot * RECORD_SIZE;
+    if buffer::bytes::word_at(area, at + ID_AT) == 0 {
+        return;
+    }
+    printing::text(b", slot ");
+    print_byte(slot as u8);
     if area[at + STATE_AT] == ENDED {
         printing::text(b" ended, fault ");
         print_byte(area[at + FAULT_AT]);
     } else {
         printing::text(b" lives");
     }
+}
+
+fn print_slots(area: &[u8; AREA_LENGTH]) {
+    let mut slot: usize = 0;
+    while slot < SLOT_COUNT {
+        print_slot(area, slot);
+        slot += 1;
+    }
+}
+
+// A line for the end of a run: how many rounds it took, and each slot that has had a process.
+pub fn print_end(rounds: u16, area: &[u8; AREA_LENGTH]) {
+    printing::number(rounds as i32);
+    printing::text(b" rounds");
+    print_slots(area);
+    printing::text(b"\n");
 }

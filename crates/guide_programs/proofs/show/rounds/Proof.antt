@@ -1,0 +1,27 @@
+-- `guide_programs::show::rounds` is safe and ends: the measure is how many rounds may still come.
+use Prim.Native.Nat.{_-_, _≤_}
+use borrow.Author.Needs.{needs}
+use Rattle.guide_programs.proofs.show.rounds.Statement.{statement}
+use Rattle.guide_programs.proofs.show.rounds.Tie as tie
+
+abbrev Inv-loop : tie.InvT-loop
+Inv-loop disc₀ area₀ count₀ disc area count = count ≤ 1000
+
+abbrev μ-loop : tie.MeasureT-loop
+μ-loop disc₀ area₀ count₀ disc area count = 1000 - count
+
+pub rounds-spec : {M : Type 1} → statement M
+rounds-spec =
+    tie.close
+    (tie.spec
+    Inv-loop
+    μ-loop
+    (λ c. search needs)
+    (λ c κs. search needs)
+    (λ c κs. search needs)
+    (λ c κs. search needs)
+    (λ c. search needs)
+    (λ c. search needs)
+    (λ c. search needs)
+    (λ c. search needs)
+    (λ c. search needs))
