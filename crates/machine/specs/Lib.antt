@@ -22,6 +22,8 @@ pub mod Observation
 pub mod Suppositions
 pub mod Isolation
 -- the other demands, of every call
+pub mod Fields
+pub mod Tests
 pub mod Refusals
 pub mod Ending
 pub mod NoPlace

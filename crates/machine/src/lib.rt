@@ -10,11 +10,12 @@ use place::Run;
 use store::layout::NAME_SIZE;
 use variable::Variables;
 ghost use Rattle.machine.specs.Cases.{Bench, Misreadings};
-ghost use Rattle.machine.specs.Demands.{EventsAreCalls, FaultTouchesOwn, GoodKept, LengthsKept};
+ghost use Rattle.machine.specs.Demands.{BytesKept, EventsAreCalls, FaultTouchesOwn, GoodKept, LengthsKept};
 ghost use Rattle.machine.specs.Demands.{PlacesRefusedOnly, RefusedUnchanged, RoundIsTurns, RoundNeverRefused};
 ghost use Rattle.machine.specs.Demands.{TurnOutputBound};
 ghost use Rattle.machine.specs.Due.{DoneWhenDue};
 ghost use Rattle.machine.specs.Isolation.{Isolation};
+ghost use Rattle.machine.specs.Tests.{RefusedExactly};
 
 // The file that a process has open, and how far it has read or written. Length 0: none.
 pub struct OpenFile {
@@ -67,6 +68,12 @@ pub fn refused_unchanged()
     ensures { λ _. ⌜ RefusedUnchanged ⌝ }
 {}
 
+// Every call is refused by the first of document 01's tests that fails, and then changes no byte; if none fails it is
+// done.
+pub fn refused_exactly()
+    ensures { λ _. ⌜ RefusedExactly ⌝ }
+{}
+
 // A turn that ends its process, by STOP or a fault, touches nothing but the record and the variables of that process.
 pub fn fault_touches_own()
     ensures { λ _. ⌜ FaultTouchesOwn ⌝ }
@@ -91,6 +98,11 @@ pub fn lengths_kept()
 // Every call keeps good buffers good; format and boot make them.
 pub fn good_kept()
     ensures { λ _. ⌜ GoodKept ⌝ }
+{}
+
+// From buffers of bytes every call leaves buffers of bytes.
+pub fn bytes_kept()
+    ensures { λ _. ⌜ BytesKept ⌝ }
 {}
 
 // A round lent 320 bytes on good buffers is never refused.
