@@ -29,6 +29,9 @@ pub mod Ending
 pub mod NoPlace
 pub mod Due
 pub mod Demands
+pub mod AtPc
+pub mod Changed
+pub mod Reaching
 -- the bench cases and the misreadings
 pub mod Bench
 pub mod Cases

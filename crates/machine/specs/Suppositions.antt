@@ -13,6 +13,7 @@ use Rattle.buffer.specs.declared.Found.the-variants.{At, Nowhere}
 use Rattle.place.specs.Place.{fits}
 use Rattle.variable.specs.Limits.{maxVariables, memorySize}
 use Rattle.variable.specs.Table.{counted, isOf, owned, runOf}
+use Rattle.variable.specs.declared.Variable.{Variable}
 use Rattle.variable.specs.declared.Variables.{Variables}
 use Rattle.machine.specs.Answer.{Call, turn, round, command, run, other}
 use Rattle.machine.specs.Area.{kernelOf}
@@ -41,12 +42,16 @@ abbrev pub isBarred : ℕ → Bool
 isBarred byte = (leb 53 byte && leb byte 59) || (eqb byte 68 || eqb byte 69)
 
 -- ---- a SET that lacks space
+-- the variables that there are with that one dropped
+abbrev pub othersThan : ℕ → ℕ → Variables → List Variable
+othersThan name i v = keep (λ e. not (isOf name i e)) (counted v)
+
 -- Document 01: "A SET lacks space where fault 10 is defined for it in the buffers as its turn finds them": with the old
 -- variable of that name dropped, there are 25 others, or no address from 0 to 255 where the value would lie in memory
 -- and apart from them
 unfoldable pub lacksSpace : Variables → ℕ → ℕ → ℕ → Bool
 lacksSpace v name i n =
-    let others = keep (λ e. not (isOf name i e)) (counted v) in
+    let others = othersThan name i v in
     leb maxVariables (length others)
     || not (any (fits (map runOf others) 0 memorySize n) (tab (λ a. a) memorySize))
 

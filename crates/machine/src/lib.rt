@@ -15,6 +15,7 @@ ghost use Rattle.machine.specs.Demands.{PlacesRefusedOnly, RefusedUnchan
 ghost use Rattle.machine.specs.Demands.{TurnOutputBound};
 ghost use Rattle.machine.specs.Due.{DoneWhenDue};
 ghost use Rattle.machine.specs.Isolation.{Isolation};
+ghost use Rattle.machine.specs.Reaching.{ReachesExactly};
 ghost use Rattle.machine.specs.Tests.{RefusedExactly};
 
 // The file that a process has open, and how far it has read or written. Length 0: none.
@@ -83,6 +84,11 @@ pub fn fault_touches_own()
 // name or size.
 pub fn places_refused_only()
     ensures { λ _. ⌜ PlacesRefusedOnly ⌝ }
+{}
+
+// SET, the file instructions, FORK and WAITUNTILDONE: what is due is done, and which fault comes of what.
+pub fn reaches_exactly()
+    ensures { λ _. ⌜ ReachesExactly ⌝ }
 {}
 
 // A call that no refusal speaks against is done, and free space is what a file may have.
