@@ -32,6 +32,8 @@ pub mod Demands
 pub mod AtPc
 pub mod Changed
 pub mod Reaching
+pub mod Done
+pub mod LeftAlone
 -- the bench cases and the misreadings
 pub mod Bench
 pub mod Cases

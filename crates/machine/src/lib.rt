@@ -13,8 +13,10 @@ ghost use Rattle.machine.specs.Cases.{Bench, Misreadings};
 ghost use Rattle.machine.specs.Demands.{BytesKept, EventsAreCalls, FaultTouchesOwn, GoodKept, LengthsKept};
 ghost use Rattle.machine.specs.Demands.{PlacesRefusedOnly, RefusedUnchanged, RoundIsTurns, RoundNeverRefused};
 ghost use Rattle.machine.specs.Demands.{TurnOutputBound};
+ghost use Rattle.machine.specs.Done.{DoneExactly};
 ghost use Rattle.machine.specs.Due.{DoneWhenDue};
 ghost use Rattle.machine.specs.Isolation.{Isolation};
+ghost use Rattle.machine.specs.LeftAlone.{LeavesAlone};
 ghost use Rattle.machine.specs.Reaching.{ReachesExactly};
 ghost use Rattle.machine.specs.Tests.{RefusedExactly};
 
@@ -94,6 +96,16 @@ pub fn reaches_exactly()
 // A call that no refusal speaks against is done, and free space is what a file may have.
 pub fn done_when_due()
     ensures { λ _. ⌜ DoneWhenDue ⌝ }
+{}
+
+// What a done call answers and leaves, byte by byte.
+pub fn done_exactly()
+    ensures { λ _. ⌜ DoneExactly ⌝ }
+{}
+
+// What a call leaves alone: buffers that it does not take, the output behind what it writes, other processes and files.
+pub fn leaves_alone()
+    ensures { λ _. ⌜ LeavesAlone ⌝ }
 {}
 
 // No call changes the length of the disc, the work area or the output.
