@@ -3,7 +3,7 @@
 use Prim.Native.Nat.{ℕ, _≤_, _<_}
 use mathlib.Core.Path.{_≡_}
 use mathlib.Core.Bool.{true, false, _&&_}
-use mathlib.Core.List.{List}
+use mathlib.Core.List.{List, []}
 use mathlib.Core.Logic.{_⊎_}
 use lib.Dec.{leb}
 use lib.IntN.{pos, negℤ}
@@ -13,9 +13,8 @@ use Rattle.number.specs.declared.Number.{Number}
 use Rattle.store.specs.Directory.{fileCount, goodDisc, isDiscLength, taken, lookup}
 use Rattle.variable.specs.Table.{freed, isOf}
 use Rattle.buffer.specs.declared.Found.the-variants.{Nowhere}
-use Rattle.machine.specs.Answer.{Answer, Buffers, Call, turn, round, other, store, answer, bootAnswer}
-use Rattle.machine.specs.Answer.{formatAnswer}
-use Rattle.machine.specs.Answer.{refused}
+use Rattle.machine.specs.Answer.{Answer, Buffers, Call, Other, turn, round, command, run, other, store, retrieve}
+use Rattle.machine.specs.Answer.{erase, files, freeSpace, list, answer, bootAnswer, formatAnswer, refused}
 use Rattle.machine.specs.Area.{AreBytes, Whole, isAreaLength, kernelOf}
 use Rattle.machine.specs.Beyond.{newFileSize}
 use Rattle.machine.specs.Effect.{asks, assigns, opens}
@@ -121,6 +120,36 @@ GoodKept =
     ((c : Call) (b : Buffers) → Passes (b .disc) (b .area) → Passes (answer c b .disc) (answer c b .area))
     × ((b : Buffers) → RightLengths b → Passes (formatAnswer b .disc) (formatAnswer b .area))
     × ((b : Buffers) → RightLengths b → goodDisc (b .disc) ≡ true → Passes (bootAnswer b .disc) (bootAnswer b .area))
+
+-- ---- bytes
+-- every element of disc, area and output is below 256
+abbrev pub AllBytes : (disc area out : List ℕ) → Type 0
+AllBytes disc area out = AreBytes disc × AreBytes area × AreBytes out
+
+-- the bytes that a call is given to write: a store's
+abbrev pub givenOther : Other → List ℕ
+givenOther (store name bytes) = bytes
+givenOther (retrieve name) = []
+givenOther (erase name) = []
+givenOther files = []
+givenOther freeSpace = []
+givenOther list = []
+
+abbrev pub given : Call → List ℕ
+given (turn slot clock) = []
+given (round clock) = []
+given (command c id) = []
+given (run name) = []
+given (other o) = givenOther o
+
+abbrev pub StaysBytes : Answer → Buffers → Type 0
+StaysBytes a b = AllBytes (b .disc) (b .area) (b .out) → AllBytes (a .disc) (a .area) (a .out)
+
+-- what C lends as bytes, it gets back as bytes: no call leaves an element of 256 or more
+unfoldable pub BytesKept : Type 0
+BytesKept = ((c : Call) (b : Buffers) → AreBytes (given c) → StaysBytes (answer c b) b)
+    × ((b : Buffers) → StaysBytes (formatAnswer b) b)
+    × ((b : Buffers) → StaysBytes (bootAnswer b) b)
 
 -- ---- rounds
 -- Document 01, Round: "needs 320 bytes"; lent them on good buffers it is done

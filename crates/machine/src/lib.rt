@@ -10,7 +10,7 @@ use place::Run;
 use store::layout::NAME_SIZE;
 use variable::Variables;
 ghost use Rattle.machine.specs.Cases.{Bench, Misreadings};
-ghost use Rattle.machine.specs.Demands.{EventsAreCalls, FaultTouchesOwn, GoodKept, LengthsKept};
+ghost use Rattle.machine.specs.Demands.{BytesKept, EventsAreCalls, FaultTouchesOwn, GoodKept, LengthsKept};
 ghost use Rattle.machine.specs.Demands.{PlacesRefusedOnly, RefusedUnchanged, RoundIsTurns, RoundNeverRefused};
 ghost use Rattle.machine.specs.Demands.{TurnOutputBound};
 ghost use Rattle.machine.specs.Due.{DoneWhenDue};
@@ -91,6 +91,11 @@ pub fn lengths_kept()
 // Every call keeps good buffers good; format and boot make them.
 pub fn good_kept()
     ensures { λ _. ⌜ GoodKept ⌝ }
+{}
+
+// From buffers of bytes every call leaves buffers of bytes.
+pub fn bytes_kept()
+    ensures { λ _. ⌜ BytesKept ⌝ }
 {}
 
 // A round lent 320 bytes on good buffers is never refused.
