@@ -1,4 +1,6 @@
--- What is written is read back: the area's bytes and the state.
+-- Lists of bytes; what is written is read back: the area's bytes and the state.
+pub mod Each
+pub mod ByteLists
 pub mod Sizes
 pub mod FixedWidth
 pub mod Records

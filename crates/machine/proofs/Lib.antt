@@ -1,4 +1,4 @@
--- what is written is read back: the area's bytes and the state
+-- lists of bytes; what is written is read back: the area's bytes and the state
 pub mod Bytes
 -- a good area as facts
 pub mod Goodness
@@ -12,6 +12,8 @@ pub mod Kept
 pub mod Operations
 -- the demands, of every call
 pub mod Demands
+-- bytes stay bytes
+pub mod InBytes
 -- isolation: the events of a run, and what they leave of a process
 pub mod Traces
 -- the bench cases and the misreadings

@@ -18,8 +18,9 @@ use Rattle.machine.specs.Limits.{zerosSize}
 use Rattle.machine.specs.State.{noProcess}
 use Rattle.machine.specs.declared.Kernel.{Kernel}
 use Rattle.machine.specs.declared.Process.{Process}
+use Rattle.machine.proofs.Bytes.ByteLists.{are-bytes, bytes-of, part-bytes}
 use Rattle.machine.proofs.Bytes.FixedWidth.{Encoded, flat-length, table-encode-decode, table-decode-encode}
-use Rattle.machine.proofs.Bytes.Records.{part-bytes, process-encode-decode, process-decode-encode, process-bytes-length, spelled}
+use Rattle.machine.proofs.Bytes.Records.{process-encode-decode, process-decode-encode, process-bytes-length, spelled}
 use Rattle.machine.proofs.Bytes.Records.{variable-encode-decode, variable-decode-encode, word-encode-decode}
 use Rattle.machine.proofs.Bytes.Sizes.{Sized}
 
@@ -30,7 +31,7 @@ module _ (area : List ℕ) (bytes : AreBytes area) (size : length area ≡ areaL
   entries =
       table-encode-decode variableBytes variableOf entrySize area entriesAt maxVariables
       (λ i h. variable-encode-decode (part area (entriesAt + i * entrySize) entrySize)
-      (part-bytes area (entriesAt + i * entrySize) entrySize (omega arith) bytes)
+      (are-bytes _ (part-bytes area (entriesAt + i * entrySize) entrySize (bytes-of area bytes)))
       (part-length area (entriesAt + i * entrySize) entrySize (omega arith)))
 
   processes : flat processBytes (kernelOf area .processes) ≡ part area recordsAt (slotCount * recordSize)
@@ -38,7 +39,7 @@ module _ (area : List ℕ) (bytes : AreBytes area) (size : length area ≡ areaL
   processes =
       table-encode-decode processBytes processOf recordSize area recordsAt slotCount
       (λ i h. process-encode-decode (part area (recordsAt + i * recordSize) recordSize)
-      (part-bytes area (recordsAt + i * recordSize) recordSize (omega arith) bytes)
+      (are-bytes _ (part-bytes area (recordsAt + i * recordSize) recordSize (bytes-of area bytes)))
       (part-length area (recordsAt + i * recordSize) recordSize (omega arith)))
 
   count : (getD area countAt 0 ∷ []) ≡ part area countAt 1

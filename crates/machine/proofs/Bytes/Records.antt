@@ -1,14 +1,11 @@
 -- One variable and one process, and their bytes in the work area.
-use Prim.Native.Nat.{ℕ, _+_, _/_, _%_, _≤_, _<_}
+use Prim.Native.Nat.{ℕ, _+_, _/_, _%_, _≤_}
 use mathlib.Core.Path.{_≡_, refl, sym, ap, _∙_}
-use mathlib.Core.Bool.{Bool, true, false}
 use mathlib.Core.List.{List, _++_, append-assoc}
 use native.Mathlib.Nat.{add-assoc, add-zero}
 use native.Mathlib.Omega.{arith}
-use lib.Dec.{lit<, ltb}
-use lib.ListN.{length, getD, take, length-append, List·getD-eq-default}
+use lib.ListN.{length, getD, take, length-append}
 use lib.Seq.{drop-at, getD-append-add, take-all, take-at}
-use borrow.Author.Tests.{ltb-false, ltb-true}
 use Rattle.buffer.specs.Buffer.{part, wordAt, wordBytes}
 use Rattle.buffer.specs.Lists.{tab}
 use Rattle.buffer.proofs.Buffer.{word-split}
@@ -20,16 +17,6 @@ use Rattle.machine.specs.Limits.{entrySize, recordSize, stackSize}
 use Rattle.machine.specs.declared.Process.{Process}
 use Rattle.machine.proofs.Bytes.FixedWidth.{tab-of}
 use Rattle.machine.proofs.Bytes.Sizes.{SizedProcess}
-
-pub part-bytes : (l : List ℕ) (at n : ℕ) → at + n ≤ length l → AreBytes l → AreBytes (part l at n)
-part-bytes l at n h bytes i = go (ltb i n) refl
-  where
-    go : (t : Bool) → ltb i n ≡ t → getD (part l at n) i 0 < 256
-    go true e = rw (part-byte l at n i (ltb-true i n e)) (bytes (at + i))
-    go false e =
-        let k : n ≤ i = ltb-false i n e in
-        let size : length (part l at n) ≡ n = part-length l at n h in
-        rw (List·getD-eq-default (part l at n) 0 {n = i} (omega arith)) (lit< tt)
 
 -- a part, byte by byte
 pub spelled : (l : List ℕ) (at n : ℕ) → at + n ≤ length l → tab (λ i. getD l (at + i) 0) n ≡ part l at n

@@ -4,7 +4,7 @@ use mathlib.Core.Path.{_≡_, refl, subst⁻¹}
 use mathlib.Core.Bool.{Bool, true, false, _&&_, _||_, cond}
 use mathlib.Core.List.{List, [], _∷_}
 use mathlib.Core.Logic.{_⊎_, inl, inr, ⊎-elim}
-use lib.Dec.{eqb, leb}
+use lib.Dec.{eqb}
 use borrow.Author.Tests.{eqb-true}
 use Rattle.buffer.specs.Lists.{all}
 use Rattle.buffer.proofs.Bools.{and-left, and-right}
@@ -71,11 +71,17 @@ find-all test n (row ∷ table) u h =
         (and-left (test (row .0) (row .1)) (all (λ r. test (r .0) (r .1)) table) h)
     go false e rest = rest
 
-pub instruction-asks-by : (b : ℕ) → asksBy b (instructionOf b) ≡ true
-unfolding instructionOf all
-instruction-asks-by b = go (operatorOf b) (find-all asksBy b others refl refl)
+-- of every operator, of every other instruction of the table and of none: so of the instruction of a byte
+pub instruction-all : (test : ℕ → Instruction → Bool) (b : ℕ) → ((o : Operator) → test b (Operate o) ≡ true) → test b Unknown ≡ true
+    → all (λ row. test (row .0) (row .1)) others ≡ true → test b (instructionOf b) ≡ true
+unfolding instructionOf
+instruction-all test b p u h = go (operatorOf b)
   where
-    go : (o : Operator) → asksBy b (find b others) ≡ true → asksBy b (operatorOr o (find b others)) ≡ true
-    go (OfOne o) h = refl
-    go (OfTwo o) h = refl
-    go NotAnOperator h = h
+    go : (o : Operator) → test b (operatorOr o (find b others)) ≡ true
+    go (OfOne o) = p (OfOne o)
+    go (OfTwo o) = p (OfTwo o)
+    go NotAnOperator = find-all test b others u h
+
+pub instruction-asks-by : (b : ℕ) → asksBy b (instructionOf b) ≡ true
+unfolding all
+instruction-asks-by b = instruction-all asksBy b (λ o. refl) refl refl
