@@ -18,5 +18,7 @@ pub mod Demands
 pub mod InBytes
 -- isolation: the events of a run, and what they leave of a process
 pub mod Traces
+-- what a call leaves alone
+pub mod LeftAlone
 -- the bench cases and the misreadings
 pub mod BenchCases

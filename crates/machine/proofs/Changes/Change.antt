@@ -6,7 +6,7 @@
 -- WRITE is a kind of its own: it alone changes the bytes of a file that may be another's program.
 use Prim.Native.Nat.{ℕ, _+_, _≤_, _<_}
 use mathlib.Core.Path.{_≡_}
-use mathlib.Core.Bool.{true, false}
+use mathlib.Core.Bool.{Bool, true, false}
 use mathlib.Core.List.{List}
 use lib.ListN.{getD, length}
 use Rattle.store.specs.Directory.{entryAt, fileCount, files, goodDisc, isDiscLength}
@@ -47,6 +47,14 @@ pub data Outside (name : List ℕ) (k : Kernel) (disc : List ℕ) (j : Kernel) (
   erases : (i : ℕ) → i < fileCount disc → inUse k (entryAt disc i) ≡ false → j ≡ k → after ≡ erased disc i → Outside name k disc j after
   begins : (slot : ℕ) (e : Entry) → starting k disc name ≡ starts slot e → j ≡ started k slot e → after ≡ disc → Outside name k disc j after
 
+-- a file goes
+abbrev pub erasing : {name : List ℕ} {k : Kernel} {disc : List ℕ} {j : Kernel} {after : List ℕ} → Outside name k disc j after → Bool
+erasing (nothing e f) = false
+erasing (enters title n s a e f) = false
+erasing (stores title bytes s a e f) = false
+erasing (erases i h unused e f) = true
+erasing (begins slot d t e f) = false
+
 -- ---- what the process in slot w does
 -- it goes on as q: same name, ID and program, live, and what a good area asks of its record
 pub record GoesOn (disc : List ℕ) (p q : Process) : Type 0 where
@@ -83,5 +91,6 @@ pub record Writes (w : ℕ) (k : Kernel) (disc : List ℕ) (j : Kernel) (after :
 
 -- ---- an operation of the process in slot w, or of none; a start is from the file of that name
 pub data Change (name : List ℕ) (w : ℕ) (k : Kernel) (disc : List ℕ) (j : Kernel) (after : List ℕ) : Type 0 where
-  acts : (m : Kernel) → Outside name k disc m after → Own w m after j → Change name w k disc j after
+  -- no instruction erases a file
+  acts : (m : Kernel) (o : Outside name k disc m after) → erasing o ≡ false → Own w m after j → Change name w k disc j after
   writes : Writes w k disc j after → Change name w k disc j after

@@ -48,7 +48,7 @@ no-place e = let z : _≡_ {A = ℕ} 0 1 = cc in omega arith
 
 module _ (name : List ℕ) (w : ℕ) (k : Kernel) (disc : List ℕ) (j : Kernel) (after : List ℕ) (good : GoodState k disc) where
   pub change-good : Change name w k disc j after → GoodState j after
-  change-good (acts m o x) = own-good w m after j (outside-good name k disc m after good o) x
+  change-good (acts m o still x) = own-good w m after j (outside-good name k disc m after good o) x
   change-good (writes x) = writes-good moved-good w k disc j after good x
 
   -- ---- a live process in another slot
@@ -64,28 +64,28 @@ module _ (name : List ℕ) (w : ℕ) (k : Kernel) (disc : List ℕ) (j : Kernel)
         }
 
     pub change-untouched : (s ≡ w → ⊥) → Change name w k disc j after → Untouched s k j
-    change-untouched other (acts m o x) = by-own m (outside-good name k disc m after good o) (outside-spares good s live o) other x
+    change-untouched other (acts m o still x) = by-own m (outside-good name k disc m after good o) (outside-spares good s live o) other x
     change-untouched other (writes x) =
         let o = own-of-write x in
         record { process = own-process s other o; variables = own-variables s good live other o }
 
     pub change-program : NoWriteInto s w k disc j → Change name w k disc j after
         → programOf after (processAt k s) ≡ programOf disc (processAt k s)
-    change-program safe (acts m o x) = outside-spares good s live o .program
+    change-program safe (acts m o still x) = outside-spares good s live o .program
     change-program safe (writes x) =
         let p : processAt j w ≡ x .process = ap (λ (h : Kernel). processAt h w) (x .kernel) ∙ put-at k w (x .process) (x .goes .before) in
         writes-program good x s live (safe (x .instruction) (ap isLive p ∙ x .goes .live))
 
   -- ---- IDs
   pub change-gone : (i : ℕ) → Gone i k → Change name w k disc j after → Gone i j
-  change-gone i g (acts m o x) = gone-after i (outside-gone i good g o) x
+  change-gone i g (acts m o still x) = gone-after i (outside-gone i good g o) x
   change-gone i g (writes x) = gone-after i g (own-of-write x)
 
   -- what a live process does starts at most another one, which is then as a start leaves it
   pub change-begun : isLive (processAt k w) ≡ true → (i : ℕ) → slotOf k i ≡ Nowhere → Change name w k disc j after → (slotOf j i ≡ Nowhere)
       ⊎ Begun name i disc j after
   change-begun live i none (writes x) = inl (own-none i none (own-of-write x))
-  change-begun live i none (acts m o x) = go (outside-begun i good none o)
+  change-begun live i none (acts m o still x) = go (outside-begun i good none o)
     where
       g : GoodState m after
       g = outside-good name k disc m after good o

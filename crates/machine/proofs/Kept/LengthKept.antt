@@ -20,5 +20,5 @@ module _ {name : List ℕ} {k : Kernel} {disc : List ℕ} {j : Kernel} {after : 
 
 pub change-length : {name : List ℕ} {w : ℕ} {k : Kernel} {disc : List ℕ} {j : Kernel} {after : List ℕ} → GoodState k disc
     → Change name w k disc j after → length after ≡ length disc
-change-length g (acts m o x) = outside-length g o
+change-length g (acts m o still x) = outside-length g o
 change-length g (writes x) = ap length (x .disc-after) ∙ written-length (x .bytes) (write-inside g x)

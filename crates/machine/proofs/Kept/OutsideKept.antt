@@ -6,7 +6,7 @@ use mathlib.Core.List.{List}
 use native.Mathlib.Omega.{arith}
 use lib.ListN.{length}
 use Rattle.buffer.proofs.Bools.{and-left, true-not-false}
-use Rattle.store.specs.Directory.{entryAt, fileCount}
+use Rattle.store.specs.Directory.{entryAt, fileCount, goodDisc}
 use Rattle.store.specs.File.{entered, erased}
 use Rattle.store.specs.declared.Entry.{Entry}
 use Rattle.store.proofs.Admissions.{Admitted}
@@ -25,21 +25,35 @@ use Rattle.buffer.proofs.Kept.{any-at}
 use Rattle.machine.proofs.Changes.Slots.{live-inside}
 use Rattle.machine.proofs.Kept.StartKept.{started-good}
 
+-- ---- the files that keep their entry
+module _ {disc : List ℕ} (i : ℕ) (h : i < fileCount disc) where
+  pub entered-again : {title : List ℕ} {n s : ℕ} → Admitted disc title n s → Again disc (entered disc title n s) i
+  entered-again {title} {n} {s} a =
+      record { place = i; inside = omega (arith, entered-count n s (room a)); same = entered-old n s (room a) i h }
+
+  pub stored-again : {title : List ℕ} {s : ℕ} (bytes : List ℕ) → goodDisc disc ≡ true → Admitted disc title (length bytes) s
+      → Again disc (stored disc title bytes s) i
+  stored-again {title} {s} bytes good a =
+      record {
+        place = i;
+        inside = omega (arith, lookup-at (stored disc title bytes s) title (fileCount disc) (stored-found bytes good a) .inside);
+        same = stored-old bytes good a i h;
+      }
+
+  pub erased-again : (m : ℕ) → goodDisc disc ≡ true → m < fileCount disc → (i ≡ m → ⊥) → Again disc (erased disc m) i
+  erased-again m good l other = let f = erased-to (present disc good m l) i h other in record { place = f .0; inside = f .1; same = f .2 }
+
 -- ---- OPEN's new file, and store
 module _ {k : Kernel} {disc title : List ℕ} (g : GoodState k disc) where
   pub entered-state-good : (n s : ℕ) → Admitted disc title n s → GoodState k (entered disc title n s)
   entered-state-good n s a =
       files-good (entered disc title n s) g (entered-length n s (room a)) (entered-good a (g .sound))
-      (λ slot i h u. record { place = i; inside = omega (arith, entered-count n s (room a)); same = entered-old n s (room a) i h })
+      (λ slot i h u. entered-again i h a)
 
   pub stored-state-good : (bytes : List ℕ) (s : ℕ) → Admitted disc title (length bytes) s → GoodState k (stored disc title bytes s)
   stored-state-good bytes s a =
       files-good (stored disc title bytes s) g (stored-length bytes (g .sound) a) (stored-good bytes (g .sound) a)
-      (λ slot i h u. record {
-        place = i;
-        inside = omega (arith, lookup-at (stored disc title bytes s) title (fileCount disc) (stored-found bytes (g .sound) a) .inside);
-        same = stored-old bytes (g .sound) a i h;
-      })
+      (λ slot i h u. stored-again i h bytes (g .sound) a)
 
 -- ---- erase: "11 a live process runs it or has it open"
 used-is-in-use : (k : Kernel) (e : Entry) (s : ℕ) → uses e (processAt k s) ≡ true → inUse k e ≡ true
@@ -49,14 +63,10 @@ used-is-in-use k e s u = any-at (uses e) (k .processes) s noProcess (live-inside
 pub erased-state-good : {k : Kernel} {disc : List ℕ} → GoodState k disc → (i : ℕ) → i < fileCount disc → inUse k (entryAt disc i) ≡ false
     → GoodState k (erased disc i)
 erased-state-good {k} {disc} g i h unused =
-    files-good (erased disc i) g (erased-length (present disc (g .sound) i h)) (erased-good disc (g .sound) i h) again
-  where
-    again : (s j : ℕ) → j < fileCount disc → uses (entryAt disc j) (processAt k s) ≡ true → Again disc (erased disc i) j
-    again s j m u =
-        let f = erased-to (present disc (g .sound) i h) j m
-        (λ w. true-not-false
-        (used-is-in-use k (entryAt disc i) s (subst (λ (x : ℕ). uses (entryAt disc x) (processAt k s) ≡ true) w u)) unused) in
-        record { place = f .0; inside = f .1; same = f .2 }
+    files-good (erased disc i) g (erased-length (present disc (g .sound) i h)) (erased-good disc (g .sound) i h)
+    (λ s j m u. erased-again j m i (g .sound) h
+    (λ w. true-not-false
+    (used-is-in-use k (entryAt disc i) s (subst (λ (x : ℕ). uses (entryAt disc x) (processAt k s) ≡ true) w u)) unused))
 
 -- ---- the kinds
 pub outside-good : (name : List ℕ) (k : Kernel) (disc : List ℕ) (j : Kernel) (after : List ℕ) → GoodState k disc

@@ -58,7 +58,7 @@ module _ {k : Kernel} {disc : List ℕ} (good : GoodState k disc) (slot : ℕ) (
       go : (s : Starting) → starting k disc name ≡ s → Changes (forked k slot disc s l)
       go (refuses r) e = moved (pushId l 0) (push-fits l 0 h fits)
       go (starts child entry) e =
-          acts (started k child entry) (begins child entry e refl refl)
+          acts (started k child entry) (begins child entry e refl refl) refl
           (moves (withLocal p (pushId l (k .next)))
           (subst⁻¹ (λ (q : Process). GoesOn disc q (withLocal p (pushId l (k .next))))
           (getD-set-other (k .processes) child slot (startedProcess entry (k .next)) noProcess (other-slot child entry e))

@@ -59,10 +59,10 @@ module _ {k : Kernel} {disc : List ℕ} (good : GoodState k disc) (slot : ℕ) (
 
   module _ (name : List ℕ) where
     pub moves-local : (l : Local) → Within (length (programOf disc p)) l → Change name slot k disc (withProcess k slot (withLocal p l)) disc
-    moves-local l within = acts k (nothing refl refl) (moves (withLocal p l) (goes-on-local l within) refl)
+    moves-local l within = acts k (nothing refl refl) refl (moves (withLocal p l) (goes-on-local l within) refl)
 
     pub ends-here : (fault : ℕ) → Change name slot k disc (ended k slot fault) disc
-    ends-here fault = acts k (nothing refl refl) (ends fault live refl)
+    ends-here fault = acts k (nothing refl refl) refl (ends fault live refl)
 
     -- Document 01, fault 10: "no variable entry or run"
     pub assigns-here : (letter kind : ℕ) (bytes : List ℕ) (l : Local) → Within (length (programOf disc p)) l
@@ -71,7 +71,7 @@ module _ {k : Kernel} {disc : List ℕ} (good : GoodState k disc) (slot : ℕ) (
         → Change name slot k disc (setting k slot disc q (assigned (k .variables) letter (p .id) (valueOf kind bytes) .variables) l .kernel)
         (setting k slot disc q (assigned (k .variables) letter (p .id) (valueOf kind bytes) .variables) l .disc)
     assigns-here letter kind bytes l within size (Address a) e =
-        acts k (nothing refl refl)
+        acts k (nothing refl refl) refl
         (sets (withLocal p l) letter (valueOf kind bytes) a (goes-on-local l within) size (ap length whole) e refl)
       where
         whole : take (length bytes) (bytes ++ replicate (valueSize - length bytes) 0) ≡ bytes

@@ -106,7 +106,8 @@ module _ {k : Kernel} {disc : List ℕ} (good : GoodState k disc) (slot : ℕ) (
   faulted fault = ends-here good slot live name fault
 
   continued : (l : Local) (f : OpenFile) → Fits l → Opened (files disc) f → Changes (continues k slot disc l f disc)
-  continued l f fits o = acts k (nothing refl refl) (moves (withFile (withLocal p l) f) (goes-on good slot live disc l f fits (inr o)) refl)
+  continued l f fits o =
+      acts k (nothing refl refl) refl (moves (withFile (withLocal p l) f) (goes-on good slot live disc l f fits (inr o)) refl)
 
   -- ---- OPEN: a file of the directory, or a new one that enters it; "OPEN's new file refused" is fault 13
   pub open-change : (title : List ℕ) (size : Number) (l : Local) → Fits l → Changes (openedAt k slot disc (lookup disc title) title size l)
@@ -114,7 +115,7 @@ module _ {k : Kernel} {disc : List ℕ} (good : GoodState k disc) (slot : ℕ) (
     where
       create : (n s : ℕ) → Admitted disc title n s → Changes (createdAt k slot disc (Start s) title n l)
       create n s a =
-          acts k (enters title n s a refl refl)
+          acts k (enters title n s a refl refl) refl
           (moves (withFile (withLocal p l) (opened (runFrom s n)))
           (goes-on good slot live (entered disc title n s) l (opened (runFrom s n)) fits
           (inr (entry-opened (entered disc title n s) (fileCount disc) n s (omega (arith, entered-count n s (room a)))
