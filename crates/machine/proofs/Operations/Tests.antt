@@ -1,7 +1,9 @@
--- The tests of a call: what holds of every refused answer and of the rest holds of the answer.
-use Prim.Native.Nat.{ℕ}
+-- The tests of a call: what holds of every refused answer and of the rest holds of the answer; and a done call has passed them.
+use Prim.Native.Nat.{ℕ, suc}
 use mathlib.Core.Path.{_≡_, refl}
 use mathlib.Core.Bool.{Bool, true, false, _&&_}
+use native.Mathlib.Omega.{arith}
+use lib.IntN.{pos, negsuc}
 use lib.ListN.{length}
 use Rattle.store.specs.Directory.{goodDisc, isDiscLength}
 use Rattle.store.specs.File.{unless}
@@ -21,3 +23,18 @@ module _ (P : Answer → Type 0) (b : Buffers) where
       tried (goodDisc (b .disc)) 2 _ two λ d.
       tried (goodArea (b .disc) (b .area)) 3 rest three λ e.
       h (record { sizes = p; disc-good = d; area-good = e })
+
+-- ---- a call that is done has passed the tests
+pub below-not-done : {A : Type 0} {m n : ℕ} → negsuc m ≡ pos n → A
+below-not-done h = absurd (let z : _≡_ {A = ℕ} 0 1 = cc in omega arith)
+
+module _ (b : Buffers) (rest : Answer) (n : ℕ) where
+  pub passed : onGood b rest .number ≡ pos n → Passes (b .disc) (b .area) × (rest .number ≡ pos n)
+  passed =
+      on-tests (λ a. a .number ≡ pos n → Passes (b .disc) (b .area) × (rest .number ≡ pos n)) b rest below-not-done below-not-done
+      below-not-done (λ p h. (p, h))
+
+  -- one test more, not refused by 0
+  pub passed-test : (test : Bool) (m : ℕ) → unless test (refused (suc m) b) rest .number ≡ pos n → (test ≡ true) × (rest .number ≡ pos n)
+  passed-test test m =
+      tried (λ a. a .number ≡ pos n → (test ≡ true) × (rest .number ≡ pos n)) b test (suc m) rest below-not-done (λ t h. (t, h))
