@@ -14,6 +14,8 @@ pub mod Operations
 pub mod Fields
 -- the demands, of every call
 pub mod Demands
+-- what every done call answers and leaves
+pub mod Done
 -- isolation: the events of a run, and what they leave of a process
 pub mod Traces
 -- the bench cases and the misreadings

@@ -5,14 +5,14 @@ use mathlib.Core.Bool.{true, false}
 use lib.Dec.{leb, ltb}
 use lib.IntN.{pos}
 use lib.ListN.{length}
-use Rattle.machine.specs.Answer.{Buffers, answer, refused, round, turn, turnedAnswer}
+use Rattle.machine.specs.Answer.{Answer, Buffers, answer, refused, round, turn, turnedAnswer}
 use Rattle.machine.specs.Area.{kernelOf}
 use Rattle.machine.specs.Limits.{roundRoom, slotCount, turnRoom}
 use Rattle.machine.specs.Operations.{slots, turnsOf}
 use Rattle.machine.specs.Refusals.{Passes}
 use Rattle.machine.specs.State.{isRunning, processAt}
 use Rattle.machine.specs.Turn.{turned}
-use Rattle.machine.proofs.Operations.Tests.{passed, passed-test}
+use Rattle.machine.proofs.Operations.Tests.{done-test, done-tests}
 
 -- a turn of a running slot is done, one of any other is refused by 16
 module _ (b : Buffers) (slot clock : ℕ) (passes : Passes (b .disc) (b .area)) (room : leb turnRoom (length (b .out)) ≡ true) where
@@ -36,6 +36,6 @@ round-done b clock passes room = rw (passes .sizes, passes .disc-good, passes .a
 pub round-passed : (b : Buffers) (clock n : ℕ) → answer (round clock) b .number ≡ pos n → Passes (b .disc) (b .area)
     × (leb roundRoom (length (b .out)) ≡ true)
 unfolding answer
-round-passed b clock n done =
-    let p = passed b _ n done in
-    (p .0, passed-test b _ n (leb roundRoom (length (b .out))) 3 (p .1) .0)
+round-passed b clock n =
+    let May : Answer → Type 0 = λ a. Passes (b .disc) (b .area) × (leb roundRoom (length (b .out)) ≡ true) in
+    done-tests May b n _ λ passes. done-test May b n (leb roundRoom (length (b .out))) 3 _ λ room h. (passes, room)

@@ -23,7 +23,7 @@ use Rattle.machine.proofs.Demands.GoodCalls.{good-back, passes-good, tu
 use Rattle.machine.proofs.Changes.LiveRecords.{running-live, within-local}
 use Rattle.machine.proofs.Demands.Rounds.{turn-running}
 use Rattle.machine.proofs.Changes.Slots.{live-inside}
-use Rattle.machine.proofs.Operations.Tests.{passed, passed-test}
+use Rattle.machine.proofs.Operations.Tests.{done-test, done-tests}
 use Rattle.machine.proofs.Operations.Turning.{SoundAt, turn-prints}
 
 module _ (b : Buffers) (slot clock : ℕ) (may : MayTurn b slot) where
@@ -71,11 +71,11 @@ module _ (b : Buffers) (slot clock : ℕ) (may : MayTurn b slot) where
 -- ---- a turn that is done has passed the tests
 pub turn-passed : (b : Buffers) (slot clock n : ℕ) → answer (turn slot clock) b .number ≡ pos n → MayTurn b slot
 unfolding answer
-turn-passed b slot clock n done =
-    let p = passed b _ n done in
-    let q = passed-test b _ n (leb turnRoom (length (b .out))) 3 (p .1) in
-    let r = passed-test b _ n (ltb slot slotCount && isRunning (processAt (stateOf b) slot)) 15 (q .1) .0 in
-    record { passes = p .0; room = q .0; low = and-left (ltb slot slotCount) _ r; running = and-right (ltb slot slotCount) _ r }
+turn-passed b slot clock n =
+    done-tests (λ a. MayTurn b slot) b n _ λ passes.
+    done-test (λ a. MayTurn b slot) b n (leb turnRoom (length (b .out))) 3 _ λ room.
+    done-test (λ a. MayTurn b slot) b n (ltb slot slotCount && isRunning (processAt (stateOf b) slot)) 15 _ λ may h.
+    record { passes = passes; room = room; low = and-left (ltb slot slotCount) _ may; running = and-right (ltb slot slotCount) _ may }
 
 pub turn-output-bound : (b : Buffers) (slot clock n : ℕ) → answer (turn slot clock) b .number ≡ pos n → n ≤ turnRoom
 turn-output-bound b slot clock n done =

@@ -28,13 +28,12 @@ module _ (P : Answer → Type 0) (b : Buffers) where
 pub below-not-done : {A : Type 0} {m n : ℕ} → negsuc m ≡ pos n → A
 below-not-done h = absurd (let z : _≡_ {A = ℕ} 0 1 = cc in omega arith)
 
-module _ (b : Buffers) (rest : Answer) (n : ℕ) where
-  pub passed : onGood b rest .number ≡ pos n → Passes (b .disc) (b .area) × (rest .number ≡ pos n)
-  passed =
-      on-tests (λ a. a .number ≡ pos n → Passes (b .disc) (b .area) × (rest .number ≡ pos n)) b rest below-not-done below-not-done
-      below-not-done (λ p h. (p, h))
+module _ (P : Answer → Type 0) (b : Buffers) (n : ℕ) where
+  abbrev IfDone : Answer → Type 0
+  IfDone a = a .number ≡ pos n → P a
 
-  -- one test more, not refused by 0
-  pub passed-test : (test : Bool) (m : ℕ) → unless test (refused (suc m) b) rest .number ≡ pos n → (test ≡ true) × (rest .number ≡ pos n)
-  passed-test test m =
-      tried (λ a. a .number ≡ pos n → (test ≡ true) × (rest .number ≡ pos n)) b test (suc m) rest below-not-done (λ t h. (t, h))
+  pub done-test : (test : Bool) (m : ℕ) (rest : Answer) → (test ≡ true → IfDone rest) → IfDone (unless test (refused (suc m) b) rest)
+  done-test test m rest h = tried IfDone b test (suc m) rest below-not-done h
+
+  pub done-tests : (rest : Answer) → (Passes (b .disc) (b .area) → IfDone rest) → IfDone (onGood b rest)
+  done-tests rest h = on-tests IfDone b rest below-not-done below-not-done below-not-done h
