@@ -1,46 +1,31 @@
 -- What is demanded of every call beyond its own answer, each in one statement. Demand 3 has a file of its own,
 -- Isolation.
-use Prim.Native.Nat.{ℕ, _≤_, _<_}
+use Prim.Native.Nat.{ℕ, _≤_}
 use mathlib.Core.Path.{_≡_}
 use mathlib.Core.Bool.{true, false, _&&_}
 use mathlib.Core.List.{List, []}
 use mathlib.Core.Logic.{_⊎_}
-use lib.Dec.{leb}
 use lib.IntN.{pos, negℤ}
 use lib.ListN.{length}
-use lib.Signed.{_<ℤ_}
 use Rattle.number.specs.declared.Number.{Number}
 use Rattle.store.specs.Directory.{fileCount, goodDisc, isDiscLength, taken, lookup}
 use Rattle.variable.specs.Table.{freed, isOf}
 use Rattle.buffer.specs.declared.Found.the-variants.{Nowhere}
 use Rattle.machine.specs.Answer.{Answer, Buffers, Call, Other, turn, round, command, run, other, store, retrieve}
-use Rattle.machine.specs.Answer.{erase, files, freeSpace, list, answer, bootAnswer, formatAnswer, refused}
+use Rattle.machine.specs.Answer.{erase, files, freeSpace, list, answer, bootAnswer, formatAnswer}
 use Rattle.machine.specs.Area.{AreBytes, Whole, isAreaLength, kernelOf}
 use Rattle.machine.specs.Beyond.{newFileSize}
 use Rattle.machine.specs.Effect.{asks, assigns, opens}
 use Rattle.machine.specs.Ending.{Ends, Touched}
-use Rattle.machine.specs.Limits.{areaLength, roundRoom, turnRoom}
+use Rattle.machine.specs.Limits.{areaLength, turnRoom}
 use Rattle.machine.specs.Turn.{effectAt}
 use Rattle.machine.specs.NoPlace.{Lacking, NewFileRefused, NoneFits}
-use Rattle.machine.specs.Refusals.{stateOf, MayTurn, Names, Passes}
+use Rattle.machine.specs.Refusals.{stateOf, MayTurn, Passes}
 use Rattle.machine.specs.Trace.{Invocation, IsItsEvents, Storage, afterCalls, events, lastStorage, lending}
 use Rattle.machine.specs.Trace.{outputText, tenSlots, turnEvents}
 use Rattle.machine.specs.State.{Local, isRunning, processAt}
 use Rattle.machine.specs.declared.Kernel.{Kernel}
 use Rattle.store.specs.Layout.{dataStart, maxFiles}
-
--- ---- refusals
-abbrev pub Unchanged : Answer → Buffers → Type 0
-Unchanged a b = (a .disc ≡ b .disc) × (a .area ≡ b .area) × (a .out ≡ b .out)
-
--- Document 01: "−n is refusal n with both buffers and the output unchanged". n is one that it names for that operation;
--- "format and boot try only 1".
-unfoldable pub RefusedUnchanged : Type 0
-RefusedUnchanged =
-    ((c : Call) (b : Buffers) → answer c b .number <ℤ pos 0 → Unchanged (answer c b) b
-    × ((n : ℕ) × Names c n × (answer c b .number ≡ negℤ (pos n))))
-    × ((b : Buffers) → formatAnswer b .number <ℤ pos 0 → formatAnswer b ≡ refused 1 b)
-    × ((b : Buffers) → bootAnswer b .number <ℤ pos 0 → bootAnswer b ≡ refused 1 b)
 
 -- ---- faults
 -- the state that the work area says after a turn
@@ -152,12 +137,6 @@ BytesKept = ((c : Call) (b : Buffers) → AreBytes (given c) → StaysBytes (ans
     × ((b : Buffers) → StaysBytes (bootAnswer b) b)
 
 -- ---- rounds
--- Document 01, Round: "needs 320 bytes"; lent them on good buffers it is done
-unfoldable pub RoundNeverRefused : Type 0
-RoundNeverRefused = (b : Buffers) (clock : ℕ) → Passes (b .disc) (b .area) → leb roundRoom (length (b .out)) ≡ true
-    → (n : ℕ)
-    × (answer (round clock) b .number ≡ pos n)
-
 -- Document 01: "a turn for slots 0 to 9, each if running when reached, under one clock reading, outputs joined". 1,056
 -- bytes are whole, and so is what every call leaves of them.
 unfoldable pub RoundIsTurns : Type 0

@@ -41,9 +41,6 @@ Writes n text b a = (a .number ≡ pos n) × (a .out ≡ overwrite (b .out) 0 te
 abbrev pub filesText : Buffers → List ℕ
 filesText b = flat fileLine (entries (b .disc))
 
-abbrev pub TurnDue : Type 0
-TurnDue = (b : Buffers) (slot clock : ℕ) → MayTurn b slot → (n : ℕ) × (answer (turn slot clock) b .number ≡ pos n)
-
 -- a good name and size, fewer than ten files, none of that name, a start that fits
 abbrev pub StoreDue : Type 0
 StoreDue =
@@ -113,5 +110,4 @@ CommandDue =
 -- Document 01, strictness c, shuts out refusals said too early, an invented free space and a store that declines
 -- everything
 unfoldable pub DoneWhenDue : Type 0
-DoneWhenDue = TurnDue × StoreDue × RetrieveDue × FilesDue × ListDue × RunDue × ForkDue × EraseDue × FreeSpaceDue
-    × CommandDue
+DoneWhenDue = StoreDue × RetrieveDue × FilesDue × ListDue × RunDue × ForkDue × EraseDue × FreeSpaceDue × CommandDue

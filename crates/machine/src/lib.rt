@@ -11,8 +11,7 @@ use store::layout::NAME_SIZE;
 use variable::Variables;
 ghost use Rattle.machine.specs.Cases.{Bench, Misreadings};
 ghost use Rattle.machine.specs.Demands.{BytesKept, EventsAreCalls, FaultTouchesOwn, GoodKept, LengthsKept};
-ghost use Rattle.machine.specs.Demands.{PlacesRefusedOnly, RefusedUnchanged, RoundIsTurns, RoundNeverRefused};
-ghost use Rattle.machine.specs.Demands.{TurnOutputBound};
+ghost use Rattle.machine.specs.Demands.{PlacesRefusedOnly, RoundIsTurns, TurnOutputBound};
 ghost use Rattle.machine.specs.Done.{DoneExactly};
 ghost use Rattle.machine.specs.Due.{DoneWhenDue};
 ghost use Rattle.machine.specs.Isolation.{Isolation};
@@ -66,11 +65,6 @@ pub fn isolation()
     ensures { λ _. ⌜ Isolation ⌝ }
 {}
 
-// A refused call changes no byte, and its number is one that document 01 names for that operation.
-pub fn refused_unchanged()
-    ensures { λ _. ⌜ RefusedUnchanged ⌝ }
-{}
-
 // Every call is refused by the first of document 01's tests that fails, and then changes no byte; if none fails it is
 // done.
 pub fn refused_exactly()
@@ -121,11 +115,6 @@ pub fn good_kept()
 // From buffers of bytes every call leaves buffers of bytes.
 pub fn bytes_kept()
     ensures { λ _. ⌜ BytesKept ⌝ }
-{}
-
-// A round lent 320 bytes on good buffers is never refused.
-pub fn round_never_refused()
-    ensures { λ _. ⌜ RoundNeverRefused ⌝ }
 {}
 
 // A done round is exactly its turns, in slot order, on the buffers as each finds them.

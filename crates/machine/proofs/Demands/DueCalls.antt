@@ -50,9 +50,6 @@ use Rattle.machine.specs.declared.Process.{Process}
 use Rattle.machine.proofs.Demands.GoodCalls.{on-good, good-back, passes-good, turn-good}
 use Rattle.machine.proofs.Demands.TurnCalls.{turn-done}
 
-pub turn-due : (b : Buffers) (slot clock : ℕ) → MayTurn b slot → (n : ℕ) × (answer (turn slot clock) b .number ≡ pos n)
-turn-due b slot clock may = (_, ap (λ (a : Answer). a .number) (turn-done b slot clock may))
-
 -- ---- files
 pub store-due : (b : Buffers) (name bytes : List ℕ) (start : ℕ) → Usable (b .disc)
     → goodName name ≡ true → goodSize (b .disc) (length bytes) ≡ true → fileCount (b .disc) < maxFiles → lookup (b .disc) name ≡ Nowhere

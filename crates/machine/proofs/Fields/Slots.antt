@@ -12,7 +12,8 @@ use Rattle.buffer.specs.Buffer.{part}
 use Rattle.buffer.specs.Lists.{tab}
 use Rattle.buffer.specs.declared.Found.the-variants.{At, Nowhere}
 use Rattle.buffer.proofs.Bools.{and-both, and-left, and-right, not-is-true, true-not-false}
-use Rattle.buffer.proofs.Disjunctions.{or-cases, or-first, or-second}
+use Rattle.buffer.proofs.Disjunctions.{any-is, or-cases, or-first, or-second}
+use Rattle.buffer.proofs.Kept.{any-at}
 use Rattle.buffer.proofs.Lists.{tab-at, tab-length, tab-same}
 use Rattle.buffer.proofs.Parts.{part-byte}
 use Rattle.buffer.proofs.Tables.{index-at, index-none}
@@ -26,7 +27,7 @@ use Rattle.machine.specs.Fields.{Ended, HasId, Live, Lowest, Uses, entry
 use Rattle.machine.specs.Fields.{recordStart, sizeOf, startOf, stateByte}
 use Rattle.machine.specs.GoodArea.{isOpenIn, isProgram}
 use Rattle.machine.specs.Limits.{areaLength, recordSize, slotCount}
-use Rattle.machine.specs.Operations.{uses}
+use Rattle.machine.specs.Operations.{inUse, uses}
 use Rattle.machine.specs.Refusals.{Passes}
 use Rattle.machine.specs.State.{endedSlot, isLive, noProcess, paused, processAt, running, slotOf}
 use Rattle.machine.specs.declared.Process.{Process}
@@ -203,3 +204,15 @@ module _ {disc area : List ℕ} (passes : Passes disc area) where
               start = open-start-is area i low ∙ s .0 ∙ sym (entry-start disc file);
               len = open-size-is area i low ∙ s .1 ∙ sym (entry-size disc file);
             })
+
+  pub in-use-is : (file : ℕ) → file < filesOn disc → inUse (kernelOf area) (entryAt disc file) ≡ true → (i : ℕ) × Uses disc area file i
+  unfolding inUse
+  in-use-is file counted t =
+      let f = any-is (uses (entryAt disc file)) noProcess (kernelOf area .processes) t in
+      (f .place, uses-is file (f .place) counted (f .holds))
+
+  pub is-in-use : (file i : ℕ) → file < filesOn disc → Uses disc area file i → inUse (kernelOf area) (entryAt disc file) ≡ true
+  unfolding inUse
+  is-in-use file i counted u =
+      any-at (uses (entryAt disc file)) (kernelOf area .processes) i noProcess (omega (arith, u .live .slot, slots-length area))
+      (is-uses file i counted u)
