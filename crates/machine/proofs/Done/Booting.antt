@@ -1,12 +1,10 @@
 -- Boot and format that are done: the zeros that they leave, and next ID 1.
-use Prim.Native.Nat.{ℕ}
 use mathlib.Core.Path.{_≡_, refl, _∙_}
 use mathlib.Core.Bool.{_&&_}
-use lib.IntN.{pos}
 use lib.ListN.{length, replicate}
 use lib.Seq.{getD-set-other}
 use Rattle.store.specs.Directory.{isDiscLength}
-use Rattle.machine.specs.Answer.{Answer, bootAnswer, booted, formatAnswer}
+use Rattle.machine.specs.Answer.{bootAnswer, booted, formatAnswer}
 use Rattle.machine.specs.Area.{isAreaLength}
 use Rattle.machine.specs.Done.{BootDone, Booted, FormatDone, Zeroed}
 use Rattle.machine.specs.Limits.{areaLength, nextAt}

@@ -1,5 +1,5 @@
 -- Run, list and the commands that are done: what they answer and leave.
-use Prim.Native.Nat.{ℕ, _+_}
+use Prim.Native.Nat.{ℕ}
 use mathlib.Core.Path.{_≡_, refl, ap, _∙_, subst, subst⁻¹}
 use mathlib.Core.Bool.{Bool, true, false, cond}
 use mathlib.Core.List.{List}
@@ -21,7 +21,7 @@ use Rattle.machine.specs.Refusals.{Passes, stateOf}
 use Rattle.machine.specs.Start.{started, startIn, starting, starts}
 use Rattle.machine.specs.State.{ended, endedSlot, paused, processAt, running, slotOf, withProcess, withState}
 use Rattle.machine.specs.declared.Kernel.{Kernel}
-use Rattle.machine.proofs.Changes.Change.{GoodState, begins}
+use Rattle.machine.proofs.Changes.Change.{begins}
 use Rattle.machine.proofs.Changes.Replaced.{put-at}
 use Rattle.machine.proofs.Changes.Slots.{slot-at}
 use Rattle.machine.proofs.Demands.Faulting.{ended-touches}
