@@ -48,7 +48,8 @@ written false m n out after h = below-not-done h
 
 pub retrieve-done : RetrieveDone
 unfolding answer otherAnswer retrieveAnswer
-retrieve-done b name n = by-checks (b .disc) Retrieved _ _ (λ e. below-not-done) (λ e. below-not-done) (λ l g. found (lookup (b .disc) name) refl)
+retrieve-done b name n =
+    by-checks (b .disc) Retrieved _ _ (λ e. below-not-done) (λ e. below-not-done) (λ l g. found (lookup (b .disc) name) refl)
   where
     Retrieved : Reported → Type 0
     Retrieved r =

@@ -16,7 +16,8 @@ use Rattle.machine.specs.Changed.{Starts}
 use Rattle.machine.specs.Done.{CommandDone, Commanded, ListDone, RunDone}
 use Rattle.machine.specs.Fields.{HasId, nextId}
 use Rattle.machine.specs.Limits.{idLimit}
-use Rattle.machine.specs.Operations.{Commanded as Outcome, Command, becomes, refused, suspend, resume, kill, changed, commandAt, commanded, listText}
+use Rattle.machine.specs.Operations.{Command, becomes, refused, suspend, resume, kill, changed, commandAt, commanded, listText}
+use Rattle.machine.specs.Operations.{Commanded as Outcome}
 use Rattle.machine.specs.Refusals.{Passes, stateOf}
 use Rattle.machine.specs.Start.{started, startIn, starting, starts}
 use Rattle.machine.specs.State.{ended, endedSlot, paused, processAt, running, slotOf, withProcess, withState}
@@ -38,8 +39,7 @@ use Rattle.machine.proofs.Operations.Tests.{below-not-done, done-test, 
 pub run-done : RunDone
 unfolding answer starting kernelOf
 run-done b name n =
-    done-tests Ran b n _ λ passes.
-    go passes (endedSlot k) refl (lookup (b .disc) name) refl (eqb (k .next) idLimit) refl
+    done-tests Ran b n _ λ passes. go passes (endedSlot k) refl (lookup (b .disc) name) refl (eqb (k .next) idLimit) refl
   where
     k : Kernel
     k = stateOf b
