@@ -12,6 +12,8 @@ pub mod Kept
 pub mod Operations
 -- the demands, of every call
 pub mod Demands
+-- the instructions that reach beyond their process, exactly
+pub mod Reaching
 -- isolation: the events of a run, and what they leave of a process
 pub mod Traces
 -- the bench cases and the misreadings

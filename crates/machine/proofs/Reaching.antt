@@ -1,0 +1,4 @@
+-- The instructions that reach beyond their process, exactly.
+pub mod Tops
+pub mod Finding
+pub mod Going
