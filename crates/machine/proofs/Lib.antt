@@ -10,6 +10,8 @@ pub mod Changes
 pub mod Kept
 -- every operation is a change
 pub mod Operations
+-- what disc and work area say, in the words of the demands
+pub mod Fields
 -- the demands, of every call
 pub mod Demands
 -- the instructions that reach beyond their process, exactly
