@@ -2,3 +2,4 @@
 pub mod Tops
 pub mod Finding
 pub mod Going
+pub mod Setting

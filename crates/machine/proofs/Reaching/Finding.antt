@@ -65,11 +65,12 @@ module _ (b : Buffers) (slot clock : ℕ) where
   -- ---- SET
   pub set-found : (rest : List ℕ) (kind : ℕ) (bytes : List ℕ) → AtPc b slot 5 → pc + 1 < processIn b slot .code .len
       → ValueOnTop (stackIn b slot) rest kind bytes
-      → Does (assigns (byteAhead b slot 1) kind bytes (at (pc + 1 + 1) rest))
+      → Does (assigns (byteAhead b slot 1) kind bytes (at (pc + 2) rest))
   unfolding instructionOf operatorOf lookup find performs
   set-found rest kind bytes a more top =
+      let behind : pc + 1 + 1 ≡ pc + 2 = omega arith in
       at-performs a SetVariable refl
-      ∙ rw (le-leb (pc + 1 + 1) (length prog) (omega (arith, code-length a, more)), value-top top, code-byte a 1 more)
+      ∙ rw (behind, le-leb (pc + 2) (length prog) (omega (arith, code-length a, more)), value-top top, code-byte a 1 more)
 
   -- ---- the instructions that ask
   pub open-found : (below rest text : List ℕ) (kind : ℕ) (bytes : List ℕ) → AtPc b slot 53
