@@ -3,3 +3,6 @@ pub mod Tops
 pub mod Finding
 pub mod Going
 pub mod Setting
+pub mod Entering
+pub mod Opening
+pub mod FileBytes

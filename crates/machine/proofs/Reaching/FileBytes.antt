@@ -1,0 +1,1 @@
+-- WRITE and the READs: the bytes of the open file from its offset on.
