@@ -6,3 +6,5 @@ pub mod Setting
 pub mod Entering
 pub mod Opening
 pub mod FileBytes
+pub mod Forking
+pub mod Waiting
