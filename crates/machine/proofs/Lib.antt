@@ -16,6 +16,8 @@ pub mod Fields
 pub mod Demands
 -- what every done call answers and leaves
 pub mod Done
+-- the instructions that reach beyond their process, exactly
+pub mod Reaching
 -- isolation: the events of a run, and what they leave of a process
 pub mod Traces
 -- the bench cases and the misreadings

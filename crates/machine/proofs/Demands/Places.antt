@@ -97,7 +97,7 @@ module _ (k : Kernel) (slot : ℕ) (h : isRunning (processAt k slot) ≡ true) w
         × NewFileRefused disc name (newFileSize disc size)
     unfolding turned carriedOut
     turn-open-refused long good name size l e ends =
-        open-cases k slot disc name l long good size
+        open-cases disc name long good k slot l size
         (λ a. isRunning (processAt (answering k slot disc a .kernel) slot) ≡ false → (lookup disc name ≡ Nowhere)
         × NewFileRefused disc name (newFileSize disc size))
         (λ f after r. absurd (true-not-false (still-running (withFile (withLocal (processAt k slot) l) f) h) r))

@@ -1,0 +1,1 @@
+-- WAITUNTILDONE: it stays while a live process has that ID.
