@@ -29,7 +29,7 @@ use Rattle.machine.proofs.Demands.Faulting.{ended-touches}
 use Rattle.machine.proofs.Demands.GoodCalls.{good-back, passes-good}
 use Rattle.machine.proofs.Done.Starting.{starting-starts}
 use Rattle.machine.proofs.Fields.Listings.{list-text}
-use Rattle.machine.proofs.Fields.Slots.{slot-has-id}
+use Rattle.machine.proofs.Fields.Slots.{next-is, slot-has-id}
 use Rattle.machine.proofs.Kept.Begins.{started-new, starting-begins}
 use Rattle.machine.proofs.Kept.OutsideKept.{outside-good}
 use Rattle.machine.proofs.Kept.OwnKept.{own-good}
@@ -37,7 +37,7 @@ use Rattle.machine.proofs.Operations.Commanding.{command-own}
 use Rattle.machine.proofs.Operations.Tests.{below-not-done, done-test, done-tests}
 
 pub run-done : RunDone
-unfolding answer starting kernelOf
+unfolding answer starting
 run-done b name n =
     done-tests Ran b n _ λ passes. go passes (endedSlot k) refl (lookup (b .disc) name) refl (eqb (k .next) idLimit) refl
   where
@@ -58,7 +58,7 @@ run-done b name n =
         let new = started-new (starting-begins name k (b .disc) slot _ begun) in
         let begins-it = starting-starts passes name slot _ (started k slot _) begun refl new in
         let id : n ≡ k .next = cc in
-        (id, (slot, subst⁻¹ (Starts (b .disc) (b .area) name slot) (good-back _ _ good) begins-it))
+        (id ∙ next-is (b .area), (slot, subst⁻¹ (Starts (b .disc) (b .area) name slot) (good-back _ _ good) begins-it))
 
 pub list-done : ListDone
 unfolding answer otherAnswer
