@@ -8,3 +8,4 @@ pub mod Opening
 pub mod FileBytes
 pub mod Forking
 pub mod Waiting
+pub mod Bounding
