@@ -7,3 +7,4 @@ pub mod Opening
 pub mod FileBytes
 pub mod Forking
 pub mod Waiting
+pub mod Bounding
