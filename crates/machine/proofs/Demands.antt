@@ -10,5 +10,4 @@ pub mod GoodCalls
 pub mod Booted
 pub mod TurnCalls
 pub mod EndFaults
-pub mod DueCalls
 pub mod Lengths

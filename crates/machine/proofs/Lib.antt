@@ -14,6 +14,10 @@ pub mod Operations
 pub mod Fields
 -- the demands, of every call
 pub mod Demands
+-- what every done call answers and leaves
+pub mod Done
+-- the instructions that reach beyond their process, exactly
+pub mod Reaching
 -- bytes stay bytes
 pub mod InBytes
 -- isolation: the events of a run, and what they leave of a process

@@ -5,10 +5,10 @@ use mathlib.Core.Path.{_≡_}
 use mathlib.Core.Bool.{true, false, _&&_}
 use mathlib.Core.List.{List, []}
 use mathlib.Core.Logic.{_⊎_}
-use lib.IntN.{pos, negℤ}
+use lib.IntN.{pos}
 use lib.ListN.{length}
 use Rattle.number.specs.declared.Number.{Number}
-use Rattle.store.specs.Directory.{fileCount, goodDisc, isDiscLength, taken, lookup}
+use Rattle.store.specs.Directory.{goodDisc, isDiscLength, lookup}
 use Rattle.variable.specs.Table.{freed, isOf}
 use Rattle.buffer.specs.declared.Found.the-variants.{Nowhere}
 use Rattle.machine.specs.Answer.{Answer, Buffers, Call, Other, turn, round, command, run, other, store, retrieve}
@@ -19,13 +19,12 @@ use Rattle.machine.specs.Effect.{asks, assigns, opens}
 use Rattle.machine.specs.Ending.{Ends, Touched}
 use Rattle.machine.specs.Limits.{areaLength, turnRoom}
 use Rattle.machine.specs.Turn.{effectAt}
-use Rattle.machine.specs.NoPlace.{Lacking, NewFileRefused, NoneFits}
+use Rattle.machine.specs.NoPlace.{Lacking, NewFileRefused}
 use Rattle.machine.specs.Refusals.{stateOf, MayTurn, Passes}
 use Rattle.machine.specs.Trace.{Invocation, IsItsEvents, Storage, afterCalls, events, lastStorage, lending}
 use Rattle.machine.specs.Trace.{outputText, tenSlots, turnEvents}
 use Rattle.machine.specs.State.{Local, isRunning, processAt}
 use Rattle.machine.specs.declared.Kernel.{Kernel}
-use Rattle.store.specs.Layout.{dataStart, maxFiles}
 
 -- ---- faults
 -- the state that the work area says after a turn
@@ -46,16 +45,6 @@ FaultTouchesOwn =
     ⊎ (isRunning (processAt (turnedState b slot clock) slot) ≡ true))
 
 -- ---- places
--- Document 01, store: "8 ten files already"
-abbrev pub StoreFull : Type 0
-StoreFull = (b : Buffers) (name bytes : List ℕ) → answer (other (store name bytes)) b .number ≡ negℤ (pos 8)
-    → fileCount (b .disc) ≡ maxFiles
-
--- Document 01, store: "9 no free run long enough"
-abbrev pub StoreNoRun : Type 0
-StoreNoRun = (b : Buffers) (name bytes : List ℕ) → answer (other (store name bytes)) b .number ≡ negℤ (pos 9)
-    → NoneFits (taken (b .disc)) dataStart (length (b .disc)) (length bytes)
-
 -- after its turn the process runs no more, and its record has that fault
 abbrev pub EndsWith : Buffers → ℕ → ℕ → ℕ → Type 0
 EndsWith b slot clock n = (isRunning (processAt (turnedState b slot clock) slot) ≡ false)
@@ -82,7 +71,7 @@ OpenRefused =
 -- a place is refused only where there is none: document 01, strictness c, shuts out a "no run" or a "table full" "said
 -- too early"
 unfoldable pub PlacesRefusedOnly : Type 0
-PlacesRefusedOnly = StoreFull × StoreNoRun × SetNoPlace × OpenRefused
+PlacesRefusedOnly = SetNoPlace × OpenRefused
 
 -- ---- lengths
 abbrev pub SameLengths : Answer → Buffers → Type 0

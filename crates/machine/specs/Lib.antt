@@ -27,7 +27,6 @@ pub mod Tests
 pub mod Refusals
 pub mod Ending
 pub mod NoPlace
-pub mod Due
 pub mod Demands
 pub mod AtPc
 pub mod Changed

@@ -1,7 +1,7 @@
--- The tests that an operation on both buffers makes first, and those of a turn and a command.
+-- The tests that an operation on both buffers makes first, and those of a turn.
 use Prim.Native.Nat.{ℕ}
 use mathlib.Core.Path.{_≡_}
-use mathlib.Core.Bool.{Bool, true, _&&_, not}
+use mathlib.Core.Bool.{true, _&&_}
 use mathlib.Core.List.{List}
 use lib.Dec.{leb, ltb}
 use lib.ListN.{length}
@@ -9,9 +9,7 @@ use Rattle.store.specs.Directory.{goodDisc, isDiscLength}
 use Rattle.machine.specs.Answer.{Buffers, goodArea}
 use Rattle.machine.specs.Area.{isAreaLength, kernelOf}
 use Rattle.machine.specs.Limits.{slotCount, turnRoom}
-use Rattle.machine.specs.Operations.{Command, suspend, resume, kill}
 use Rattle.machine.specs.State.{isRunning, processAt}
-use Rattle.machine.specs.declared.Process.{Process}
 use Rattle.machine.specs.declared.Kernel.{Kernel}
 
 -- Document 01: "1: a buffer has the wrong length. 2: disc not good. 3: work area not good." None of them holds.
@@ -30,9 +28,3 @@ pub record MayTurn (b : Buffers) (slot : ℕ) : Type 0 where
   pub room : leb turnRoom (length (b .out)) ≡ true
   pub low : ltb slot slotCount ≡ true
   pub running : isRunning (processAt (kernelOf (b .area)) slot) ≡ true
-
--- of a live process: the command is not refused by 15. Kill never is.
-abbrev pub takes : Command → Process → Bool
-takes suspend p = isRunning p
-takes resume p = not (isRunning p)
-takes kill p = true

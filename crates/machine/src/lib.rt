@@ -13,7 +13,6 @@ ghost use Rattle.machine.specs.Cases.{Bench, Misreadings};
 ghost use Rattle.machine.specs.Demands.{BytesKept, EventsAreCalls, FaultTouchesOwn, GoodKept, LengthsKept};
 ghost use Rattle.machine.specs.Demands.{PlacesRefusedOnly, RoundIsTurns, TurnOutputBound};
 ghost use Rattle.machine.specs.Done.{DoneExactly};
-ghost use Rattle.machine.specs.Due.{DoneWhenDue};
 ghost use Rattle.machine.specs.Isolation.{Isolation};
 ghost use Rattle.machine.specs.LeftAlone.{LeavesAlone};
 ghost use Rattle.machine.specs.Reaching.{ReachesExactly};
@@ -76,8 +75,8 @@ pub fn fault_touches_own()
     ensures { λ _. ⌜ FaultTouchesOwn ⌝ }
 {}
 
-// A place is refused only when its table is full or no run of free bytes is long enough; to OPEN's new file also by
-// name or size.
+// A SET or an OPEN's new file lacks a place only when its table is full or no run of free bytes is long enough; the new
+// file also by name or size.
 pub fn places_refused_only()
     ensures { λ _. ⌜ PlacesRefusedOnly ⌝ }
 {}
@@ -85,11 +84,6 @@ pub fn places_refused_only()
 // SET, the file instructions, FORK and WAITUNTILDONE: what is due is done, and which fault comes of what.
 pub fn reaches_exactly()
     ensures { λ _. ⌜ ReachesExactly ⌝ }
-{}
-
-// A call that no refusal speaks against is done, and free space is what a file may have.
-pub fn done_when_due()
-    ensures { λ _. ⌜ DoneWhenDue ⌝ }
 {}
 
 // What a done call answers and leaves, byte by byte.

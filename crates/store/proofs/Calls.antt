@@ -1,5 +1,5 @@
 -- The calls as a whole: a refused one changes nothing, why store is refused, and what free space says.
-use Prim.Native.Nat.{ℕ, _≤_, _<_}
+use Prim.Native.Nat.{ℕ, _<_}
 use mathlib.Core.Path.{_≡_, refl, sym, ap, _∙_, subst}
 use mathlib.Core.Bool.{Bool, true, false}
 use mathlib.Core.List.{List, [], _∷_}
@@ -13,22 +13,21 @@ use Rattle.buffer.specs.Lists.{flat}
 use Rattle.buffer.specs.declared.Found.{Found}
 use Rattle.buffer.specs.declared.Found.the-variants.{At, Nowhere}
 use Rattle.buffer.proofs.Bools.{true-not-false}
-use Rattle.place.specs.Place.{fits, isAt, longest, runFrom}
+use Rattle.place.specs.Place.{isAt, longest, runFrom}
 use Rattle.place.proofs.Place.{longest-fits, longest-most}
 use Rattle.store.specs.Answer.{Reported, Updated, answerNumber, fileLine, filesAnswer, freeSpaceAnswer}
 use Rattle.store.specs.Answer.{refusalNumber, reported, retrieveAnswer, retrieveAt, storeAnswer, storeAt, updated}
-use Rattle.store.specs.Directory.{contents, entryAt, fileCount, files, goodDisc, isDiscLength, lookup, runOf, taken}
+use Rattle.store.specs.Directory.{contents, entryAt, files, goodDisc, isDiscLength, lookup, runOf, taken}
 use Rattle.store.specs.File.{admission, entered, placeOf, unless, writtenAt}
-use Rattle.store.specs.Layout.{dataStart, maxFiles}
+use Rattle.store.specs.Layout.{dataStart}
 use Rattle.store.specs.declared.Admission.{Admission}
 use Rattle.store.specs.declared.Admission.the-variants.{Start, Denied}
 use Rattle.store.specs.declared.Answer.the-variants.{Done, Refused}
 use Rattle.store.specs.declared.Refusal.{Refusal}
 use Rattle.store.specs.declared.Refusal.the-variants.{WrongLength, BadDisc, ShortOutput, BadName, BadSize, NameExists, DirectoryFull}
 use Rattle.store.specs.declared.Refusal.the-variants.{NoRun, NoSuchFile}
-use Rattle.store.proofs.Checks.{by-checks, disc-length-is, is-usable}
+use Rattle.store.proofs.Checks.{by-checks, disc-length-is}
 use Rattle.store.proofs.Admissions.{Admitted, Denial, admitted, denied}
-use Rattle.store.proofs.Goodness.{good-disc-is}
 
 -- ---- numbers
 -- the refusals by their numbers
@@ -137,23 +136,6 @@ store-refused-by disc name bytes =
     × Denial disc name (length bytes) r)
     (λ r d h. (r, refl, d))
     (λ s l g a h. absurd (done-not-below 0 h))
-
--- on a good disc of the right length nothing but the admission is asked
-pub store-admission : (disc name bytes : List ℕ) → isDiscLength (length disc) ≡ true → goodDisc disc ≡ true
-    → storeAnswer disc name bytes ≡ storeAt (admission disc name (length bytes)) disc name bytes
-unfolding storeAnswer
-store-admission disc name bytes l g = rw (is-usable disc l g)
-
--- refusal 8 only with ten files, refusal 9 only where no start fits
-pub store-refused-full : (disc name bytes : List ℕ) → goodDisc disc ≡ true → storeAnswer disc name bytes .number ≡ negℤ (pos 8)
-    → fileCount disc ≡ maxFiles
-store-refused-full disc name bytes good e =
-    let full : maxFiles ≤ fileCount disc = store-refused-for disc name bytes DirectoryFull e in
-    omega (arith, good-disc-is disc good .few)
-
-pub store-refused-no-run : (disc name bytes : List ℕ) → storeAnswer disc name bytes .number ≡ negℤ (pos 9) → (s : ℕ)
-    → fits (taken disc) dataStart (length disc) (length bytes) s ≡ false
-store-refused-no-run disc name bytes e = store-refused-for disc name bytes NoRun e
 
 -- ---- free space
 module _ (disc : List ℕ) (n : ℕ) where

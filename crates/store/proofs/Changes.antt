@@ -12,8 +12,8 @@ use Rattle.buffer.specs.Buffer.{overwrite, part}
 use Rattle.buffer.specs.Lists.{tab, without}
 use Rattle.buffer.proofs.Buffer.{overwrite-drop, overwrite-length, overwrite-take}
 use Rattle.buffer.proofs.Lists.{tab-more, tab-same}
-use Rattle.buffer.proofs.Parts.{byte-before, byte-behind, byte-inside, part-before, part-inside, part-length, part-of-append-left}
-use Rattle.buffer.proofs.Parts.{part-of-append-right, part-of-part, same-part}
+use Rattle.buffer.proofs.Parts.{byte-before, byte-behind, byte-inside, byte-of-part, part-before, part-inside, part-length}
+use Rattle.buffer.proofs.Parts.{part-of-append-left, part-of-append-right, part-of-part, same-part}
 use Rattle.buffer.proofs.Tables.{tab-without}
 use Rattle.place.specs.declared.Run.{Run}
 use Rattle.store.specs.Directory.{entryAt, entryBytes, fileCount, files}
@@ -161,17 +161,28 @@ module _ {disc : List ℕ} {i : ℕ} (file : Present disc i) where
       ∙ part-before disc (later ++ replicate entrySize 0) (i * entrySize) (omega (arith, moved-length)) (j * entrySize) entrySize
       (omega arith))
 
-  pub erased-later : (j : ℕ) → i ≤ j → j < fileCount disc - 1 → entryAt (erased disc i) j ≡ entryAt disc (suc j)
+  -- what lay behind the erased entry lies sixteen bytes before where it was
+  moved-up : (at n : ℕ) → i * entrySize ≤ at → at + n ≤ (fileCount disc - 1) * entrySize
+      → part (erased disc i) at n ≡ part disc (at + entrySize) n
   unfolding later
+  moved-up at n a b =
+      let p : i * entrySize + (at - i * entrySize) ≡ at = omega arith in
+      let q : i * entrySize + entrySize + (at - i * entrySize) ≡ at + entrySize = omega arith in
+      ap (λ (x : ℕ). part (erased disc i) x n) (sym p)
+      ∙ moved (at - i * entrySize) n (omega arith)
+      ∙ part-of-append-left later (replicate entrySize 0) (at - i * entrySize) n (omega (arith, later-length))
+      ∙ part-of-part disc (i * entrySize + entrySize) ((fileCount disc - 1 - i) * entrySize) (at - i * entrySize) n (omega arith)
+      ∙ ap (λ (x : ℕ). part disc x n) q
+
+  pub erased-moved : (j : ℕ) → i * entrySize ≤ j → j < (fileCount disc - 1) * entrySize
+      → getD (erased disc i) j 0 ≡ getD disc (j + entrySize) 0
+  erased-moved j a b = byte-of-part (erased disc i) disc j (j + entrySize) (moved-up j 1 a (omega arith))
+
+  pub erased-later : (j : ℕ) → i ≤ j → j < fileCount disc - 1 → entryAt (erased disc i) j ≡ entryAt disc (suc j)
   erased-later j a b =
-      let p : i * entrySize + (j - i) * entrySize ≡ j * entrySize = omega arith in
-      let q : i * entrySize + entrySize + (j - i) * entrySize ≡ suc j * entrySize = omega arith in
+      let q : j * entrySize + entrySize ≡ suc j * entrySize = omega arith in
       same-entry (erased disc i) disc j (suc j)
-      (ap (λ (x : ℕ). part (erased disc i) x entrySize) (sym p)
-      ∙ moved ((j - i) * entrySize) entrySize (omega arith)
-      ∙ part-of-append-left later (replicate entrySize 0) ((j - i) * entrySize) entrySize (omega (arith, later-length))
-      ∙ part-of-part disc (i * entrySize + entrySize) ((fileCount disc - 1 - i) * entrySize) ((j - i) * entrySize) entrySize (omega arith)
-      ∙ ap (λ (x : ℕ). part disc x entrySize) q)
+      (moved-up (j * entrySize) entrySize (omega arith) (omega arith) ∙ ap (λ (x : ℕ). part disc x entrySize) q)
 
   -- what stands in the directory then stood there before, at another place than i; and what stood there still stands there
   pub erased-from : (k : ℕ) → k < fileCount disc - 1 → (j : ℕ) × (j < fileCount disc) × (j ≡ i → ⊥)
@@ -226,3 +237,10 @@ module _ {disc : List ℕ} {run : Run} {offset : ℕ} (bytes : List ℕ) (inside
   pub written-entry : (i : ℕ) → i < maxFiles → entryAt (writtenAt disc run offset bytes) i ≡ entryAt disc i
   written-entry i h = same-entry (writtenAt disc run offset bytes) disc i i
       (same-part (writtenAt disc run offset bytes) disc dataStart (i * entrySize) entrySize written-directory (omega arith))
+
+  pub written-byte : (i : ℕ) → (i < run .start) ⊎ (run .start + run .len ≤ i) → getD (writtenAt disc run offset bytes) i 0 ≡ getD disc i 0
+  unfolding writtenAt
+  written-byte i o =
+      let h : run .start + offset + length bytes ≤ length disc = omega arith in
+      ⊎-elim (λ (k : i < run .start). byte-before disc bytes (run .start + offset) h i (omega arith))
+      (λ (k : run .start + run .len ≤ i). byte-behind disc bytes (run .start + offset) h i (omega arith)) o

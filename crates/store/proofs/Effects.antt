@@ -1,12 +1,13 @@
 -- What store leaves: a good disc, every other file as it was, and the new file under its name with its data.
-use Prim.Native.Nat.{ℕ, _≤_, _<_}
+use Prim.Native.Nat.{ℕ, _+_, _*_, _≤_, _<_}
 use mathlib.Core.Path.{_≡_, refl, sym, ap, _∙_}
 use mathlib.Core.Bool.{true}
 use mathlib.Core.List.{List}
+use mathlib.Core.Logic.{_⊎_}
 use native.Mathlib.Nat.{add-zero}
 use native.Mathlib.Omega.{arith}
 use lib.IntN.{pos}
-use lib.ListN.{length}
+use lib.ListN.{length, getD}
 use borrow.Author.Tests.{le-leb}
 use Rattle.buffer.specs.Buffer.{overwrite, part}
 use Rattle.buffer.specs.declared.Found.the-variants.{At}
@@ -16,12 +17,14 @@ use Rattle.place.proofs.Place.{apart-sym}
 use Rattle.store.specs.Answer.{reported, retrieveAnswer, storeAnswer}
 use Rattle.store.specs.Directory.{contents, entryAt, fileCount, goodDisc, lookup, runOf}
 use Rattle.store.specs.File.{entered, newEntry, readAt}
+use Rattle.store.specs.Layout.{countAt, entrySize}
 use Rattle.store.specs.declared.Answer.the-variants.{Done}
 use Rattle.store.specs.declared.Entry.{Entry}
 use Rattle.store.proofs.Admissions.{Admitted}
 use Rattle.store.proofs.Checks.{is-usable}
 use Rattle.store.proofs.Calls.{refused-not-done, store-cases, stored}
-use Rattle.store.proofs.Changes.{Inside, entered-length, entered-new, entered-old, written-entry, written-length}
+use Rattle.store.proofs.Changes.{Inside, entered-byte, entered-count, entered-length, entered-new, entered-old, written-byte}
+use Rattle.store.proofs.Changes.{written-count, written-entry, written-length}
 use Rattle.store.proofs.Contents.{entered-contents, written-elsewhere, written-read}
 use Rattle.store.proofs.Goodness.{good-entry-at}
 use Rattle.store.proofs.Invariant.{entered-good, new-entry-beside, room, written-good}
@@ -57,6 +60,15 @@ module _ {disc name : List ℕ} {s : ℕ} (bytes : List ℕ) (good : goodDisc di
       ap (λ (k : ℕ). part (stored disc name bytes s) k (length bytes)) (sym (add-zero s))
       ∙ sym (part-of-part (stored disc name bytes s) s (length bytes) 0 (length bytes) (omega arith))
       ∙ written-read bytes inside
+
+  pub stored-count : fileCount (stored disc name bytes s) ≡ fileCount disc + 1
+  stored-count = written-count bytes inside ∙ entered-count (length bytes) s (room a)
+
+  -- every byte but the new entry's sixteen, the count and the data is as it was
+  pub stored-byte : (i : ℕ) → (i ≡ countAt → ⊥) → (i < fileCount disc * entrySize) ⊎ (fileCount disc * entrySize + entrySize ≤ i)
+      → (i < s) ⊎ (s + length bytes ≤ i)
+      → getD (stored disc name bytes s) i 0 ≡ getD disc i 0
+  stored-byte i k e o = written-byte bytes inside i o ∙ entered-byte (length bytes) s (room a) i e k
 
   -- the files that were there
   pub stored-still-found : (other : List ℕ) (i : ℕ) → lookup disc other ≡ At i → lookup (stored disc name bytes s) other ≡ At i

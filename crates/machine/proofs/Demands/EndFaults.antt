@@ -29,10 +29,11 @@ use Rattle.machine.proofs.Demands.Places.{turn-open-refused, turn-set-l
 use Rattle.machine.proofs.Demands.TurnCalls.{ended-only, ends-or-runs, state-after}
 
 module _ (b : Buffers) (slot clock : ℕ) (may : MayTurn b slot) where
-  abbrev EndsBy : ℕ → Type 0
+  abbrev pub EndsBy : ℕ → Type 0
   EndsBy n = Ends (stateOf b) slot clock (b .disc) n
 
-  ended-by : (n : ℕ) → EndsWith b slot clock n → EndsBy n
+  -- what ended it, from what the turn leaves
+  pub ended-by : (n : ℕ) → EndsWith b slot clock n → EndsBy n
   ended-by n h = go (ends-or-runs b slot clock may)
     where
       go : ((m : ℕ) × EndsBy m) ⊎ (isRunning (processAt (turnedState b slot clock) slot) ≡ true) → EndsBy n

@@ -62,8 +62,7 @@ size-within max n (Float x) e = float-within x e
     float-within (inf s) e = absurd (let x : _≡_ {A = ℕ} 0 1 = cc in omega arith)
     float-within (fin s m e) h = sized-within max n (signed s (m * up e / down e)) h
 
-module _ (k : Kernel) (slot : ℕ) (disc name : List ℕ) (l : Local) (long : isDiscLength (length disc) ≡ true)
-    (good : goodDisc disc ≡ true) where
+module _ (disc name : List ℕ) (long : isDiscLength (length disc) ≡ true) (good : goodDisc disc ≡ true) where
   -- a file of that name would have been opened, so that it exists is no reason
   denial-refuses : (n : ℕ) (size : Size) → size ≡ Is n → goodSize disc n ≡ true → lookup disc name ≡ Nowhere → (r : Refusal)
       → admission disc name n ≡ Denied r → Denial disc name n r → NewFileRefused disc name size
@@ -78,19 +77,23 @@ module _ (k : Kernel) (slot : ℕ) (disc name : List ℕ) (l : Local) (long : is
   denial-refuses n size e fit new ShortOutput a d = absurd d
   denial-refuses n size e fit new NoSuchFile a d = absurd d
 
+  pub new-file-refused : (size : Number) (n : ℕ) → newFileSize disc size ≡ Is n → lookup disc name ≡ Nowhere → (r : Refusal)
+      → admission disc name n ≡ Denied r → NewFileRefused disc name (newFileSize disc size)
+  new-file-refused size n e new r a =
+      denial-refuses n _ e (size-within (length disc - dataStart) n size e) new r a (denied disc name n r a)
+
   -- OPEN goes on with some file, or its new file is refused, which is fault 13
-  pub open-cases : (size : Number) (P : Answered → Type 0)
+  pub open-cases : (k : Kernel) (slot : ℕ) (l : Local) (size : Number) (P : Answered → Type 0)
       → ((f : OpenFile) (after : List ℕ) → P (continues k slot disc l f after))
       → (lookup disc name ≡ Nowhere → NewFileRefused disc name (newFileSize disc size) → P (breaks 13))
       → P (answered k slot disc (opens name size l))
   unfolding answered
-  open-cases size P goes refused = found (lookup disc name) refl
+  open-cases k slot l size P goes refused = found (lookup disc name) refl
     where
       create : lookup disc name ≡ Nowhere → (n : ℕ) → newFileSize disc size ≡ Is n → (a : Admission)
           → admission disc name n ≡ a → P (createdAt k slot disc a name n l)
       create new n e (Start s) a = goes (opened (runFrom s n)) (entered disc name n s)
-      create new n e (Denied r) a =
-          refused new (denial-refuses n _ e (size-within (length disc - dataStart) n size e) new r a (denied disc name n r a))
+      create new n e (Denied r) a = refused new (new-file-refused size n e new r a)
 
       judged : lookup disc name ≡ Nowhere → (s : Size) → newFileSize disc size ≡ s → P (created k slot disc s name l)
       judged new Improper e = refused new (by-size e)

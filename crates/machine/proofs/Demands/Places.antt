@@ -1,28 +1,23 @@
--- A place is refused only where there is none: store's 8 and 9, OPEN's 13 by 8 or 9, and SET's 10 come only with a full table or
--- with no free run long enough.
-use Prim.Native.Nat.{ℕ, _-_, _≤_}
+-- A place is refused only where there is none: OPEN's 13 by 8 or 9, and SET's 10 come only with a full table or with no free run long
+-- enough.
+use Prim.Native.Nat.{ℕ, _≤_}
 use mathlib.Core.Path.{_≡_, refl, ap, _∙_, subst}
 use mathlib.Core.Bool.{Bool, true, false}
 use mathlib.Core.List.{List}
 use mathlib.Core.Logic.{_⊎_, inl, inr}
 use native.Mathlib.Omega.{arith}
 use lib.Dec.{ltb}
-use lib.IntN.{pos, negℤ}
 use lib.ListN.{length}
 use lib.Seq.{getD-set-same}
 use borrow.Author.Tests.{ltb-false}
 use Rattle.buffer.specs.declared.Found.{Found}
 use Rattle.buffer.specs.declared.Found.the-variants.{At, Nowhere}
 use Rattle.buffer.proofs.Bools.{true-not-false}
-use Rattle.number.specs.Compare.{sizeWithin}
 use Rattle.number.specs.declared.Number.{Number}
 use Rattle.place.specs.Place.{place}
 use Rattle.place.specs.declared.Run.{Run}
 use Rattle.place.proofs.Place.{no-place-none-fits}
-use Rattle.store.specs.Answer.{Updated, storeAnswer}
-use Rattle.store.specs.Directory.{fileCount, goodDisc, isDiscLength, taken, lookup}
-use Rattle.store.proofs.Checks.{by-checks}
-use Rattle.store.proofs.Calls.{store-admission, store-refused-full, store-refused-no-run}
+use Rattle.store.specs.Directory.{goodDisc, isDiscLength, lookup}
 use Rattle.variable.specs.Assign.{addressOr, assigned, assignAt, entryLimit, highEnd, ifEntry, lowEnd, placeFor, placing, placingFault}
 use Rattle.variable.specs.Assign.{valueOf}
 use Rattle.variable.specs.Assign.{takenRuns}
@@ -32,9 +27,7 @@ use Rattle.variable.specs.declared.Placing.{Placing}
 use Rattle.variable.specs.declared.Placing.the-variants.{Address, NoEntry, NoRun as NoFreeRun}
 use Rattle.variable.specs.declared.Value.{Value}
 use Rattle.variable.specs.declared.Variables.{Variables}
-use Rattle.store.specs.Layout.{dataStart, maxFiles}
 use Rattle.machine.specs.Beyond.{newFileSize}
-use Rattle.machine.specs.Answer.{Buffers, other, store, answer, otherAnswer}
 use Rattle.machine.specs.Effect.{Effect, asks, assigns, opens}
 use Rattle.machine.specs.NoPlace.{Lacking, NewFileRefused, NoneFits}
 use Rattle.machine.specs.State.{Local, isRunning, noProcess, processAt, withFile, withLocal, withProcess}
@@ -44,24 +37,6 @@ use Rattle.machine.specs.declared.Process.{Process}
 use Rattle.machine.proofs.Changes.LiveRecords.{running-live}
 use Rattle.machine.proofs.Changes.Slots.{live-inside}
 use Rattle.machine.proofs.Demands.Openings.{open-cases}
-
--- ---- store
-module _ (b : Buffers) (name bytes : List ℕ) where
-  -- Document 01: "8 ten files already"
-  pub store-full : answer (other (store name bytes)) b .number ≡ negℤ (pos 8) → fileCount (b .disc) ≡ maxFiles
-  unfolding answer otherAnswer storeAnswer
-  store-full =
-      by-checks (b .disc) (λ (u : Updated). u .number ≡ negℤ (pos 8) → fileCount (b .disc) ≡ maxFiles) _ _
-      (λ e h. absurd (let z : _≡_ {A = ℕ} 0 7 = cc in omega arith))
-      (λ e h. absurd (let z : _≡_ {A = ℕ} 1 7 = cc in omega arith))
-      (λ l good h. store-refused-full (b .disc) name bytes good
-      (ap (λ (u : Updated). u .number) (store-admission (b .disc) name bytes l good) ∙ h))
-
-  -- Document 01: "9 no free run long enough"
-  pub store-no-run : answer (other (store name bytes)) b .number ≡ negℤ (pos 9)
-      → NoneFits (taken (b .disc)) dataStart (length (b .disc)) (length bytes)
-  unfolding answer otherAnswer
-  store-no-run h = store-refused-no-run (b .disc) name bytes h
 
 -- ---- SET
 placing-lacking : (runs : List Run) (low high used limit n : ℕ) → placingFault (placing runs low high used limit n) ≡ 10 → (limit ≤ used)
@@ -122,7 +97,7 @@ module _ (k : Kernel) (slot : ℕ) (h : isRunning (processAt k slot) ≡ true) w
         × NewFileRefused disc name (newFileSize disc size)
     unfolding turned carriedOut
     turn-open-refused long good name size l e ends =
-        open-cases k slot disc name l long good size
+        open-cases disc name long good k slot l size
         (λ a. isRunning (processAt (answering k slot disc a .kernel) slot) ≡ false → (lookup disc name ≡ Nowhere)
         × NewFileRefused disc name (newFileSize disc size))
         (λ f after r. absurd (true-not-false (still-running (withFile (withLocal (processAt k slot) l) f) h) r))

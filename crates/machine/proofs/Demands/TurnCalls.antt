@@ -1,16 +1,14 @@
 -- A turn as a call: what holds of the state that it steps to holds of the work area that it leaves.
 use Prim.Native.Nat.{ℕ, _≤_, _<_}
-use mathlib.Core.Path.{_≡_, refl, sym, ap, subst, subst⁻¹, _∙_}
-use mathlib.Core.Bool.{Bool, true, false, _&&_}
+use mathlib.Core.Path.{_≡_, sym, ap, subst, subst⁻¹, _∙_}
+use mathlib.Core.Bool.{Bool, true, _&&_}
 use mathlib.Core.Logic.{_⊎_}
 use lib.Dec.{leb, ltb}
 use lib.IntN.{pos}
 use lib.ListN.{length}
 use Rattle.buffer.proofs.Bools.{and-left, and-right}
-use Rattle.store.specs.Directory.{goodDisc, isDiscLength}
-use Rattle.store.specs.File.{unless}
-use Rattle.machine.specs.Answer.{Answer, Buffers, answer, goodArea, refused, turn, turnedAnswer}
-use Rattle.machine.specs.Area.{isAreaLength, kernelOf}
+use Rattle.machine.specs.Answer.{Answer, Buffers, answer, turn, turnedAnswer}
+use Rattle.machine.specs.Area.{kernelOf}
 use Rattle.machine.specs.Demands.{EndedOnly, turnedState}
 use Rattle.machine.specs.Ending.{Ends, Touched}
 use Rattle.machine.specs.Limits.{slotCount, turnRoom}
@@ -23,8 +21,9 @@ use Rattle.machine.proofs.Instructions.Executing.{exec-sound}
 use Rattle.machine.proofs.Demands.Faulting.{ends-or-goes, turn-ends, turn-touches}
 use Rattle.machine.proofs.Demands.GoodCalls.{good-back, passes-good, turn-good}
 use Rattle.machine.proofs.Changes.LiveRecords.{running-live, within-local}
-use Rattle.machine.proofs.Demands.Rounds.{below-not-done, turn-running}
+use Rattle.machine.proofs.Demands.Rounds.{turn-running}
 use Rattle.machine.proofs.Changes.Slots.{live-inside}
+use Rattle.machine.proofs.Operations.Tests.{done-test, done-tests}
 use Rattle.machine.proofs.Operations.Turning.{SoundAt, turn-prints}
 
 module _ (b : Buffers) (slot clock : ℕ) (may : MayTurn b slot) where
@@ -73,30 +72,10 @@ module _ (b : Buffers) (slot clock : ℕ) (may : MayTurn b slot) where
 pub turn-passed : (b : Buffers) (slot clock n : ℕ) → answer (turn slot clock) b .number ≡ pos n → MayTurn b slot
 unfolding answer
 turn-passed b slot clock n =
-    go (isDiscLength (length (b .disc)) && isAreaLength (length (b .area))) refl (goodDisc (b .disc)) refl
-    (goodArea (b .disc) (b .area)) refl (leb turnRoom (length (b .out))) refl (ltb slot slotCount
-    && isRunning (processAt (stateOf b) slot)) refl
-  where
-    go : (p : Bool) → isDiscLength (length (b .disc)) && isAreaLength (length (b .area)) ≡ p → (q : Bool) → goodDisc (b .disc) ≡ q
-        → (r : Bool) → goodArea (b .disc) (b .area) ≡ r → (s : Bool) → leb turnRoom (length (b .out)) ≡ s
-        → (t : Bool) → ltb slot slotCount && isRunning (processAt (stateOf b) slot) ≡ t
-        → unless p (refused 1 b)
-        (unless q (refused 2 b)
-        (unless r (refused 3 b)
-        (unless s (refused 4 b) (unless t (refused 16 b) (turnedAnswer (turned (stateOf b) slot clock (b .disc)) b))))) .number ≡ pos n
-        → MayTurn b slot
-    go true p true q true r true s true t h =
-        record {
-          passes = record { sizes = p; disc-good = q; area-good = r };
-          room = s;
-          low = and-left (ltb slot slotCount) _ t;
-          running = and-right (ltb slot slotCount) _ t;
-        }
-    go true p true q true r true s false t h = below-not-done h
-    go true p true q true r false s u t h = below-not-done h
-    go true p true q false r w s u t h = below-not-done h
-    go true p false q v r w s u t h = below-not-done h
-    go false p x q v r w s u t h = below-not-done h
+    done-tests (λ a. MayTurn b slot) b n _ λ passes.
+    done-test (λ a. MayTurn b slot) b n (leb turnRoom (length (b .out))) 3 _ λ room.
+    done-test (λ a. MayTurn b slot) b n (ltb slot slotCount && isRunning (processAt (stateOf b) slot)) 15 _ λ may h.
+    record { passes = passes; room = room; low = and-left (ltb slot slotCount) _ may; running = and-right (ltb slot slotCount) _ may }
 
 pub turn-output-bound : (b : Buffers) (slot clock n : ℕ) → answer (turn slot clock) b .number ≡ pos n → n ≤ turnRoom
 turn-output-bound b slot clock n done =

@@ -22,6 +22,7 @@ use Rattle.machine.specs.declared.Kernel.{Kernel}
 
 -- Document 01, Run: "12 no ended slot, 10, 13 next ID is 32768. Takes the lowest ended slot"
 pub record Begins (name : List ℕ) (k : Kernel) (disc : List ℕ) (slot : ℕ) (e : Entry) : Type 0 where
+  pub lowest : endedSlot k ≡ At slot
   pub inside : slot < length (k .processes)
   pub free : isLive (processAt k slot) ≡ false
   pub file : ℕ
@@ -42,8 +43,10 @@ starting-begins name k disc slot e = go (endedSlot k) refl (lookup disc name) re
     go (At s) p (At i) q false r t =
         let same : s ≡ slot = cc in
         let that : e ≡ entryAt disc i = cc in
-        let f = index-at (λ x. not (isLive x)) noProcess (k .processes) slot (p ∙ ap (λ (n : ℕ). At n) same) in
+        let here : endedSlot k ≡ At slot = p ∙ ap (λ (n : ℕ). At n) same in
+        let f = index-at (λ x. not (isLive x)) noProcess (k .processes) slot here in
         record {
+          lowest = here;
           inside = f .inside;
           free = not-true _ (f .holds);
           file = i;

@@ -1,0 +1,106 @@
+-- OPEN of a file, of a new one and of one that is refused; CLOSE.
+use Prim.Native.Nat.{ℕ, _+_}
+use mathlib.Core.Path.{_≡_, refl, ap, subst⁻¹, _∙_}
+use mathlib.Core.List.{List}
+use mathlib.Core.Logic.{_⊎_, inl, inr}
+use Rattle.buffer.specs.Buffer.{part}
+use Rattle.buffer.specs.declared.Found.{Found}
+use Rattle.buffer.specs.declared.Found.the-variants.{At, Nowhere}
+use Rattle.float.specs.declared.whole.Size.{Size}
+use Rattle.float.specs.declared.whole.Size.the-variants.{Is, Refused}
+use Rattle.number.specs.Value.{numberOf}
+use Rattle.number.specs.declared.Number.{Number}
+use Rattle.place.specs.Place.{runFrom}
+use Rattle.store.specs.Directory.{lookup}
+use Rattle.store.specs.File.{admission, entered}
+use Rattle.store.specs.declared.Admission.{Admission}
+use Rattle.store.specs.declared.Admission.the-variants.{Start, Denied}
+use Rattle.store.proofs.Admissions.{admitted}
+use Rattle.machine.specs.Answer.{Buffers}
+use Rattle.machine.specs.AtPc.{processIn, stackIn}
+use Rattle.machine.specs.Beyond.{answered, continues, created, createdAt, newFileSize, opened, openedAt}
+use Rattle.machine.specs.Changed.{Enters}
+use Rattle.machine.specs.Effect.{Request, asks, closes, opens}
+use Rattle.machine.specs.NoPlace.{NewFileRefused, by-size}
+use Rattle.machine.specs.Reaching.{CloseExactly, Creates, Faults, OpenExactly, Opens, fileIn}
+use Rattle.machine.specs.Fields.{NoFile}
+use Rattle.machine.specs.Refusals.{stateOf}
+use Rattle.machine.specs.State.{Local, withLocal, withProcess}
+use Rattle.machine.specs.declared.Kernel.{Kernel}
+use Rattle.machine.specs.declared.Process.{Process}
+use Rattle.machine.proofs.Changes.Change.{GoodState}
+use Rattle.machine.proofs.Changes.Replaced.{put-at}
+use Rattle.machine.proofs.Demands.GoodCalls.{passes-good}
+use Rattle.machine.proofs.Demands.Openings.{new-file-refused}
+use Rattle.machine.proofs.Done.Entering.{entered-enters}
+use Rattle.machine.proofs.Fields.Files.{entry-size, entry-start, lookup-named, lookup-no-file, placed-lowest}
+use Rattle.machine.proofs.Fields.Names.{good-is-name}
+use Rattle.machine.proofs.Reaching.Finding.{Does, at, close-found, open-found}
+use Rattle.machine.proofs.Reaching.Going.{broken-by, carried-on, continued, live}
+
+module _ (b : Buffers) (slot clock : ℕ) where
+  abbrev k : Kernel
+  k = stateOf b
+
+  abbrev pc : ℕ
+  pc = processIn b slot .pc + 1
+
+  pub close-exactly : CloseExactly b slot clock
+  unfolding answered
+  close-exactly a =
+      let q : Process = withLocal (processIn b slot) (at b slot clock pc (stackIn b slot)) in
+      carried-on b slot clock (a .may) (closes (at b slot clock pc (stackIn b slot))) (close-found b slot clock a) (withProcess k slot q)
+      (b .disc) pc (stackIn b slot) (fileIn b slot clock) refl (put-at k slot q (live b slot clock (a .may)))
+
+  abbrev NewFile : List ℕ → List ℕ → Number → Type 0
+  NewFile rest text size =
+      (NewFileRefused (b .disc) text (newFileSize (b .disc) size) × Faults b slot clock 13)
+      ⊎ ((n : ℕ) × (newFileSize (b .disc) size ≡ Is n) × Creates b slot clock rest text n)
+
+  pub open-exactly : OpenExactly b slot clock
+  unfolding answered
+  open-exactly below rest text kind bytes a number name = found (lookup (b .disc) text) refl
+    where
+      size : Number
+      size = numberOf kind bytes
+
+      l : Local
+      l = at b slot clock pc rest
+
+      r : Request
+      r = opens text size l
+
+      does : Does b slot clock (asks r)
+      does = open-found b slot clock below rest text kind bytes a number name
+
+      good : GoodState k (b .disc)
+      good = passes-good (b .disc) (b .area) (a .may .passes)
+
+      admit : lookup (b .disc) text ≡ Nowhere → (n : ℕ) → newFileSize (b .disc) size ≡ Is n → (v : Admission)
+          → admission (b .disc) text n ≡ v
+          → answered k slot (b .disc) r ≡ createdAt k slot (b .disc) v text n l → NewFile rest text size
+      admit new n fit (Denied w) e h =
+          inl (new-file-refused (b .disc) text (good .long) (good .sound) size n fit new w e, broken-by b slot clock (a .may) r does 13 h)
+      admit new n fit (Start s) e h =
+          let d = admitted (b .disc) text n s e in
+          let on = continued b slot clock (a .may) r does pc rest (opened (runFrom s n)) (entered (b .disc) text n s) h in
+          let enters = subst⁻¹ (λ (after : List ℕ). Enters (b .disc) after text (part (b .disc) s n) s) (on .1)
+          (entered-enters d) in
+          let lowest = placed-lowest (b .disc) n s (d .lowest) in
+          inr (n, fit, (good-is-name text (d .good), d .few, (s, lowest, on .0, enters)))
+
+      sized : lookup (b .disc) text ≡ Nowhere → (s : Size) → newFileSize (b .disc) size ≡ s
+          → answered k slot (b .disc) r ≡ created k slot (b .disc) s text l → NewFile rest text size
+      sized new Refused e h = inl (by-size e, broken-by b slot clock (a .may) r does 13 h)
+      sized new (Is n) e h = admit new n e (admission (b .disc) text n) refl h
+
+      found : (f : Found) → lookup (b .disc) text ≡ f → Opens b slot clock rest text ⊎ (NoFile (b .disc) text × NewFile rest text size)
+      found (At i) e =
+          let on = continued b slot clock (a .may) r does pc rest _ (b .disc)
+          (ap (λ (f : Found). openedAt k slot (b .disc) f text size l) e
+          ∙ (λ z. continues k slot (b .disc) l (opened (record { start = entry-start (b .disc) i z; len = entry-size (b .disc) i z })) (b .disc))) in
+          inl (i, lookup-named (b .disc) text i e, on .0, on .1)
+      found Nowhere e = inr (
+        lookup-no-file (b .disc) (good .long) (good .sound) text e,
+        sized e (newFileSize (b .disc) size) refl (ap (λ (f : Found). openedAt k slot (b .disc) f text size l) e),
+      )
