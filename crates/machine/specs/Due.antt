@@ -16,15 +16,13 @@ use Rattle.buffer.specs.Buffer.{overwrite}
 use Rattle.buffer.specs.Lists.{flat}
 use Rattle.store.specs.Answer.{fileLine}
 use Rattle.machine.specs.Limits.{idLimit}
-use Rattle.machine.specs.Turn.{effectAt}
-use Rattle.machine.specs.Effect.{asks, forks}
 use Rattle.machine.specs.Answer.{Answer, Buffers, turn, command, run, other, store, retrieve, erase, files}
 use Rattle.machine.specs.Answer.{freeSpace, list, answer}
 use Rattle.machine.specs.NoPlace.{NoneFits}
 use Rattle.machine.specs.Area.{kernelOf}
 use Rattle.machine.specs.Operations.{Command, inUse, listText}
 use Rattle.machine.specs.Refusals.{stateOf, MayTurn, Passes, takes}
-use Rattle.machine.specs.State.{endedSlot, processAt, slotOf, Local}
+use Rattle.machine.specs.State.{endedSlot, processAt, slotOf}
 
 -- Document 01: neither "1: a buffer has the wrong length" nor "2: disc not good"
 abbrev pub Usable : List ℕ → Type 0
@@ -80,14 +78,6 @@ RunDue =
     → (answer (run name) b .number ≡ pos (stateOf b .next))
     × (slotOf (kernelOf (answer (run name) b .area)) (stateOf b .next) ≡ At slot)
 
--- the same of FORK: where run would not refuse, the child is started
-abbrev pub ForkDue : Type 0
-ForkDue =
-    (b : Buffers) (slot clock : ℕ) (name : List ℕ) (l : Local) (child i : ℕ) → MayTurn b slot
-    → effectAt (stateOf b) slot clock (b .disc) ≡ asks (forks name l)
-    → endedSlot (stateOf b) ≡ At child → lookup (b .disc) name ≡ At i → (stateOf b .next ≡ idLimit → ⊥)
-    → slotOf (kernelOf (answer (turn slot clock) b .area)) (stateOf b .next) ≡ At child
-
 -- a file of that name that no live process uses
 abbrev pub EraseDue : Type 0
 EraseDue =
@@ -113,5 +103,4 @@ CommandDue =
 -- Document 01, strictness c, shuts out refusals said too early, an invented free space and a store that declines
 -- everything
 unfoldable pub DoneWhenDue : Type 0
-DoneWhenDue = TurnDue × StoreDue × RetrieveDue × FilesDue × ListDue × RunDue × ForkDue × EraseDue × FreeSpaceDue
-    × CommandDue
+DoneWhenDue = TurnDue × StoreDue × RetrieveDue × FilesDue × ListDue × RunDue × EraseDue × FreeSpaceDue × CommandDue

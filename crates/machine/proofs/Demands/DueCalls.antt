@@ -1,6 +1,6 @@
 -- What no refusal speaks against is done.
 use Prim.Native.Nat.{ℕ, _<_, _≤_}
-use mathlib.Core.Path.{_≡_, refl, ap, subst⁻¹, _∙_, subst}
+use mathlib.Core.Path.{_≡_, refl, ap, subst⁻¹, _∙_}
 use mathlib.Core.Bool.{true, false}
 use mathlib.Core.List.{List}
 use lib.Dec.{eqb}
@@ -22,16 +22,10 @@ use Rattle.store.proofs.Effects.{store-done}
 use Rattle.store.proofs.LookupChanges.{erased-missing}
 use Rattle.store.proofs.Lookups.{lookup-at}
 use Rattle.store.specs.declared.Entry.{Entry}
-use Rattle.buffer.proofs.Bools.{true-not-false}
 use Rattle.buffer.specs.Buffer.{overwrite}
 use Rattle.store.specs.declared.Answer.the-variants.{Done}
-use Rattle.machine.proofs.Changes.Replaced.{put-other}
-use Rattle.machine.proofs.Changes.LiveRecords.{running-live}
 use Rattle.store.specs.Layout.{dataStart, maxFiles}
 use Rattle.machine.specs.Limits.{idLimit}
-use Rattle.machine.specs.Turn.{answering, carriedOut, effectAt, turned}
-use Rattle.machine.specs.Effect.{Effect, asks, forks}
-use Rattle.machine.specs.Beyond.{answered, forked, pushId}
 use Rattle.machine.proofs.Changes.Slots.{slot-is}
 use Rattle.machine.proofs.Kept.OutsideKept.{outside-good}
 use Rattle.machine.proofs.Changes.Change.{GoodState, begins}
@@ -45,9 +39,9 @@ use Rattle.machine.specs.NoPlace.{NoneFits}
 use Rattle.machine.specs.Operations.{Command, suspend, resume, kill, commandAt, commanded, inUse, listText}
 use Rattle.machine.specs.Refusals.{stateOf, MayTurn, Passes, takes}
 use Rattle.machine.specs.Start.{starting, Starting, starts, started, startedProcess}
-use Rattle.machine.specs.State.{endedSlot, paused, processAt, running, slotOf, isLive, Local, withLocal, withProcess}
+use Rattle.machine.specs.State.{endedSlot, paused, processAt, running, slotOf, isLive}
 use Rattle.machine.specs.declared.Process.{Process}
-use Rattle.machine.proofs.Demands.GoodCalls.{on-good, good-back, passes-good, turn-good}
+use Rattle.machine.proofs.Demands.GoodCalls.{on-good, good-back, passes-good}
 use Rattle.machine.proofs.Demands.TurnCalls.{turn-done}
 
 pub turn-due : (b : Buffers) (slot clock : ℕ) → MayTurn b slot → (n : ℕ) × (answer (turn slot clock) b .number ≡ pos n)
@@ -66,50 +60,6 @@ store-due b name bytes start u good size few new fit =
     ∙ ap (λ (x : Admission). storeAt x (b .disc) name bytes .number) (a .1) in
     let file = store-done (b .disc) name bytes 0 done in
     (done, (fileCount (b .disc), file .found, file .holds))
-
-pub fork-due : (b : Buffers) (slot clock : ℕ) (name : List ℕ) (l : Local) (child i : ℕ) → MayTurn b slot
-    → effectAt (stateOf b) slot clock (b .disc) ≡ asks (forks name l)
-    → endedSlot (stateOf b) ≡ At child → lookup (b .disc) name ≡ At i → (stateOf b .next ≡ idLimit → ⊥)
-    → slotOf (kernelOf (answer (turn slot clock) b .area)) (stateOf b .next) ≡ At child
-unfolding turned carriedOut answered starting
-fork-due b slot clock name l child i may e free found left =
-    ap (λ (a : Answer). slotOf (kernelOf (a .area)) (k .next)) (turn-done b slot clock may)
-    ∙ ap (λ (j : Kernel). slotOf j (k .next)) (good-back _ _ good)
-    ∙ slot-is good child (k .next) (ap isLive new) (ap (λ (p : Process). p .id) new)
-  where
-    k : Kernel
-    k = stateOf b
-
-    before : GoodState k (b .disc)
-    before = passes-good (b .disc) (b .area) (may .passes)
-
-    good : GoodState (turned k slot clock (b .disc) .kernel) (turned k slot clock (b .disc) .disc)
-    good = turn-good k slot clock (b .disc) before (may .running)
-
-    entry : Entry
-    entry = entryAt (b .disc) i
-
-    begun : starting k (b .disc) name ≡ starts child entry
-    begun = rw (free, found, ne-eqb (k .next) idLimit left)
-
-    own : Process
-    own = withLocal (processAt k slot) (pushId l (k .next))
-
-    forks-it : turned k slot clock (b .disc) .kernel ≡ withProcess (started k child entry) slot own
-    forks-it =
-        ap (λ (x : Effect). carriedOut k slot (b .disc) x .kernel) e
-        ∙ ap (λ (s : Starting). answering k slot (b .disc) (forked k slot (b .disc) s l) .kernel) begun
-
-    other : child ≡ slot → ⊥
-    other same =
-        true-not-false (running-live (processAt k slot) (may .running))
-        (subst (λ (x : ℕ). isLive (processAt k x) ≡ false) same (starting-begins name k (b .disc) child entry begun .free))
-
-    new : processAt (turned k slot clock (b .disc) .kernel) child ≡ startedProcess entry (k .next)
-    new =
-        ap (λ (j : Kernel). processAt j child) forks-it
-        ∙ put-other (started k child entry) slot own child other
-        ∙ started-new (starting-begins name k (b .disc) child entry begun)
 
 pub erase-due : (b : Buffers) (name : List ℕ) (i : ℕ) → Passes (b .disc) (b .area) → lookup (b .disc) name ≡ At i
     → inUse (stateOf b) (entryAt (b .disc) i) ≡ false
