@@ -1,5 +1,5 @@
--- The instructions that reach beyond their process, exactly: from the byte at PC and the stack, what is due is done, and
--- which fault comes of what.
+-- The instructions that reach beyond their process, exactly: from the byte at PC and the stack, what is due is done,
+-- and which fault comes of what.
 use Prim.Native.Nat.{ℕ, _+_, _/_, _%_, _≤_, _<_}
 use mathlib.Core.Path.{_≡_}
 use mathlib.Core.Bool.{true, false, cond}
@@ -20,7 +20,8 @@ use Rattle.machine.specs.AtPc.{stackIn, stateAfter, turnAnswer}
 use Rattle.machine.specs.Beyond.{newFileSize}
 use Rattle.machine.specs.Changed.{Assigns, CannotStart, Enters, Starts}
 use Rattle.machine.specs.Demands.{EndedOnly, EndsWith}
-use Rattle.machine.specs.Fields.{Free, IsName, Live, Lowest, Named, NoFile, filesOn, idOf, nextId, sizeOf, startOf}
+use Rattle.machine.specs.Fields.{Free, IsName, Live, Lowest, Named, NoFile, filesOn, idOf, nextId, sizeOf}
+use Rattle.machine.specs.Fields.{startOf}
 use Rattle.machine.specs.Limits.{stackSize}
 use Rattle.machine.specs.NoPlace.{NewFileRefused}
 use Rattle.machine.specs.Refusals.{stateOf}

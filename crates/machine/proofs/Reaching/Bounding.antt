@@ -26,7 +26,7 @@ use Rattle.machine.specs.Instruction.{find, instructionOf}
 use Rattle.machine.specs.Reaching.{FaultsBounded, faultsOf, reachingFaults}
 use Rattle.machine.specs.Refusals.{stateOf}
 use Rattle.machine.specs.Stack.{Item, Popped, popped, cannot, pop}
-use Rattle.machine.specs.State.{Local, localOf}
+use Rattle.machine.specs.State.{localOf}
 use Rattle.machine.specs.Turn.{effectAt, programOf}
 use Rattle.machine.specs.declared.instruction.Instruction.{Instruction}
 use Rattle.machine.specs.declared.instruction.Instruction.the-variants.{SetVariable, Beyond}
@@ -87,7 +87,40 @@ module _ (ns : List ℕ) where
         go (popped x rest) t = h (number x) rest
         go (cannot n) t = popping-fault n t
 
--- ---- tables of faults
+-- ---- the faults of each
+abbrev ofSet : List ℕ
+ofSet = 2 ∷ 5 ∷ 6 ∷ 10 ∷ []
+
+abbrev ofOpen : List ℕ
+ofOpen = 5 ∷ 6 ∷ 13 ∷ []
+
+abbrev ofWrite : List ℕ
+ofWrite = 5 ∷ 6 ∷ 11 ∷ 12 ∷ []
+
+abbrev ofRead : List ℕ
+ofRead = 11 ∷ 12 ∷ 4 ∷ []
+
+abbrev ofPopping : List ℕ
+ofPopping = 5 ∷ 6 ∷ []
+
+-- STOP's 0 and 1 to 9
+abbrev ofOther : List ℕ
+ofOther = 0 ∷ 1 ∷ 2 ∷ 3 ∷ 4 ∷ 5 ∷ 6 ∷ 7 ∷ 8 ∷ 9 ∷ []
+
+small : (n : ℕ) → n < 10 → any (eqb n) ofOther ≡ true
+unfolding tab
+small n h = any-at (eqb n) (tab (λ i. i) 10) n 0 h (eq-eqb n _ (sym (tab-at (λ i. i) 10 n 0 h)))
+
+past-end : (ns : List ℕ) → any (eqb 11) ns ≡ true → any (eqb 12) ns ≡ true → (m : ℕ) → (m ≡ 11) ⊎ (m ≡ 12) → any (eqb m) ns ≡ true
+past-end ns p q m (inl e) = is-one ns 11 p e
+past-end ns p q m (inr e) = is-one ns 12 q e
+
+read-fault : (m : ℕ) → (m ≡ 4) ⊎ ((m ≡ 11) ⊎ (m ≡ 12)) → any (eqb m) ofRead ≡ true
+unfolding any
+read-fault m (inl e) = is-one ofRead 4 refl e
+read-fault m (inr e) = past-end ofRead refl refl m e
+
+-- a row of the table, and the rows below it
 row-has : (byte m n : ℕ) (row rest : List ℕ) → (byte ≡ m → any (eqb n) row ≡ true) → ((byte ≡ m → ⊥) → any (eqb n) rest ≡ true)
     → any (eqb n) (cond (eqb byte m) row rest) ≡ true
 row-has byte m n row rest here there = go (eqb byte m) refl
@@ -96,15 +129,7 @@ row-has byte m n row rest here there = go (eqb byte m) refl
     go true e = here (eqb-true byte m e)
     go false e = there (eqb-false byte m e)
 
--- STOP's 0 and 1 to 9
-small : (n : ℕ) → n < 10 → any (eqb n) (0 ∷ 1 ∷ 2 ∷ 3 ∷ 4 ∷ 5 ∷ 6 ∷ 7 ∷ 8 ∷ 9 ∷ []) ≡ true
-unfolding tab
-small n h = any-at (eqb n) (tab (λ i. i) 10) n 0 h (eq-eqb n _ (sym (tab-at (λ i. i) 10 n 0 h)))
-
 module _ (b : Buffers) (slot clock : ℕ) where
-  abbrev e : Effect
-  e = effectAt (stateOf b) slot clock (b .disc)
-
   ends-among : (ns : List ℕ) (n : ℕ) → Among ns (effectAt (stateOf b) slot clock (b .disc)) → Ends (stateOf b) slot clock (b .disc) n
       → any (eqb n) ns ≡ true
   unfolding Among
@@ -123,36 +148,24 @@ module _ (b : Buffers) (slot clock : ℕ) where
     bounded : (ns : List ℕ) (i : Instruction) (m : ℕ) → instructionOf m ≡ i → Performed i ns → byte ≡ m → any (eqb n) ns ≡ true
     bounded ns i m is h same = ends-among ns n (subst⁻¹ (Among ns) (at-performs b slot clock a i (ap instructionOf same ∙ is)) h) ends
 
-    past-end : (ns : List ℕ) → any (eqb 11) ns ≡ true → any (eqb 12) ns ≡ true → (m : ℕ) → (m ≡ 11) ⊎ (m ≡ 12) → any (eqb m) ns ≡ true
-    past-end ns p q m (inl e) = is-one ns 11 p e
-    past-end ns p q m (inr e) = is-one ns 12 q e
-
-    read-fault : (m : ℕ) → (m ≡ 4) ⊎ ((m ≡ 11) ⊎ (m ≡ 12)) → any (eqb m) (11 ∷ 12 ∷ 4 ∷ []) ≡ true
-    unfolding any
-    read-fault m (inl e) = is-one (11 ∷ 12 ∷ 4 ∷ []) 4 refl e
-    read-fault m (inr e) = past-end (11 ∷ 12 ∷ 4 ∷ []) refl refl m e
-
-    read-bounded : (m kind : ℕ) → instructionOf m ≡ Beyond (ReadNumber kind) → byte ≡ m → any (eqb n) (11 ∷ 12 ∷ 4 ∷ []) ≡ true
+    read-bounded : (m kind : ℕ) → instructionOf m ≡ Beyond (ReadNumber kind) → byte ≡ m → any (eqb n) ofRead ≡ true
     unfolding Among performs
-    read-bounded m kind is = bounded (11 ∷ 12 ∷ 4 ∷ []) (Beyond (ReadNumber kind)) m is read-fault
+    read-bounded m kind is = bounded ofRead (Beyond (ReadNumber kind)) m is read-fault
 
     -- an instruction that reaches not beyond its process
     other-bounded : (byte ≡ 5 → ⊥) → (byte ≡ 53 → ⊥) → (byte ≡ 54 → ⊥) → (byte ≡ 55 → ⊥) → (byte ≡ 56 → ⊥) → (byte ≡ 57 → ⊥)
         → (byte ≡ 58 → ⊥) → (byte ≡ 59 → ⊥) → (byte ≡ 68 → ⊥) → (byte ≡ 69 → ⊥)
-        → any (eqb n) (0 ∷ 1 ∷ 2 ∷ 3 ∷ 4 ∷ 5 ∷ 6 ∷ 7 ∷ 8 ∷ 9 ∷ []) ≡ true
+        → any (eqb n) ofOther ≡ true
     unfolding Among Sound Asked any
     other-bounded no5 no53 no54 no55 no56 no57 no58 no59 no68 no69 =
-        ends-among ns n (go (effectAt (stateOf b) slot clock (b .disc)) refl sound) ends
+        ends-among ofOther n (go (effectAt (stateOf b) slot clock (b .disc)) refl sound) ends
       where
-        ns : List ℕ
-        ns = 0 ∷ 1 ∷ 2 ∷ 3 ∷ 4 ∷ 5 ∷ 6 ∷ 7 ∷ 8 ∷ 9 ∷ []
-
         prog : List ℕ
         prog = programOf (b .disc) (processIn b slot)
 
         sound : Sound prog (localOf (processIn b slot)) (effectAt (stateOf b) slot clock (b .disc))
         sound = exec-sound _ clock _ _
-            (within-local (passes-good (b .disc) (b .area) (a .may .passes)) slot (live b slot clock (a .may)))
+            (within-local (passes-good (b .disc) (b .area) (a .may .passes)) slot (live b slot (a .may)))
 
         at-pc : {m : ℕ} → getD prog (processIn b slot .pc) 0 ≡ m → byte ≡ m
         at-pc e = sym (byte-found b slot clock a) ∙ e
@@ -168,35 +181,49 @@ module _ (b : Buffers) (slot clock : ℕ) where
         asked (forks name l) h = no68 (at-pc (h .0))
         asked (awaits id stay on) h = no69 (at-pc (h .0))
 
-        go : (f : Effect) → effectAt (stateOf b) slot clock (b .disc) ≡ f → Sound prog (localOf (processIn b slot)) f → Among ns f
+        go : (f : Effect) → effectAt (stateOf b) slot clock (b .disc) ≡ f → Sound prog (localOf (processIn b slot)) f → Among ofOther f
         go (goes l out) q s = tt
         go (assigns name kind bytes l) q s = absurd (no5 (at-pc (exec-sets-byte prog clock _ _ name kind bytes l q)))
         go stops q s = refl
         go (faults m) q s = small m (omega (arith, s .1))
         go (asks r) q s = absurd (asked r s)
 
-    pub faults-of-byte : any (eqb n) (faultsOf byte reachingFaults) ≡ true
+    faults-of-byte : any (eqb n) (faultsOf byte reachingFaults) ≡ true
     unfolding Among faultsOf any instructionOf operatorOf lookup find performs
     faults-of-byte =
-        row-has byte 5 n _ _ (bounded (2 ∷ 5 ∷ 6 ∷ 10 ∷ []) SetVariable 5 refl
-        (unless-among (2 ∷ 5 ∷ 6 ∷ 10 ∷ []) (leb (processIn b slot .pc + 1 + 1) (length (programOf (b .disc) (processIn b slot)))) 2 _ refl
-        (popped-among (2 ∷ 5 ∷ 6 ∷ 10 ∷ []) refl refl AnyValue (stackIn b slot) _ λ x rest. refl))) λ no5.
-        row-has byte 53 n _ _ (bounded (5 ∷ 6 ∷ 13 ∷ []) (Beyond OpenFile) 53 refl
-        (number-among (5 ∷ 6 ∷ 13 ∷ []) refl refl AnyNumber (stackIn b slot) _ λ size below.
-        popped-among (5 ∷ 6 ∷ 13 ∷ []) refl refl AnyString below _ λ name rest m e. is-one (5 ∷ 6 ∷ 13 ∷ []) 13 refl e)) λ no53.
+        row-has byte 5 n _ _ (bounded ofSet SetVariable 5 refl sets) λ no5.
+        row-has byte 53 n _ _ (bounded ofOpen (Beyond OpenFile) 53 refl opening) λ no53.
         row-has byte 54 n _ _ (bounded [] (Beyond CloseFile) 54 refl λ m h. absurd h) λ no54.
-        row-has byte 55 n _ _ (bounded (5 ∷ 6 ∷ 11 ∷ 12 ∷ []) (Beyond WriteFile) 55 refl
-        (popped-among (5 ∷ 6 ∷ 11 ∷ 12 ∷ []) refl refl AnyValue (stackIn b slot) _ λ x rest.
-        past-end (5 ∷ 6 ∷ 11 ∷ 12 ∷ []) refl refl)) λ no55.
+        row-has byte 55 n _ _ (bounded ofWrite (Beyond WriteFile) 55 refl writing) λ no55.
         row-has byte 56 n _ _ (read-bounded 56 2 (reads-of .0)) λ no56.
         row-has byte 57 n _ _ (read-bounded 57 1 (reads-of .1)) λ no57.
         row-has byte 58 n _ _ (read-bounded 58 4 (reads-of .2)) λ no58.
-        row-has byte 59 n _ _ (bounded (11 ∷ 12 ∷ 4 ∷ []) (Beyond ReadString) 59 refl read-fault) λ no59.
-        row-has byte 68 n _ _ (bounded (5 ∷ 6 ∷ []) (Beyond Fork) 68 refl
-        (popped-among (5 ∷ 6 ∷ []) refl refl AnyString (stackIn b slot) _ λ name rest m h. absurd h)) λ no68.
-        row-has byte 69 n _ _ (bounded (5 ∷ 6 ∷ []) (Beyond WaitUntilDone) 69 refl
-        (number-among (5 ∷ 6 ∷ []) refl refl AnyNumber (stackIn b slot) _ λ x rest m h. absurd h)) λ no69.
+        row-has byte 59 n _ _ (bounded ofRead (Beyond ReadString) 59 refl read-fault) λ no59.
+        row-has byte 68 n _ _ (bounded ofPopping (Beyond Fork) 68 refl forking) λ no68.
+        row-has byte 69 n _ _ (bounded ofPopping (Beyond WaitUntilDone) 69 refl waiting) λ no69.
         other-bounded no5 no53 no54 no55 no56 no57 no58 no59 no68 no69
+      where
+        st : List ℕ
+        st = stackIn b slot
+
+        sets : Performed SetVariable ofSet
+        sets =
+            unless-among ofSet (leb (processIn b slot .pc + 1 + 1) (length (programOf (b .disc) (processIn b slot)))) 2 _ refl
+            (popped-among ofSet refl refl AnyValue st _ λ x rest. refl)
+
+        opening : Performed (Beyond OpenFile) ofOpen
+        opening =
+            number-among ofOpen refl refl AnyNumber st _ λ size below.
+            popped-among ofOpen refl refl AnyString below _ λ name rest m e. is-one ofOpen 13 refl e
+
+        writing : Performed (Beyond WriteFile) ofWrite
+        writing = popped-among ofWrite refl refl AnyValue st _ λ x rest. past-end ofWrite refl refl
+
+        forking : Performed (Beyond Fork) ofPopping
+        forking = popped-among ofPopping refl refl AnyString st _ λ name rest m h. absurd h
+
+        waiting : Performed (Beyond WaitUntilDone) ofPopping
+        waiting = number-among ofPopping refl refl AnyNumber st _ λ x rest m h. absurd h
 
 pub faults-bounded : (b : Buffers) (slot clock : ℕ) → FaultsBounded b slot clock
 faults-bounded b slot clock byte n a ends = faults-of-byte b slot clock a n (ended-by b slot clock (a .may) n ends)

@@ -9,7 +9,7 @@ use native.Mathlib.Omega.{arith}
 use lib.Dec.{eqb, leb}
 use lib.ListN.{drop, getD, length, length-append, length-drop}
 use lib.Seq.{getD-drop}
-use borrow.Author.Tests.{eqb-false, leb-false, leb-true}
+use borrow.Author.Tests.{eqb-false, leb-false}
 use Rattle.buffer.specs.Buffer.{part}
 use Rattle.buffer.proofs.Parts.{part-byte, part-of-part}
 use Rattle.place.specs.declared.Run.{Run}
@@ -25,7 +25,7 @@ use Rattle.machine.specs.Effect.{Request, asks, reads, readsString, writ
 use Rattle.machine.specs.Fields.{Lowest}
 use Rattle.machine.specs.Instruction.{instructionOf}
 use Rattle.machine.specs.Limits.{stackSize}
-use Rattle.machine.specs.Reaching.{Faults, InFile, ReadExactly, ReadStringExactly, Receives, WriteExactly, ahead, fileIn, read}
+use Rattle.machine.specs.Reaching.{Faults, InFile, ReadExactly, ReadStringExactly, Receives, WriteExactly, ahead, read}
 use Rattle.machine.specs.Refusals.{MayTurn, stateOf}
 use Rattle.machine.specs.Stack.{pushString}
 use Rattle.machine.specs.State.{Local}
@@ -66,20 +66,23 @@ module _ (b : Buffers) (slot clock : ℕ) where
   unfolding answered writtenAt
   write-exactly rest kind bytes a top =
       let does = write-found b slot clock rest kind bytes a top in
-      in-file b slot clock (a .may) (writes bytes (at b slot clock pc rest)) does (length bytes) _ _ refl
-      (λ fits e. continued b slot clock (a .may) (writes bytes (at b slot clock pc rest)) does pc rest (advanced f (length bytes)) _ e)
+      in-file b slot clock (a .may) (writes bytes (at b slot pc rest)) does (length bytes) _ _ refl
+      (λ fits e. continued b slot clock (a .may) (writes bytes (at b slot pc rest)) does pc rest (advanced f (length bytes)) _ e)
 
   -- n bytes further, with this stack if it can be that long
   receives : MayTurn b slot → (r : Request) → Does b slot clock (asks r) → (stack value : List ℕ) (n : ℕ) → stack ≡ stackIn b slot ++ value
-      → answered k slot (b .disc) r ≡ received k slot (b .disc) stack n (at b slot clock pc (stackIn b slot))
+      → answered k slot (b .disc) r ≡ received k slot (b .disc) stack n (at b slot pc (stackIn b slot))
       → Receives b slot clock n value
   receives may r does stack value n whole e = go (leb (length stack) stackSize) refl e
     where
       go : (c : Bool) → leb (length stack) stackSize ≡ c
           → answered k slot (b .disc) r
-          ≡ unlessBreaks c 4 (continues k slot (b .disc) (pushed (at b slot clock pc (stackIn b slot)) stack) (advanced f n) (b .disc))
+          ≡ unlessBreaks c 4 (continues k slot (b .disc) (pushed (at b slot pc (stackIn b slot)) stack) (advanced f n) (b .disc))
           → Receives b slot clock n value
-      go false h e = inl (subst (λ (s : List ℕ). stackSize < length s) whole (leb-false (length stack) stackSize h), broken-by b slot clock may r does 4 e)
+      go false h e = inl (
+        subst (λ (s : List ℕ). stackSize < length s) whole (leb-false (length stack) stackSize h),
+        broken-by b slot clock may r does 4 e,
+      )
       go true h e =
           inr (subst (λ (s : List ℕ). Onward b slot clock pc s (ahead b slot clock n) × SameDisc b slot clock) whole
           (continued b slot clock may r does pc stack (advanced f n) (b .disc) e))
@@ -91,7 +94,7 @@ module _ (b : Buffers) (slot clock : ℕ) where
   pub read-exactly : (byte kind : ℕ) → instructionOf byte ≡ Beyond (ReadNumber kind) → ReadExactly b slot clock byte kind
   unfolding answered readAt
   read-exactly byte kind i a =
-      let l = at b slot clock pc (stackIn b slot) in
+      let l = at b slot pc (stackIn b slot) in
       let does = read-found b slot clock byte kind i a in
       in-file b slot clock (a .may) (reads kind l) does kind _ _ refl
       (λ fits e. receives (a .may) (reads kind l) does _ (read b slot clock kind ++ (kind ∷ [])) kind
@@ -107,7 +110,7 @@ module _ (b : Buffers) (slot clock : ℕ) where
 
   -- an open file is one of the disc's, so its bytes lie on the disc
   open-length : MayTurn b slot → (f .len ≡ 0 → ⊥) → length (contents (b .disc) (fileRun f)) ≡ f .len
-  open-length may some = go (live-record good slot (live b slot clock may) .file)
+  open-length may some = go (live-record good slot (live b slot may) .file)
     where
       good : GoodState k (b .disc)
       good = passes-good (b .disc) (b .area) (may .passes)
@@ -135,11 +138,12 @@ module _ (b : Buffers) (slot clock : ℕ) where
 
   pub read-string-exactly : ReadStringExactly b slot clock
   unfolding answered
-  read-string-exactly a = go (in-file b slot clock (a .may) (readsString l) does (length text + 1) _ (Receives b slot clock (length text + 1) value) refl
+  read-string-exactly a =
+      go (in-file b slot clock (a .may) (readsString l) does (length text + 1) _ (Receives b slot clock (length text + 1) value) refl
       (λ fits e. receives (a .may) (readsString l) does _ value (length text + 1) (pushes fits) e))
     where
       l : Local
-      l = at b slot clock pc (stackIn b slot)
+      l = at b slot pc (stackIn b slot)
 
       does : Does b slot clock (asks (readsString l))
       does = read-string-found b slot clock a
@@ -163,4 +167,5 @@ module _ (b : Buffers) (slot clock : ℕ) where
       go (inr (some, inl past)) = inr (some, inl (λ j h. no-zero j h (omega (arith, past .0)), past .1))
       go (inr (some, inr (fits, done))) =
           let low : f .offset + length text < f .len = omega arith in
-          inr (some, inr (length text, low, (sym (byte-ahead (length text) low) ∙ text-ends bytesAhead, λ m h. no-zero m (omega arith) h), done))
+          let zero = sym (byte-ahead (length text) low) ∙ text-ends bytesAhead in
+          inr (some, inr (length text, low, (zero, λ m h. no-zero m (omega arith) h), done))

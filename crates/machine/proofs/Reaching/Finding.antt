@@ -25,16 +25,16 @@ use Rattle.machine.proofs.Changes.LiveRecords.{program-length, running-
 use Rattle.machine.proofs.Demands.GoodCalls.{passes-good}
 use Rattle.machine.proofs.Reaching.Tops.{number-top, string-top, top-trimmed, value-top}
 
+-- the process at a place of its program with these bytes on its stack
+abbrev pub at : Buffers → ℕ → ℕ → List ℕ → Local
+at b slot pc stack = record { stack = stack; pc = pc; loopstart = processIn b slot .loopstart }
+
 module _ (b : Buffers) (slot clock : ℕ) where
   abbrev prog : List ℕ
   prog = programOf (b .disc) (processIn b slot)
 
   abbrev own : List Cell
   own = owned (stateOf b .variables) (processIn b slot .id)
-
-  -- the process at a place of its program with these bytes on its stack
-  abbrev pub at : ℕ → List ℕ → Local
-  at pc stack = record { stack = stack; pc = pc; loopstart = processIn b slot .loopstart }
 
   abbrev pub Does : Effect → Type 0
   Does e = effectAt (stateOf b) slot clock (b .disc) ≡ e
@@ -65,7 +65,7 @@ module _ (b : Buffers) (slot clock : ℕ) where
   -- ---- SET
   pub set-found : (rest : List ℕ) (kind : ℕ) (bytes : List ℕ) → AtPc b slot 5 → pc + 1 < processIn b slot .code .len
       → ValueOnTop (stackIn b slot) rest kind bytes
-      → Does (assigns (byteAhead b slot 1) kind bytes (at (pc + 2) rest))
+      → Does (assigns (byteAhead b slot 1) kind bytes (at b slot (pc + 2) rest))
   unfolding instructionOf operatorOf lookup find performs
   set-found rest kind bytes a more top =
       let behind : pc + 1 + 1 ≡ pc + 2 = omega arith in
@@ -75,36 +75,36 @@ module _ (b : Buffers) (slot clock : ℕ) where
   -- ---- the instructions that ask
   pub open-found : (below rest text : List ℕ) (kind : ℕ) (bytes : List ℕ) → AtPc b slot 53
       → NumberOnTop (stackIn b slot) below kind bytes → StringOnTop below rest text
-      → Does (asks (opens text (numberOf kind bytes) (at (pc + 1) rest)))
+      → Does (asks (opens text (numberOf kind bytes) (at b slot (pc + 1) rest)))
   unfolding instructionOf operatorOf lookup find performs
   open-found below rest text kind bytes a size name =
       at-performs a (Beyond OpenFile) refl ∙ rw (number-top size, string-top name, top-trimmed name)
 
-  pub close-found : AtPc b slot 54 → Does (asks (closes (at (pc + 1) (stackIn b slot))))
+  pub close-found : AtPc b slot 54 → Does (asks (closes (at b slot (pc + 1) (stackIn b slot))))
   unfolding instructionOf operatorOf lookup find performs
   close-found a = at-performs a (Beyond CloseFile) refl
 
   pub write-found : (rest : List ℕ) (kind : ℕ) (bytes : List ℕ) → AtPc b slot 55 → ValueOnTop (stackIn b slot) rest kind bytes
-      → Does (asks (writes bytes (at (pc + 1) rest)))
+      → Does (asks (writes bytes (at b slot (pc + 1) rest)))
   unfolding instructionOf operatorOf lookup find performs
   write-found rest kind bytes a top = at-performs a (Beyond WriteFile) refl ∙ rw (value-top top)
 
   pub read-found : (byte kind : ℕ) → instructionOf byte ≡ Beyond (ReadNumber kind) → AtPc b slot byte
-      → Does (asks (reads kind (at (pc + 1) (stackIn b slot))))
+      → Does (asks (reads kind (at b slot (pc + 1) (stackIn b slot))))
   unfolding performs
   read-found byte kind i a = at-performs a (Beyond (ReadNumber kind)) i
 
-  pub read-string-found : AtPc b slot 59 → Does (asks (readsString (at (pc + 1) (stackIn b slot))))
+  pub read-string-found : AtPc b slot 59 → Does (asks (readsString (at b slot (pc + 1) (stackIn b slot))))
   unfolding instructionOf operatorOf lookup find performs
   read-string-found a = at-performs a (Beyond ReadString) refl
 
   pub fork-found : (rest text : List ℕ) → AtPc b slot 68 → StringOnTop (stackIn b slot) rest text
-      → Does (asks (forks text (at (pc + 1) rest)))
+      → Does (asks (forks text (at b slot (pc + 1) rest)))
   unfolding instructionOf operatorOf lookup find performs
   fork-found rest text a name = at-performs a (Beyond Fork) refl ∙ rw (string-top name, top-trimmed name)
 
   pub wait-found : (rest : List ℕ) (kind : ℕ) (bytes : List ℕ) → AtPc b slot 69 → NumberOnTop (stackIn b slot) rest kind bytes
-      → Does (asks (awaits (numberOf kind bytes) (at pc (stackIn b slot)) (at (pc + 1) rest)))
+      → Does (asks (awaits (numberOf kind bytes) (at b slot pc (stackIn b slot)) (at b slot (pc + 1) rest)))
   unfolding instructionOf operatorOf lookup find performs
   wait-found rest kind bytes a top = at-performs a (Beyond WaitUntilDone) refl ∙ rw (number-top top)
 

@@ -44,9 +44,9 @@ module _ (b : Buffers) (slot clock : ℕ) where
   abbrev withId : List ℕ → ℕ → List ℕ
   withId rest id = rest ++ (id / 256 ∷ id % 256 ∷ 2 ∷ [])
 
-  module _ (rest text : List ℕ) (may : MayTurn b slot) (does : Does b slot clock (asks (forks text (at b slot clock pc rest)))) where
+  module _ (rest text : List ℕ) (may : MayTurn b slot) (does : Does b slot clock (asks (forks text (at b slot pc rest)))) where
     abbrev l : Local
-    l = at b slot clock pc rest
+    l = at b slot pc rest
 
     abbrev after : ℕ → Process
     after id = withLocal (processIn b slot) (pushId l id)
@@ -63,7 +63,7 @@ module _ (b : Buffers) (slot clock : ℕ) where
 
     refused : (n : ℕ) → starting k (b .disc) text ≡ refuses n → Proceeds b slot clock (withId rest 0)
     unfolding answered
-    refused n e = proceeds 0 k (live b slot clock may) (ap (λ (s : Starting). forked k slot (b .disc) s l) e)
+    refused n e = proceeds 0 k (live b slot may) (ap (λ (s : Starting). forked k slot (b .disc) s l) e)
 
     begun : (child i : ℕ) → endedSlot k ≡ At child → lookup (b .disc) text ≡ At i → eqb (k .next) idLimit ≡ false
         → ((child : ℕ) × Starts (b .disc) (b .area) text child (stateAfter b slot clock))
@@ -78,8 +78,8 @@ module _ (b : Buffers) (slot clock : ℕ) where
             ∙ started-new facts),
       ),
       subst (λ (n : ℕ). Proceeds b slot clock (withId rest n)) (next-is (b .area))
-          (proceeds (k .next) (started k child entry) (ap isLive (started-spares facts slot (live b slot clock may))
-          ∙ live b slot clock may) does-it),
+          (proceeds (k .next) (started k child entry) (ap isLive (started-spares facts slot (live b slot may))
+          ∙ live b slot may) does-it),
     )
       where
         entry : Entry
@@ -91,21 +91,22 @@ module _ (b : Buffers) (slot clock : ℕ) where
         facts : Begins text k (b .disc) child entry
         facts = starting-begins text k (b .disc) child entry starts-it
 
-        does-it : answered k slot (b .disc) (forks text l) ≡ carriesOn (withProcess (started k child entry) slot (after (k .next))) (b .disc)
+        does-it : answered k slot (b .disc) (forks text l)
+            ≡ carriesOn (withProcess (started k child entry) slot (after (k .next))) (b .disc)
         does-it = ap (λ (s : Starting). forked k slot (b .disc) s l) starts-it
 
         state : stateAfter b slot clock ≡ withProcess (started k child entry) slot (after (k .next))
         state = state-left b slot clock may _ (answers b slot clock may (forks text l) does _ does-it)
 
         other : child ≡ slot → ⊥
-        other same = true-not-false (live b slot clock may) (subst (λ (x : ℕ). isLive (processAt k x) ≡ false) same (facts .free))
+        other same = true-not-false (live b slot may) (subst (λ (x : ℕ). isLive (processAt k x) ≡ false) same (facts .free))
 
   pub fork-exactly : ForkExactly b slot clock
   unfolding starting
   fork-exactly rest text a name =
       go (endedSlot k) refl (lookup (b .disc) text) refl (eqb (k .next) idLimit) refl
     where
-      does : Does b slot clock (asks (forks text (at b slot clock pc rest)))
+      does : Does b slot clock (asks (forks text (at b slot pc rest)))
       does = fork-found b slot clock rest text a name
 
       go : (x : Found) → endedSlot k ≡ x → (y : Found) → lookup (b .disc) text ≡ y → (z : Bool) → eqb (k .next) idLimit ≡ z
@@ -116,7 +117,10 @@ module _ (b : Buffers) (slot clock : ℕ) where
           inl (inl (no-ended-slot (a .may .passes) ended), refused rest text (a .may) does 12 (rw ended))
       go (At child) ended Nowhere file z spent =
           let good = passes-good (b .disc) (b .area) (a .may .passes) in
-          inl (inr (inl (lookup-no-file (b .disc) (good .long) (good .sound) text file)), refused rest text (a .may) does 10 (rw (ended, file)))
+          inl (
+            inr (inl (lookup-no-file (b .disc) (good .long) (good .sound) text file)),
+            refused rest text (a .may) does 10 (rw (ended, file)),
+          )
       go (At child) ended (At i) file true spent =
           inl (
             inr (inr (sym (next-is (b .area)) ∙ eqb-true (k .next) idLimit spent)),

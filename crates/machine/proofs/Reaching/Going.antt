@@ -32,15 +32,15 @@ not-zero : (n : ℕ) → (n ≡ 0 → ⊥) → 0 < n
 not-zero zero h = absurd (h refl)
 not-zero (suc n) h = omega arith
 
+pub live : (b : Buffers) (slot : ℕ) → MayTurn b slot → isLive (processIn b slot) ≡ true
+live b slot may = running-live (processIn b slot) (may .running)
+
 module _ (b : Buffers) (slot clock : ℕ) (may : MayTurn b slot) where
   abbrev k : Kernel
   k = stateOf b
 
   abbrev p : Process
   p = processIn b slot
-
-  pub live : isLive (processIn b slot) ≡ true
-  live = running-live p (may .running)
 
   -- ---- going on
   module _ (t : Turned) (leaves : turned k slot clock (b .disc) ≡ t) where
@@ -51,16 +51,18 @@ module _ (b : Buffers) (slot clock : ℕ) (may : MayTurn b slot) where
     state-left = state-after b slot clock may ∙ ap (λ (u : Turned). u .kernel) leaves
 
     pub onward : (pc : ℕ) (stack : List ℕ) (f : OpenFile) → t .out ≡ []
-        → processAt (t .kernel) slot ≡ withFile (withLocal (processIn b slot) (at b slot clock pc stack)) f
+        → processAt (t .kernel) slot ≡ withFile (withLocal (processIn b slot) (at b slot pc stack)) f
         → Onward b slot clock pc stack f
     onward pc stack f quiet own =
-        let whole : answer (turn slot clock) b ≡ turnedAnswer t b = turn-done b slot clock may ∙ ap (λ (u : Turned). turnedAnswer u b) leaves in
+        let whole : answer (turn slot clock) b ≡ turnedAnswer t b =
+        turn-done b slot clock may ∙ ap (λ (u : Turned). turnedAnswer u b) leaves in
+        let state : p .state ≡ running = eqb-true (p .state) running (may .running) in
         record {
           number = ap (λ (a : Answer). a .number) whole ∙ ap (λ (l : List ℕ). pos (length l)) quiet;
           out = ap (λ (a : Answer). a .out) whole ∙ ap (λ (l : List ℕ). overwrite (b .out) 0 l) quiet;
           own =
               ap (λ (j : Kernel). processAt j slot) state-left ∙ own
-              ∙ ap (λ (s : ℕ). withState (withFile (withLocal p (at b slot clock pc stack)) f) s) (eqb-true (p .state) running (may .running));
+              ∙ ap (λ (s : ℕ). withState (withFile (withLocal p (at b slot pc stack)) f) s) state;
         }
 
   -- ---- what disc and table answer
@@ -75,7 +77,7 @@ module _ (b : Buffers) (slot clock : ℕ) (may : MayTurn b slot) where
     -- the own record is what is put there
     pub carried-on : (j : Kernel) (after : List ℕ) (pc : ℕ) (stack : List ℕ) (f : OpenFile)
         → answered k slot (b .disc) r ≡ carriesOn j after
-        → processAt j slot ≡ withFile (withLocal (processIn b slot) (at b slot clock pc stack)) f
+        → processAt j slot ≡ withFile (withLocal (processIn b slot) (at b slot pc stack)) f
         → Onward b slot clock pc stack f × (turnAnswer b slot clock .disc ≡ after)
     carried-on j after pc stack f e own =
         let t : Turned = record { kernel = j; disc = after; out = [] } in
@@ -83,11 +85,11 @@ module _ (b : Buffers) (slot clock : ℕ) (may : MayTurn b slot) where
         (onward t leaves pc stack f refl own, disc-left t leaves)
 
     pub continued : (pc : ℕ) (stack : List ℕ) (f : OpenFile) (after : List ℕ)
-        → answered k slot (b .disc) r ≡ continues k slot (b .disc) (at b slot clock pc stack) f after
+        → answered k slot (b .disc) r ≡ continues k slot (b .disc) (at b slot pc stack) f after
         → Onward b slot clock pc stack f × (turnAnswer b slot clock .disc ≡ after)
     continued pc stack f after e =
-        let q : Process = withFile (withLocal p (at b slot clock pc stack)) f in
-        carried-on (withProcess k slot q) after pc stack f e (put-at k slot q live)
+        let q : Process = withFile (withLocal p (at b slot pc stack)) f in
+        carried-on (withProcess k slot q) after pc stack f e (put-at k slot q (live b slot may))
 
     -- n bytes of the open file
     pub in-file : (n : ℕ) (rest : Answered) (done : Type 0)

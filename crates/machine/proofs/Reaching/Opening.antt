@@ -11,7 +11,8 @@ use Rattle.float.specs.declared.whole.Size.the-variants.{Is, Refused}
 use Rattle.number.specs.Value.{numberOf}
 use Rattle.number.specs.declared.Number.{Number}
 use Rattle.place.specs.Place.{runFrom}
-use Rattle.store.specs.Directory.{lookup}
+use Rattle.place.specs.declared.Run.{Run}
+use Rattle.store.specs.Directory.{entryAt, lookup, runOf}
 use Rattle.store.specs.File.{admission, entered}
 use Rattle.store.specs.declared.Admission.{Admission}
 use Rattle.store.specs.declared.Admission.the-variants.{Start, Denied}
@@ -23,7 +24,7 @@ use Rattle.machine.specs.Changed.{Enters}
 use Rattle.machine.specs.Effect.{Request, asks, closes, opens}
 use Rattle.machine.specs.NoPlace.{NewFileRefused, by-size}
 use Rattle.machine.specs.Reaching.{CloseExactly, Creates, Faults, OpenExactly, Opens, fileIn}
-use Rattle.machine.specs.Fields.{NoFile}
+use Rattle.machine.specs.Fields.{NoFile, sizeOf, startOf}
 use Rattle.machine.specs.Refusals.{stateOf}
 use Rattle.machine.specs.State.{Local, withLocal, withProcess}
 use Rattle.machine.specs.declared.Kernel.{Kernel}
@@ -48,9 +49,9 @@ module _ (b : Buffers) (slot clock : ℕ) where
   pub close-exactly : CloseExactly b slot clock
   unfolding answered
   close-exactly a =
-      let q : Process = withLocal (processIn b slot) (at b slot clock pc (stackIn b slot)) in
-      carried-on b slot clock (a .may) (closes (at b slot clock pc (stackIn b slot))) (close-found b slot clock a) (withProcess k slot q)
-      (b .disc) pc (stackIn b slot) (fileIn b slot clock) refl (put-at k slot q (live b slot clock (a .may)))
+      let q : Process = withLocal (processIn b slot) (at b slot pc (stackIn b slot)) in
+      carried-on b slot clock (a .may) (closes (at b slot pc (stackIn b slot))) (close-found b slot clock a) (withProcess k slot q)
+      (b .disc) pc (stackIn b slot) (fileIn b slot clock) refl (put-at k slot q (live b slot (a .may)))
 
   abbrev NewFile : List ℕ → List ℕ → Number → Type 0
   NewFile rest text size =
@@ -65,7 +66,7 @@ module _ (b : Buffers) (slot clock : ℕ) where
       size = numberOf kind bytes
 
       l : Local
-      l = at b slot clock pc rest
+      l = at b slot pc rest
 
       r : Request
       r = opens text size l
@@ -96,9 +97,11 @@ module _ (b : Buffers) (slot clock : ℕ) where
 
       found : (f : Found) → lookup (b .disc) text ≡ f → Opens b slot clock rest text ⊎ (NoFile (b .disc) text × NewFile rest text size)
       found (At i) e =
-          let on = continued b slot clock (a .may) r does pc rest _ (b .disc)
+          let run : runOf (entryAt (b .disc) i) ≡ runFrom (startOf (b .disc) i) (sizeOf (b .disc) i) =
+          λ z. runFrom (entry-start (b .disc) i z) (entry-size (b .disc) i z) in
+          let on = continued b slot clock (a .may) r does pc rest (opened (runFrom (startOf (b .disc) i) (sizeOf (b .disc) i))) (b .disc)
           (ap (λ (f : Found). openedAt k slot (b .disc) f text size l) e
-          ∙ (λ z. continues k slot (b .disc) l (opened (record { start = entry-start (b .disc) i z; len = entry-size (b .disc) i z })) (b .disc))) in
+          ∙ ap (λ (w : Run). continues k slot (b .disc) l (opened w) (b .disc)) run) in
           inl (i, lookup-named (b .disc) text i e, on .0, on .1)
       found Nowhere e = inr (
         lookup-no-file (b .disc) (good .long) (good .sound) text e,

@@ -1,25 +1,25 @@
 -- SET: it lacks space, or the variable is at the lowest address that fits.
 use Prim.Native.Nat.{ℕ, _+_, _≤_, _<_}
 use mathlib.Core.Path.{_≡_, refl, sym, ap, subst, subst⁻¹, _∙_}
-use mathlib.Core.Bool.{Bool, true, false, not}
+use mathlib.Core.Bool.{Bool, true, false}
 use mathlib.Core.List.{List, [], _∷_, _++_, map}
 use mathlib.Core.Logic.{_⊎_, inl, inr}
 use native.Mathlib.Omega.{arith}
-use lib.Dec.{leb, ltb}
+use lib.Dec.{ltb}
 use lib.ListN.{length, length-append}
 use borrow.Author.Tests.{lt-leb}
 use Rattle.buffer.specs.Buffer.{overwrite}
 use Rattle.buffer.specs.Lists.{tab}
 use Rattle.buffer.specs.declared.Found.{Found}
 use Rattle.buffer.specs.declared.Found.the-variants.{At, Nowhere}
-use Rattle.buffer.proofs.Bools.{not-is-false, true-not-false}
+use Rattle.buffer.proofs.Bools.{true-not-false}
 use Rattle.buffer.proofs.Kept.{any-at}
 use Rattle.buffer.proofs.Lists.{tab-at, tab-length}
 use Rattle.place.specs.Place.{fits, place}
 use Rattle.place.specs.declared.Run.{Run}
 use Rattle.place.proofs.Place.{is-fits, place-fits, place-lowest}
-use Rattle.variable.specs.Assign.{addressOr, added, assigned, entryLimit, highEnd, ifEntry, lowEnd, newVariable, placeFor, placing, takenRuns}
-use Rattle.variable.specs.Assign.{valueBytes, valueOf}
+use Rattle.variable.specs.Assign.{addressOr, added, assigned, entryLimit, highEnd, ifEntry, lowEnd, newVariable, placeFor, placing}
+use Rattle.variable.specs.Assign.{takenRuns, valueBytes, valueOf}
 use Rattle.variable.specs.Limits.{maxVariables, memorySize}
 use Rattle.variable.specs.Table.{Shaped, counted, freed, isOf, runOf}
 use Rattle.variable.specs.declared.Assigned.{Assigned}
@@ -92,7 +92,7 @@ module _ (v : Variables) (name id kind : ℕ) (bytes : List ℕ) (a : ℕ)
         λ m h f. true-not-false f (place-lowest (takenRuns w) lowEnd highEnd (length bytes) a m found h),
       )
 
-  pub is-assigned : Shaped v → v .count ≤ maxVariables → Assigns v name id kind bytes (assigned v name id (valueOf kind bytes) .variables)
+  is-assigned : Shaped v → v .count ≤ maxVariables → Assigns v name id kind bytes (assigned v name id (valueOf kind bytes) .variables)
   unfolding w x added
   is-assigned shaped few =
       let sized : length (valueBytes x) ≡ length bytes = ap length (value-made kind bytes) in
@@ -111,7 +111,7 @@ module _ (v : Variables) (name id kind : ℕ) (bytes : List ℕ) (a : ℕ)
       }
 
   -- so it does not lack space
-  pub found-room : 1 ≤ length bytes → lacksSpace v name id (length bytes) ≡ false
+  found-room : 1 ≤ length bytes → lacksSpace v name id (length bytes) ≡ false
   unfolding lacksSpace w
   found-room some =
       let r = place-address w (length bytes) a placed in
@@ -153,7 +153,7 @@ module _ (b : Buffers) (slot clock : ℕ) where
       set = assigned (k .variables) name id (valueOf kind bytes)
 
       l : Local
-      l = at b slot clock (processIn b slot .pc + 2) rest
+      l = at b slot (processIn b slot .pc + 2) rest
 
       does : Does b slot clock (assigns name kind bytes l)
       does = set-found b slot clock rest kind bytes a more top
@@ -189,7 +189,7 @@ module _ (b : Buffers) (slot clock : ℕ) where
           inr (
             found-room (k .variables) name id kind bytes s e (value-some top),
             onward b slot clock (a .may) t leaves (processIn b slot .pc + 2) rest (fileIn b slot clock) refl
-                (put-at k slot q (live b slot clock (a .may))),
+                (put-at k slot q (live b slot (a .may))),
             disc-left b slot clock (a .may) t leaves,
             subst⁻¹ (λ (j : Kernel). Assigns (k .variables) name id kind bytes (j .variables)) (state-left b slot clock (a .may) t leaves)
                 (is-assigned (k .variables) name id kind bytes s e (good .sized .variables)

@@ -58,10 +58,10 @@ module _ (b : Buffers) (slot clock : ℕ) where
   wait-exactly rest kind bytes a top = go (any (test kind bytes) (k .processes)) refl refl
     where
       stay : Local
-      stay = at b slot clock pc (stackIn b slot)
+      stay = at b slot pc (stackIn b slot)
 
       on : Local
-      on = at b slot clock (pc + 1) rest
+      on = at b slot (pc + 1) rest
 
       r : Request
       r = awaits (numberOf kind bytes) stay on
@@ -71,11 +71,11 @@ module _ (b : Buffers) (slot clock : ℕ) where
 
       -- with what is chosen of the two
       goes : (place : ℕ) (stack : List ℕ)
-          → answered k slot (b .disc) r ≡ carriesOn (withProcess k slot (withLocal (processIn b slot) (at b slot clock place stack))) (b .disc)
+          → answered k slot (b .disc) r ≡ carriesOn (withProcess k slot (withLocal (processIn b slot) (at b slot place stack))) (b .disc)
           → Onward b slot clock place stack (fileIn b slot clock) × SameDisc b slot clock
       goes place stack e =
           carried-on b slot clock (a .may) r does _ (b .disc) place stack (fileIn b slot clock) e
-          (put-at k slot (withLocal (processIn b slot) (at b slot clock place stack)) (live b slot clock (a .may)))
+          (put-at k slot (withLocal (processIn b slot) (at b slot place stack)) (live b slot (a .may)))
 
       go : (c : Bool) → any (test kind bytes) (k .processes) ≡ c
           → answered k slot (b .disc) r ≡ carriesOn (withProcess k slot (withLocal (processIn b slot) (cond c stay on))) (b .disc)
