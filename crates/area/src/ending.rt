@@ -11,7 +11,7 @@ ghost use mathlib.Core.Path.{_≡_};
 ghost use Prim.Native.Nat.{_<_, _≤_};
 ghost use Rattle.machine.specs.Limits.{slotCount};
 ghost use Rattle.machine.specs.Start.{startedProcess};
-ghost use Rattle.machine.specs.State.{ended, endedProcess};
+ghost use Rattle.machine.specs.Ended.{ended, endedProcess};
 ghost use Rattle.variable.specs.Limits.{maxVariables};
 
 // Document 01: "Its record keeps name, ID and fault (0 unless a fault) and is otherwise zero."

@@ -45,7 +45,8 @@ use Rattle.machine.specs.Operations.{commanded, inUse, turnIfRunning, turnsOf}
 use Rattle.machine.specs.Single.{single}
 use Rattle.machine.specs.Stack.{pop, popNumber, popString, wellFormed}
 use Rattle.machine.specs.Start.{starting}
-use Rattle.machine.specs.State.{ended, endedSlot, slotOf}
+use Rattle.machine.specs.Ended.{ended}
+use Rattle.machine.specs.State.{endedSlot, slotOf}
 use Rattle.machine.specs.Trace.{Event, Invocation, event, events, turnEvents}
 use Rattle.machine.specs.Turn.{carriedOut, turned}
 use Rattle.machine.proofs.Traces.Isolated.{isolated}

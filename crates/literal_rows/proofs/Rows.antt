@@ -33,7 +33,8 @@ use Rattle.machine.specs.Instruction.{find, instructionOf}
 use Rattle.machine.specs.Operations.{commanded, listText, processLine}
 use Rattle.machine.specs.Stack.{pop, popNumber, popString, wellFormed}
 use Rattle.machine.specs.Start.{starting}
-use Rattle.machine.specs.State.{ended, endedSlot, slotOf}
+use Rattle.machine.specs.Ended.{ended}
+use Rattle.machine.specs.State.{endedSlot, slotOf}
 use Rattle.machine.specs.Turn.{carriedOut, turned}
 use Rattle.literal_rows.specs.Calls.{laid, leftBy, numbers}
 use Rattle.literal_rows.specs.Goodness.{AreaRows, DiscRows}

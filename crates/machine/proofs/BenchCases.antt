@@ -33,7 +33,7 @@ use Rattle.machine.specs.Instruction.{instructionOf}
 use Rattle.machine.specs.Operations.{inUse}
 use Rattle.machine.specs.Single.{single}
 use Rattle.machine.specs.Stack.{pop, wellFormed}
-use Rattle.machine.specs.State.{ended}
+use Rattle.machine.specs.Ended.{ended}
 use Rattle.machine.specs.Turn.{turned}
 
 rows-hold : Every cases × Every misreadings

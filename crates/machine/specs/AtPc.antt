@@ -17,6 +17,17 @@ use Rattle.machine.specs.declared.Process.{Process}
 abbrev pub processIn : Buffers → ℕ → Process
 processIn b slot = processAt (stateOf b) slot
 
+abbrev pub pcIn : Buffers → ℕ → ℕ
+pcIn b slot = processIn b slot .pc
+
+abbrev pub fileIn : Buffers → ℕ → OpenFile
+fileIn b slot = processIn b slot .file
+
+-- n bytes further in the open file
+abbrev pub ahead : Buffers → ℕ → ℕ → OpenFile
+ahead b slot n =
+    record { start = fileIn b slot .start; len = fileIn b slot .len; offset = fileIn b slot .offset + n }
+
 -- the stack below SP
 abbrev pub stackIn : Buffers → ℕ → List ℕ
 stackIn b slot = take (processIn b slot .sp) (processIn b slot .stack)

@@ -13,7 +13,8 @@ use Rattle.variable.specs.declared.Assigned.{Assigned}
 use Rattle.variable.specs.declared.Placing.the-variants.{NoEntry, NoRun}
 use Rattle.machine.specs.Beyond.{breaks, answered}
 use Rattle.machine.specs.Effect.{assigns, stops, faults, asks, Request}
-use Rattle.machine.specs.State.{Local, endedProcess, processAt}
+use Rattle.machine.specs.Ended.{endedProcess}
+use Rattle.machine.specs.State.{Local, processAt}
 use Rattle.machine.specs.Turn.{effectAt}
 use Rattle.machine.specs.declared.Kernel.{Kernel}
 

@@ -1,6 +1,7 @@
 -- the kernel's state, its bytes, and when they are good
 pub mod Limits
 pub mod State
+pub mod Ended
 pub mod Area
 pub mod GoodArea
 -- one instruction, as a function of its process
@@ -30,6 +31,7 @@ pub mod NoPlace
 pub mod Demands
 pub mod AtPc
 pub mod Changed
+pub mod Faults
 pub mod Reaching
 pub mod Done
 pub mod LeftAlone

@@ -4,16 +4,14 @@ use mathlib.Core.Path.{_≡_}
 use mathlib.Core.Bool.{false}
 use mathlib.Core.List.{List}
 use mathlib.Core.Logic.{_⊎_}
-use lib.ListN.{length}
 use Rattle.float.specs.declared.whole.Size.{Size}
 use Rattle.float.specs.declared.whole.Size.the-variants.{Is, Refused}
 use Rattle.place.specs.Place.{fits}
 use Rattle.place.specs.declared.Run.{Run}
-use Rattle.store.specs.Directory.{fileCount, taken}
-use Rattle.store.specs.Layout.{dataStart, maxFiles}
-use Rattle.store.specs.Name.{goodName}
+use Rattle.store.specs.Layout.{maxFiles}
 use Rattle.variable.specs.Assign.{entryLimit, highEnd, lowEnd, takenRuns}
 use Rattle.variable.specs.declared.Variables.{Variables}
+use Rattle.machine.specs.Fields.{Free, IsName, filesOn}
 
 -- no start for n bytes among these runs between lo and hi
 abbrev pub NoneFits : List Run → ℕ → ℕ → ℕ → Type 0
@@ -25,7 +23,7 @@ Lacking v n = (entryLimit ≤ v .count) ⊎ NoneFits (takenRuns v) lowEnd highEn
 
 -- Document 01, fault 13: "OPEN's new file refused by name, size or store's 8 or 9"
 pub data NewFileRefused (disc name : List ℕ) (size : Size) : Type 0 where
-  by-name : goodName name ≡ false → NewFileRefused disc name size
+  by-name : (IsName name → ⊥) → NewFileRefused disc name size
   by-size : size ≡ Refused → NewFileRefused disc name size
-  by-full : fileCount disc ≡ maxFiles → NewFileRefused disc name size
-  by-no-run : (n : ℕ) → size ≡ Is n → NoneFits (taken disc) dataStart (length disc) n → NewFileRefused disc name size
+  by-full : filesOn disc ≡ maxFiles → NewFileRefused disc name size
+  by-no-run : (n : ℕ) → size ≡ Is n → ((start : ℕ) → Free disc n start → ⊥) → NewFileRefused disc name size

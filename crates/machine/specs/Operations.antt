@@ -10,7 +10,8 @@ use Rattle.decimal.specs.Decimal.{decimal}
 use Rattle.store.specs.Name.{trimmed}
 use Rattle.store.specs.declared.Entry.{Entry}
 use Rattle.machine.specs.GoodArea.{isOpenIn, isProgram}
-use Rattle.machine.specs.State.{ended, isLive, isRunning, paused, processAt, running, slotOf, withProcess}
+use Rattle.machine.specs.Ended.{ended}
+use Rattle.machine.specs.State.{isLive, isRunning, paused, processAt, running, slotOf, withProcess}
 use Rattle.machine.specs.State.{withState}
 use Rattle.machine.specs.Turn.{Turned, turned}
 use Rattle.machine.specs.declared.Kernel.{Kernel}

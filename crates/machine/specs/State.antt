@@ -7,7 +7,6 @@ use lib.ListN.{getD, length, replicate, set, take}
 use Rattle.buffer.specs.Lists.{index, keep}
 use Rattle.buffer.specs.declared.Found.{Found}
 use Rattle.place.specs.Place.{noRun}
-use Rattle.variable.specs.Table.{freedAll}
 use Rattle.variable.specs.declared.Variables.{Variables}
 use Rattle.machine.specs.Limits.{stackSize}
 use Rattle.machine.specs.declared.Kernel.{Kernel}
@@ -139,27 +138,3 @@ endedSlot k = index (λ p. not (isLive p)) (k .processes)
 
 abbrev pub liveIds : Kernel → List ℕ
 liveIds k = map (λ p. p .id) (keep isLive (k .processes))
-
--- ---- ending
--- Document 01: "Its record keeps name, ID and fault (0 unless a fault) and is otherwise zero."
-abbrev pub endedProcess : Process → ℕ → Process
-endedProcess p fault =
-    record {
-      name = p .name;
-      id = p .id;
-      state = 0;
-      fault = fault;
-      code = noRun;
-      pc = 0;
-      loopstart = 0;
-      file = noFile;
-      sp = 0;
-      spare = 0;
-      stack = replicate stackSize 0;
-    }
-
--- Document 01: "Ending (STOP, kill, fault) frees the process's variables."
-unfoldable pub ended : Kernel → ℕ → ℕ → Kernel
-ended k slot fault =
-    withVariables (withProcess k slot (endedProcess (processAt k slot) fault))
-    (freedAll (k .variables) (processAt k slot .id))

@@ -10,7 +10,8 @@ use Rattle.variable.specs.declared.Variables.{Variables}
 use Rattle.machine.specs.Beyond.{Answered, carriesOn, breaks, answered}
 use Rattle.machine.specs.Effect.{Effect, goes, assigns, stops, faults, asks}
 use Rattle.machine.specs.Exec.{exec}
-use Rattle.machine.specs.State.{Local, ended, processAt, withLocal, localOf, withProcess, withVariables}
+use Rattle.machine.specs.Ended.{ended}
+use Rattle.machine.specs.State.{Local, processAt, withLocal, localOf, withProcess, withVariables}
 use Rattle.machine.specs.declared.Kernel.{Kernel}
 use Rattle.machine.specs.declared.Process.{Process}
 

@@ -19,7 +19,8 @@ use Rattle.variable.proofs.Views.{take-bound}
 use Rattle.machine.specs.Area.{kernelBytes, kernelOf}
 use Rattle.machine.specs.Effect.{assigns}
 use Rattle.machine.specs.Limits.{stackSize}
-use Rattle.machine.specs.State.{Local, ended, processAt, withFile, withLocal, withProcess}
+use Rattle.machine.specs.Ended.{ended}
+use Rattle.machine.specs.State.{Local, processAt, withFile, withLocal, withProcess}
 use Rattle.machine.specs.Turn.{carriedOut, finished, setting}
 use Rattle.machine.specs.declared.Kernel.{Kernel}
 use Rattle.machine.specs.declared.Process.{Process}

@@ -4,7 +4,7 @@ ghost use Prim.Native.Nat.{_<_, _≤_};
 ghost use lib.ListN.{length};
 ghost use Rattle.machine.specs.Area.{kernelBytes, kernelOf};
 ghost use Rattle.machine.specs.Limits.{areaLength, slotCount};
-ghost use Rattle.machine.specs.State.{ended};
+ghost use Rattle.machine.specs.Ended.{ended};
 ghost use Rattle.variable.specs.Limits.{maxVariables};
 
 // Document 01: "Ending (STOP, kill, fault) frees the process's variables. Its record keeps name, ID and fault (0 unless

@@ -12,7 +12,8 @@ use Rattle.machine.specs.Beyond.{Answered, answered, breaks, carriesOn, continu
 use Rattle.machine.specs.Effect.{awaits}
 use Rattle.machine.specs.Limits.{stackSize}
 use Rattle.machine.specs.Start.{started, starts}
-use Rattle.machine.specs.State.{Local, ended, processAt, withFile, withLocal, withProcess}
+use Rattle.machine.specs.Ended.{ended}
+use Rattle.machine.specs.State.{Local, processAt, withFile, withLocal, withProcess}
 use Rattle.machine.specs.declared.Kernel.{Kernel}
 use Rattle.machine.specs.declared.OpenFile.{OpenFile}
 use Rattle.machine.specs.declared.Process.{Process}

@@ -19,7 +19,8 @@ use Rattle.variable.specs.Limits.{memorySize}
 use Rattle.machine.specs.Area.{kernelOf, processOf, stackAt, variablesOf}
 use Rattle.machine.specs.Limits.{areaLength, recordSize, recordsAt, slotCount, stackSize, zerosAt, zerosSize}
 use Rattle.machine.specs.Start.{started, startedProcess}
-use Rattle.machine.specs.State.{Local, ended, endedProcess, noProcess, processAt, withFile, withLocal, withProcess, withState}
+use Rattle.machine.specs.Ended.{ended, endedProcess}
+use Rattle.machine.specs.State.{Local, noProcess, processAt, withFile, withLocal, withProcess, withState}
 use Rattle.machine.specs.State.{withVariables}
 use Rattle.machine.specs.declared.Kernel.{Kernel}
 use Rattle.machine.specs.declared.OpenFile.{OpenFile}

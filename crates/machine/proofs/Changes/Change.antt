@@ -23,7 +23,8 @@ use Rattle.machine.specs.GoodArea.{goodKernel}
 use Rattle.machine.specs.Limits.{stackSize}
 use Rattle.machine.specs.Operations.{inUse}
 use Rattle.machine.specs.Start.{starts, started, starting}
-use Rattle.machine.specs.State.{ended, isLive, isRunning, processAt, withProcess, withVariables}
+use Rattle.machine.specs.Ended.{ended}
+use Rattle.machine.specs.State.{isLive, isRunning, processAt, withProcess, withVariables}
 use Rattle.machine.specs.Turn.{programOf}
 use Rattle.machine.specs.declared.Kernel.{Kernel}
 use Rattle.machine.specs.declared.Process.{Process}

@@ -19,7 +19,8 @@ use Rattle.machine.specs.Effect.{asks, assigns, opens}
 use Rattle.machine.specs.Ending.{Ends, stopped, faulted, unplaced, broken}
 use Rattle.machine.specs.NoPlace.{Lacking, NewFileRefused}
 use Rattle.machine.specs.Refusals.{stateOf, MayTurn}
-use Rattle.machine.specs.State.{Local, endedProcess, isRunning, processAt}
+use Rattle.machine.specs.Ended.{endedProcess}
+use Rattle.machine.specs.State.{Local, isRunning, processAt}
 use Rattle.machine.specs.Turn.{effectAt, turned}
 use Rattle.machine.specs.declared.Kernel.{Kernel}
 use Rattle.machine.specs.declared.Process.{Process}

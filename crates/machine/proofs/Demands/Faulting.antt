@@ -19,7 +19,8 @@ use Rattle.variable.proofs.Freeing.{freed-counted, freed-memory, owned-freed-al
 use Rattle.machine.specs.Beyond.{Answered, carriesOn, breaks, answered}
 use Rattle.machine.specs.Effect.{Effect, goes, assigns, stops, faults, asks, Request}
 use Rattle.machine.specs.Ending.{Ends, stopped, faulted, unplaced, broken, Touched, entriesOfOthers, placed}
-use Rattle.machine.specs.State.{Local, ended, endedProcess, isRunning, localOf, noProcess, processAt}
+use Rattle.machine.specs.Ended.{ended, endedProcess}
+use Rattle.machine.specs.State.{Local, isRunning, localOf, noProcess, processAt}
 use Rattle.machine.specs.Turn.{effectAt, Turned, answering, carriedOut, finished, programOf, setting, turned}
 use Rattle.machine.specs.declared.Kernel.{Kernel}
 use Rattle.machine.proofs.Demands.Lasting.{LeftRunning, answer-left, moved-running}

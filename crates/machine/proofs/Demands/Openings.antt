@@ -36,6 +36,8 @@ use Rattle.machine.specs.NoPlace.{NewFileRefused, by-name, by-size, by-f
 use Rattle.machine.specs.State.{Local}
 use Rattle.machine.specs.declared.Kernel.{Kernel}
 use Rattle.machine.specs.declared.OpenFile.{OpenFile}
+use Rattle.machine.proofs.Fields.Files.{free-fits}
+use Rattle.machine.proofs.Fields.Names.{is-name-good}
 
 -- a size that is not refused is one of the disc's
 sized-within : (max n : ℕ) (z : ℤ) → sized (within max z) ≡ Is n → leb 1 n && leb n max ≡ true
@@ -68,12 +70,12 @@ module _ (disc name : List ℕ) (long : isDiscLength (length disc) ≡ true) (go
       → admission disc name n ≡ Denied r → Denial disc name n r → NewFileRefused disc name size
   denial-refuses n size e fit new WrongLength a d = absurd (true-not-false long d)
   denial-refuses n size e fit new BadDisc a d = absurd (true-not-false good d)
-  denial-refuses n size e fit new BadName a d = by-name d
+  denial-refuses n size e fit new BadName a d = by-name λ q. true-not-false (is-name-good name q) d
   denial-refuses n size e fit new BadSize a d = absurd (true-not-false fit d)
   denial-refuses n size e fit new DirectoryFull a d = by-full (denied-full disc name n good a)
   denial-refuses n size e fit new NameExists a d = absurd (let found : lookup disc name ≡ At (d .0) = d .1 in
       let z : _≡_ {A = ℕ} 0 1 = cc in omega arith)
-  denial-refuses n size e fit new NoRun a d = by-no-run n e d
+  denial-refuses n size e fit new NoRun a d = by-no-run n e λ start free. true-not-false (free-fits disc n start free) (d start)
   denial-refuses n size e fit new ShortOutput a d = absurd d
   denial-refuses n size e fit new NoSuchFile a d = absurd d
 

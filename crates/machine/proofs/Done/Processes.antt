@@ -20,7 +20,8 @@ use Rattle.machine.specs.Operations.{Command, becomes, refused, suspend,
 use Rattle.machine.specs.Operations.{Commanded as Outcome}
 use Rattle.machine.specs.Refusals.{Passes, stateOf}
 use Rattle.machine.specs.Start.{started, startIn, starting, starts}
-use Rattle.machine.specs.State.{ended, endedSlot, paused, processAt, running, slotOf, withProcess, withState}
+use Rattle.machine.specs.Ended.{ended}
+use Rattle.machine.specs.State.{endedSlot, paused, processAt, running, slotOf, withProcess, withState}
 use Rattle.machine.specs.declared.Kernel.{Kernel}
 use Rattle.machine.proofs.Changes.Change.{begins}
 use Rattle.machine.proofs.Changes.Replaced.{put-at}

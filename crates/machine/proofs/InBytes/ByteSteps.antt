@@ -15,7 +15,8 @@ use Rattle.variable.proofs.Freeing.{freed-count}
 use Rattle.variable.proofs.Setting.{assigned-keeps, place-address}
 use Rattle.machine.specs.Limits.{stackSize}
 use Rattle.machine.specs.Start.{started, startedProcess}
-use Rattle.machine.specs.State.{Local, ended, endedProcess, noFile, processAt, withFile, withLocal, withProcess, withState}
+use Rattle.machine.specs.Ended.{ended, endedProcess}
+use Rattle.machine.specs.State.{Local, noFile, processAt, withFile, withLocal, withProcess, withState}
 use Rattle.machine.specs.State.{withVariables}
 use Rattle.machine.specs.declared.Kernel.{Kernel}
 use Rattle.machine.specs.declared.OpenFile.{OpenFile}

@@ -207,7 +207,7 @@ module _ (b : Buffers) (hd : Bytes (b .disc)) (ha : Bytes (b .area)) (ho : Bytes
 
   -- ---- format and boot
   booted-bytes : Bytes booted
-  booted-bytes = each-set IsByte (replicate areaLength 0) nextAt 1 (zeros-bytes areaLength) (omega arith)
+  booted-bytes = each-set IsByte (replicate areaLength 0) nextAt _ (zeros-bytes areaLength) (omega arith)
 
   boot-answer : Left (bootAnswer b)
   unfolding bootAnswer

@@ -14,7 +14,8 @@ use Rattle.variable.specs.declared.Value.{Value}
 use Rattle.variable.proofs.Freeing.{owned-freed-all}
 use Rattle.variable.proofs.Goodness.{good-variables-is}
 use Rattle.variable.proofs.Setting.{assigned-own}
-use Rattle.machine.specs.State.{ended, endedProcess, isLive, liveIds, processAt, slotOf, withProcess}
+use Rattle.machine.specs.Ended.{ended, endedProcess}
+use Rattle.machine.specs.State.{isLive, liveIds, processAt, slotOf, withProcess}
 use Rattle.machine.specs.declared.Kernel.{Kernel}
 use Rattle.machine.proofs.Changes.Change.{GoodState}
 use Rattle.machine.proofs.Goodness.GoodLaws.{good-kernel-is, one-of-id}

@@ -19,7 +19,8 @@ use Rattle.variable.proofs.Goodness.{assigned-good, freed-all-good, good-variab
 use Rattle.variable.proofs.Setting.{assigned-shaped}
 use Rattle.machine.specs.GoodArea.{goodProcess, isProgram}
 use Rattle.machine.specs.Limits.{slotCount}
-use Rattle.machine.specs.State.{ended, endedProcess, isLive, liveIds, processAt, withProcess, withVariables}
+use Rattle.machine.specs.Ended.{ended, endedProcess}
+use Rattle.machine.specs.State.{isLive, liveIds, processAt, withProcess, withVariables}
 use Rattle.machine.specs.declared.Kernel.{Kernel}
 use Rattle.machine.specs.declared.Process.{Process}
 use Rattle.machine.proofs.Changes.Change.{GoesOn, GoodState, Own, stays, moves, sets, ends}

@@ -10,7 +10,8 @@ use Rattle.variable.specs.Table.{owned}
 use Rattle.variable.proofs.Freeing.{owned-freed-all-other}
 use Rattle.variable.proofs.Goodness.{good-variables-is}
 use Rattle.variable.proofs.Setting.{assigned-other}
-use Rattle.machine.specs.State.{ended, endedProcess, isLive, liveIds, processAt, slotOf}
+use Rattle.machine.specs.Ended.{ended, endedProcess}
+use Rattle.machine.specs.State.{isLive, liveIds, processAt, slotOf}
 use Rattle.machine.specs.declared.Kernel.{Kernel}
 use Rattle.machine.proofs.Changes.Change.{GoodState, Own, stays, moves, sets, ends}
 use Rattle.machine.proofs.Goodness.GoodLaws.{good-kernel-is, one-of-id}

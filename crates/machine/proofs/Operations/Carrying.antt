@@ -12,7 +12,8 @@ use Rattle.variable.specs.Good.{goodSize}
 use Rattle.variable.specs.declared.Placing.{Placing}
 use Rattle.variable.specs.declared.Placing.the-variants.{Address, NoEntry, NoRun}
 use Rattle.variable.specs.Limits.{valueSize}
-use Rattle.machine.specs.State.{Local, ended, isLive, processAt, withFile, withLocal, withProcess}
+use Rattle.machine.specs.Ended.{ended}
+use Rattle.machine.specs.State.{Local, isLive, processAt, withFile, withLocal, withProcess}
 use Rattle.machine.specs.Turn.{programOf, setting}
 use Rattle.machine.specs.declared.Kernel.{Kernel}
 use Rattle.machine.specs.declared.OpenFile.{OpenFile}

@@ -8,7 +8,8 @@ use lib.Dec.{eqb}
 use Rattle.buffer.specs.declared.Found.{Found}
 use Rattle.buffer.specs.declared.Found.the-variants.{At, Nowhere}
 use Rattle.machine.specs.Operations.{Command, Commanded, becomes, refused, suspend, resume, kill, changed, commandAt, commanded}
-use Rattle.machine.specs.State.{ended, isLive, paused, processAt, running, slotOf, withProcess, withState}
+use Rattle.machine.specs.Ended.{ended}
+use Rattle.machine.specs.State.{isLive, paused, processAt, running, slotOf, withProcess, withState}
 use Rattle.machine.specs.declared.Kernel.{Kernel}
 use Rattle.machine.proofs.Changes.Change.{GoodState, GoesOn, Own, moves, ends}
 use Rattle.machine.proofs.Changes.Directories.{live-record}

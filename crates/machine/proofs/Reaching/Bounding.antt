@@ -23,7 +23,7 @@ use Rattle.machine.specs.Effect.{forks, awaits, unlessFaults, withNumber
 use Rattle.machine.specs.Ending.{Ends, stopped, faulted, unplaced, broken}
 use Rattle.machine.specs.Exec.{performs}
 use Rattle.machine.specs.Instruction.{find, instructionOf}
-use Rattle.machine.specs.Reaching.{FaultsBounded, faultsOf, reachingFaults}
+use Rattle.machine.specs.Faults.{FaultsBounded, faultsOf, reachingFaults}
 use Rattle.machine.specs.Refusals.{stateOf}
 use Rattle.machine.specs.Stack.{Item, Popped, popped, cannot, pop}
 use Rattle.machine.specs.State.{localOf}

@@ -25,7 +25,8 @@ use Rattle.machine.specs.Effect.{Request, asks, reads, readsString, writ
 use Rattle.machine.specs.Fields.{Lowest}
 use Rattle.machine.specs.Instruction.{instructionOf}
 use Rattle.machine.specs.Limits.{stackSize}
-use Rattle.machine.specs.Reaching.{Faults, InFile, ReadExactly, ReadStringExactly, Receives, WriteExactly, ahead, read}
+use Rattle.machine.specs.AtPc.{ahead}
+use Rattle.machine.specs.Reaching.{Faults, InFile, ReadExactly, ReadStringExactly, Receives, WriteExactly, read}
 use Rattle.machine.specs.Refusals.{MayTurn, stateOf}
 use Rattle.machine.specs.Stack.{pushString}
 use Rattle.machine.specs.State.{Local}
@@ -84,7 +85,7 @@ module _ (b : Buffers) (slot clock : ℕ) where
         broken-by b slot clock may r does 4 e,
       )
       go true h e =
-          inr (subst (λ (s : List ℕ). Onward b slot clock pc s (ahead b slot clock n) × SameDisc b slot clock) whole
+          inr (subst (λ (s : List ℕ). Onward b slot clock pc s (ahead b slot n) × SameDisc b slot clock) whole
           (continued b slot clock may r does pc stack (advanced f n) (b .disc) e))
 
   -- bytes of the file are bytes of the disc

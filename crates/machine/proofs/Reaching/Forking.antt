@@ -18,7 +18,8 @@ use Rattle.machine.specs.Changed.{CannotStart, Starts}
 use Rattle.machine.specs.Effect.{asks, forks}
 use Rattle.machine.specs.Fields.{nextId}
 use Rattle.machine.specs.Limits.{idLimit}
-use Rattle.machine.specs.Reaching.{ForkExactly, Proceeds, fileIn}
+use Rattle.machine.specs.AtPc.{fileIn}
+use Rattle.machine.specs.Reaching.{ForkExactly, Proceeds}
 use Rattle.machine.specs.Refusals.{MayTurn, stateOf}
 use Rattle.machine.specs.Start.{Starting, starts, refuses, started, starting}
 use Rattle.machine.specs.State.{Local, endedSlot, isLive, processAt, withLocal, withProcess}
@@ -56,10 +57,10 @@ module _ (b : Buffers) (slot clock : ℕ) where
         → answered k slot (b .disc) (forks text l) ≡ carriesOn (withProcess j slot (after id)) (b .disc)
         → Proceeds b slot clock (withId rest id)
     proceeds id j alive e =
-        subst (λ (s : List ℕ). Onward b slot clock pc s (fileIn b slot clock) × SameDisc b slot clock)
+        subst (λ (s : List ℕ). Onward b slot clock pc s (fileIn b slot) × SameDisc b slot clock)
         (append-assoc rest (id / 256 ∷ id % 256 ∷ []) (2 ∷ []))
         (carried-on b slot clock may (forks text l) does (withProcess j slot (after id)) (b .disc) pc
-        (rest ++ (id / 256 ∷ id % 256 ∷ []) ++ (2 ∷ [])) (fileIn b slot clock) e (put-at j slot (after id) alive))
+        (rest ++ (id / 256 ∷ id % 256 ∷ []) ++ (2 ∷ [])) (fileIn b slot) e (put-at j slot (after id) alive))
 
     refused : (n : ℕ) → starting k (b .disc) text ≡ refuses n → Proceeds b slot clock (withId rest 0)
     unfolding answered

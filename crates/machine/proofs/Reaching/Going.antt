@@ -16,7 +16,8 @@ use Rattle.machine.specs.AtPc.{Onward, processIn, turnAnswer}
 use Rattle.machine.specs.Beyond.{Answered, answered, breaks, carriesOn, continues, inside, unlessBreaks, withOpenFile}
 use Rattle.machine.specs.Effect.{Request, asks}
 use Rattle.machine.specs.Ending.{broken}
-use Rattle.machine.specs.Reaching.{Faults, InFile, fileIn}
+use Rattle.machine.specs.AtPc.{fileIn}
+use Rattle.machine.specs.Reaching.{Faults, InFile}
 use Rattle.machine.specs.Refusals.{stateOf, MayTurn}
 use Rattle.machine.specs.State.{isLive, processAt, running, withFile, withLocal, withProcess, withState}
 use Rattle.machine.specs.Turn.{Turned, answering, carriedOut, turned}
@@ -94,7 +95,7 @@ module _ (b : Buffers) (slot clock : ℕ) (may : MayTurn b slot) where
     -- n bytes of the open file
     pub in-file : (n : ℕ) (rest : Answered) (done : Type 0)
         → answered k slot (b .disc) r ≡ withOpenFile k slot (b .disc) (inside k slot (b .disc) n rest)
-        → (fileIn b slot clock .offset + n ≤ fileIn b slot clock .len → answered k slot (b .disc) r ≡ rest → done)
+        → (fileIn b slot .offset + n ≤ fileIn b slot .len → answered k slot (b .disc) r ≡ rest → done)
         → InFile b slot clock n done
     in-file n rest done e then = go (eqb (p .file .len) 0) refl (leb (p .file .offset + n) (p .file .len)) refl e
       where

@@ -23,7 +23,8 @@ use Rattle.machine.specs.Beyond.{answered, continues, created, createdAt
 use Rattle.machine.specs.Changed.{Enters}
 use Rattle.machine.specs.Effect.{Request, asks, closes, opens}
 use Rattle.machine.specs.NoPlace.{NewFileRefused, by-size}
-use Rattle.machine.specs.Reaching.{CloseExactly, Creates, Faults, OpenExactly, Opens, fileIn}
+use Rattle.machine.specs.AtPc.{fileIn}
+use Rattle.machine.specs.Reaching.{CloseExactly, Creates, Faults, OpenExactly, Opens}
 use Rattle.machine.specs.Fields.{NoFile, sizeOf, startOf}
 use Rattle.machine.specs.Refusals.{stateOf}
 use Rattle.machine.specs.State.{Local, withLocal, withProcess}
@@ -51,7 +52,7 @@ module _ (b : Buffers) (slot clock : ℕ) where
   close-exactly a =
       let q : Process = withLocal (processIn b slot) (at b slot pc (stackIn b slot)) in
       carried-on b slot clock (a .may) (closes (at b slot pc (stackIn b slot))) (close-found b slot clock a) (withProcess k slot q)
-      (b .disc) pc (stackIn b slot) (fileIn b slot clock) refl (put-at k slot q (live b slot (a .may)))
+      (b .disc) pc (stackIn b slot) (fileIn b slot) refl (put-at k slot q (live b slot (a .may)))
 
   abbrev NewFile : List ℕ → List ℕ → Number → Type 0
   NewFile rest text size =

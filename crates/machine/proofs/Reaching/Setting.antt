@@ -40,7 +40,8 @@ use Rattle.machine.specs.Changed.{Assigns}
 use Rattle.machine.specs.Effect.{assigns}
 use Rattle.machine.specs.Ending.{unplaced}
 use Rattle.machine.specs.Fields.{Lowest}
-use Rattle.machine.specs.Reaching.{Faults, SetExactly, fileIn}
+use Rattle.machine.specs.AtPc.{fileIn}
+use Rattle.machine.specs.Reaching.{Faults, SetExactly}
 use Rattle.machine.specs.Refusals.{stateOf}
 use Rattle.machine.specs.State.{Local, liveIds, withLocal, withProcess, withVariables}
 use Rattle.machine.specs.Suppositions.{lacksSpace, othersThan}
@@ -168,7 +169,7 @@ module _ (b : Buffers) (slot clock : ℕ) where
       go : (q : Placing) → set .placing ≡ q
           → ((lacksSpace (k .variables) name id (length bytes) ≡ true) × Faults b slot clock 10)
           ⊎ ((lacksSpace (k .variables) name id (length bytes) ≡ false)
-          × Onward b slot clock (processIn b slot .pc + 2) rest (fileIn b slot clock)
+          × Onward b slot clock (processIn b slot .pc + 2) rest (fileIn b slot)
           × SameDisc b slot clock
           × Assigns (k .variables) name id kind bytes (stateAfter b slot clock .variables))
       go NoEntry e = inl (
@@ -188,7 +189,7 @@ module _ (b : Buffers) (slot clock : ℕ) where
           ap (carriedOut k slot (b .disc)) does ∙ ap (λ (f : Placing). setting k slot (b .disc) f (set .variables) l) e in
           inr (
             found-room (k .variables) name id kind bytes s e (value-some top),
-            onward b slot clock (a .may) t leaves (processIn b slot .pc + 2) rest (fileIn b slot clock) refl
+            onward b slot clock (a .may) t leaves (processIn b slot .pc + 2) rest (fileIn b slot) refl
                 (put-at k slot q (live b slot (a .may))),
             disc-left b slot clock (a .may) t leaves,
             subst⁻¹ (λ (j : Kernel). Assigns (k .variables) name id kind bytes (j .variables)) (state-left b slot clock (a .may) t leaves)

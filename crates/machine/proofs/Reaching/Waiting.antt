@@ -15,7 +15,8 @@ use Rattle.machine.specs.Answer.{Buffers}
 use Rattle.machine.specs.AtPc.{Onward, SameDisc, processIn, stackIn}
 use Rattle.machine.specs.Beyond.{answered, carriesOn, isAwaited}
 use Rattle.machine.specs.Effect.{Request, asks, awaits}
-use Rattle.machine.specs.Reaching.{Awaited, Proceeds, WaitExactly, fileIn}
+use Rattle.machine.specs.AtPc.{fileIn}
+use Rattle.machine.specs.Reaching.{Awaited, Proceeds, WaitExactly}
 use Rattle.machine.specs.Refusals.{stateOf}
 use Rattle.machine.specs.State.{Local, isLive, noProcess, processAt, withLocal, withProcess}
 use Rattle.machine.specs.declared.Kernel.{Kernel}
@@ -72,14 +73,14 @@ module _ (b : Buffers) (slot clock : ℕ) where
       -- with what is chosen of the two
       goes : (place : ℕ) (stack : List ℕ)
           → answered k slot (b .disc) r ≡ carriesOn (withProcess k slot (withLocal (processIn b slot) (at b slot place stack))) (b .disc)
-          → Onward b slot clock place stack (fileIn b slot clock) × SameDisc b slot clock
+          → Onward b slot clock place stack (fileIn b slot) × SameDisc b slot clock
       goes place stack e =
-          carried-on b slot clock (a .may) r does _ (b .disc) place stack (fileIn b slot clock) e
+          carried-on b slot clock (a .may) r does _ (b .disc) place stack (fileIn b slot) e
           (put-at k slot (withLocal (processIn b slot) (at b slot place stack)) (live b slot (a .may)))
 
       go : (c : Bool) → any (test kind bytes) (k .processes) ≡ c
           → answered k slot (b .disc) r ≡ carriesOn (withProcess k slot (withLocal (processIn b slot) (cond c stay on))) (b .disc)
-          → (((i : ℕ) × Awaited b slot clock kind bytes i) × Onward b slot clock pc (stackIn b slot) (fileIn b slot clock)
+          → (((i : ℕ) × Awaited b slot clock kind bytes i) × Onward b slot clock pc (stackIn b slot) (fileIn b slot)
           × SameDisc b slot clock)
           ⊎ (((i : ℕ) → Awaited b slot clock kind bytes i → ⊥) × Proceeds b slot clock rest)
       go true t e = let g = goes pc (stackIn b slot) e in inl (awaited-at kind bytes t, g .0, g .1)

@@ -17,7 +17,8 @@ use Rattle.machine.specs.Exec.{exec}
 use Rattle.machine.specs.Limits.{stackSize}
 use Rattle.machine.specs.Observation.{seen, next, observedOf, seenIn, seenOf}
 use Rattle.machine.specs.Single.{Response, did, Single, advancedTo, inState, over, singleEffect}
-use Rattle.machine.specs.State.{Local, ended, endedProcess, isLive, localOf, processAt, withLocal, withProcess, withState}
+use Rattle.machine.specs.Ended.{ended, endedProcess}
+use Rattle.machine.specs.State.{Local, isLive, localOf, processAt, withLocal, withProcess, withState}
 use Rattle.machine.specs.Turn.{Turned, carriedOut, finished, programOf, setting, turned}
 use Rattle.machine.specs.declared.Kernel.{Kernel}
 use Rattle.machine.specs.declared.Process.{Process}

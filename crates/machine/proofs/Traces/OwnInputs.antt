@@ -24,7 +24,8 @@ use Rattle.machine.specs.Operations.{Command, suspend, resume, kill, Com
 use Rattle.machine.specs.Operations.{commanded}
 use Rattle.machine.specs.Refusals.{Passes}
 use Rattle.machine.specs.Single.{tick, given, Response, did, refusedBy, Single, inState, over, single, singleCommand, singleEffect}
-use Rattle.machine.specs.State.{slotOf, ended, isLive, isRunning, paused, processAt, running, withProcess, withState}
+use Rattle.machine.specs.Ended.{ended}
+use Rattle.machine.specs.State.{slotOf, isLive, isRunning, paused, processAt, running, withProcess, withState}
 use Rattle.machine.specs.Trace.{Storage, event, lending, outputText}
 use Rattle.machine.specs.Turn.{Turned, carriedOut, turned}
 use Rattle.machine.specs.declared.Kernel.{Kernel}

@@ -1,7 +1,7 @@
 -- The record is ended, and its variables are freed.
 use borrow.Author.Needs.{needs}
 use lib.ListN.{set}
-use Rattle.machine.specs.State.{ended}
+use Rattle.machine.specs.Ended.{ended}
 use Rattle.area.proofs.ending.end_process.Statement.{statement}
 use Rattle.area.proofs.ending.end_process.Tie as tie
 
