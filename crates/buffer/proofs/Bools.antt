@@ -27,6 +27,3 @@ and-false-right a b t h = not-true-is-false b (λ u. true-not-false (and-both t 
 
 pub not-is-true : {b : Bool} → b ≡ false → not b ≡ true
 not-is-true h = rw h
-
-pub not-is-false : {b : Bool} → b ≡ true → not b ≡ false
-not-is-false h = rw h

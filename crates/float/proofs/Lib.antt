@@ -2,7 +2,6 @@
 pub mod Tests
 pub mod Patterns
 pub mod Fractions
-pub mod Decoding
 pub mod Ranges
 pub mod Values
 pub mod Sizes

@@ -6,13 +6,12 @@ use native.Mathlib.Nat.{div-add-mod'}
 use lib.Dec.{T}
 use lib.Ieee.{binary32, fits, toBits, ofBits}
 use lib.Ieee.Bits.{ofBits-toBits}
-use lib.ListN.{length, take}
-use lib.Seq.{take-at}
+use lib.ListN.{length}
 use mir.Syntax.{w8, w16}
 use mir.Val.{toZ, ofZ, SFits}
 use mir.Facts.{toZ-ofZ}
 use Rattle.float.specs.Bits.{joined}
-use Rattle.number.specs.Value.{encoded, numberOf, padding, typeOf, valueBytes}
+use Rattle.number.specs.Value.{numberOf, typeOf, valueBytes}
 use Rattle.number.specs.declared.Number.{Number}
 use Rattle.number.specs.declared.Number.the-variants.{Char, Int, Float}
 
@@ -26,17 +25,6 @@ pub value-length : (a : Number) → length (valueBytes a) ≡ typeOf a
 value-length (Char x) = refl
 value-length (Int x) = refl
 value-length (Float x) = refl
-
--- as `encode` gives them: four bytes, the value's first
-pub encoded-length : (a : Number) → length (encoded a .bytes) ≡ 4
-unfolding encoded
-encoded-length (Char x) = refl
-encoded-length (Int x) = refl
-encoded-length (Float x) = refl
-
-pub encoded-bytes : (a : Number) → take (encoded a .kind) (encoded a .bytes) ≡ valueBytes a
-unfolding encoded
-encoded-bytes a = take-at (valueBytes a) (padding a) (typeOf a) (value-length a)
 
 joined-bytes : (n : ℕ) → joined (n / 16777216) (n / 65536 % 256) (n / 256 % 256) (n % 256) ≡ n
 joined-bytes n = omega arith

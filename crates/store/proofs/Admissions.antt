@@ -6,10 +6,10 @@ use mathlib.Core.List.{List}
 use native.Mathlib.Omega.{arith}
 use lib.Dec.{leb, ltb}
 use lib.ListN.{length}
-use borrow.Author.Tests.{leb-true, lt-ltb, ltb-false, ltb-true}
+use borrow.Author.Tests.{leb-true, ltb-false, ltb-true}
 use Rattle.buffer.specs.declared.Found.{Found}
 use Rattle.buffer.specs.declared.Found.the-variants.{At, Nowhere}
-use Rattle.buffer.proofs.Bools.{and-left, true-not-false}
+use Rattle.buffer.proofs.Bools.{and-left}
 use Rattle.place.specs.Place.{fits}
 use Rattle.place.proofs.Place.{Fits, no-place-none-fits, place-fits}
 use Rattle.store.specs.Directory.{fileCount, goodDisc, isDiscLength, lookup, taken}
@@ -83,17 +83,3 @@ module _ (disc name : List ℕ) (n : ℕ) where
   -- refusal 8 only with ten files
   pub denied-full : goodDisc disc ≡ true → admission disc name n ≡ Denied DirectoryFull → fileCount disc ≡ maxFiles
   denied-full g e = let full : maxFiles ≤ fileCount disc = denied DirectoryFull e in omega (arith, good-disc-is disc g .few)
-
-  -- what nothing speaks against is admitted
-  pub admits : (s : ℕ) → goodName name ≡ true → goodSize disc n ≡ true → fileCount disc < maxFiles → lookup disc name ≡ Nowhere
-      → fits (taken disc) dataStart (length disc) n s ≡ true
-      → (k : ℕ) × (admission disc name n ≡ Start k)
-  unfolding admission placeOf
-  admits s g z f l h = go (placeOf disc n) refl
-    where
-      start : (k : ℕ) → placeOf disc n ≡ At k → admission disc name n ≡ Start k
-      start k e = rw (g, z, lt-ltb (fileCount disc) maxFiles f, l, e)
-
-      go : (f : Found) → placeOf disc n ≡ f → (k : ℕ) × (admission disc name n ≡ Start k)
-      go (At k) e = (k, start k e)
-      go Nowhere e = absurd (true-not-false h (no-place-none-fits (taken disc) dataStart (length disc) n e s))

@@ -1,24 +1,22 @@
 -- The calls as a whole: a refused one changes nothing, why store is refused, and what free space says.
 use Prim.Native.Nat.{ℕ, _<_}
-use mathlib.Core.Path.{_≡_, refl, sym, ap, _∙_, subst}
-use mathlib.Core.Bool.{Bool, true, false}
-use mathlib.Core.List.{List, [], _∷_}
+use mathlib.Core.Path.{_≡_, refl, ap, subst}
+use mathlib.Core.Bool.{true}
+use mathlib.Core.List.{List}
 use native.Mathlib.Omega.{arith}
-use lib.Dec.{leb, ltb→lt}
-use lib.IntN.{ℤ, pos, negℤ, negℤ-negℤ}
-use lib.ListN.{length, getD}
+use lib.Dec.{ltb→lt}
+use lib.IntN.{ℤ, pos}
+use lib.ListN.{length}
 use lib.Signed.{_<ℤ_}
-use Rattle.buffer.specs.Buffer.{overwrite}
-use Rattle.buffer.specs.Lists.{flat}
 use Rattle.buffer.specs.declared.Found.{Found}
 use Rattle.buffer.specs.declared.Found.the-variants.{At, Nowhere}
 use Rattle.buffer.proofs.Bools.{true-not-false}
 use Rattle.place.specs.Place.{isAt, longest, runFrom}
 use Rattle.place.proofs.Place.{longest-fits, longest-most}
-use Rattle.store.specs.Answer.{Reported, Updated, answerNumber, fileLine, filesAnswer, freeSpaceAnswer}
-use Rattle.store.specs.Answer.{refusalNumber, reported, retrieveAnswer, retrieveAt, storeAnswer, storeAt, updated}
-use Rattle.store.specs.Directory.{contents, entryAt, files, goodDisc, isDiscLength, lookup, runOf, taken}
-use Rattle.store.specs.File.{admission, entered, placeOf, unless, writtenAt}
+use Rattle.store.specs.Answer.{Reported, Updated, answerNumber, freeSpaceAnswer}
+use Rattle.store.specs.Answer.{storeAnswer, storeAt, updated}
+use Rattle.store.specs.Directory.{goodDisc, isDiscLength, taken}
+use Rattle.store.specs.File.{admission, entered, placeOf, writtenAt}
 use Rattle.store.specs.Layout.{dataStart}
 use Rattle.store.specs.declared.Admission.{Admission}
 use Rattle.store.specs.declared.Admission.the-variants.{Start, Denied}
@@ -30,30 +28,6 @@ use Rattle.store.proofs.Checks.{by-checks, disc-length-is}
 use Rattle.store.proofs.Admissions.{Admitted, Denial, admitted, denied}
 
 -- ---- numbers
--- the refusals by their numbers
-refusals : List Refusal
-refusals = NoSuchFile ∷ WrongLength ∷ BadDisc ∷ NoSuchFile ∷ ShortOutput ∷ BadName ∷ BadSize ∷ NameExists ∷ DirectoryFull ∷ NoRun ∷
-    NoSuchFile ∷ []
-
-refusal-at : (r : Refusal) → getD refusals (refusalNumber r) NoSuchFile ≡ r
-unfolding refusals
-refusal-at WrongLength = refl
-refusal-at BadDisc = refl
-refusal-at ShortOutput = refl
-refusal-at BadName = refl
-refusal-at BadSize = refl
-refusal-at NameExists = refl
-refusal-at DirectoryFull = refl
-refusal-at NoRun = refl
-refusal-at NoSuchFile = refl
-
--- a number stands for one refusal
-pub number-refusal : (r q : Refusal) → answerNumber (Refused r) ≡ answerNumber (Refused q) → r ≡ q
-number-refusal r q e =
-    let p : pos (refusalNumber r) ≡ pos (refusalNumber q) = sym (negℤ-negℤ (pos (refusalNumber r))) ∙ ap negℤ e
-    ∙ negℤ-negℤ (pos (refusalNumber q)) in
-    let n : refusalNumber r ≡ refusalNumber q = cc in
-    sym (refusal-at r) ∙ ap (λ (k : ℕ). getD refusals k NoSuchFile) n ∙ refusal-at q
 
 -- "0 or more is done [..], −n is refusal n"
 pub done-not-below : (n : ℕ) → pos n <ℤ pos 0 → ⊥
@@ -92,50 +66,11 @@ store-cases disc name bytes P refused done =
     go (Start s) e l g = done s l g (admitted disc name (length bytes) s e)
 
 -- ---- Document 01: "−n is refusal n with both buffers and the output unchanged"
-pub store-refused : (disc name bytes : List ℕ) → storeAnswer disc name bytes .number <ℤ pos 0 → storeAnswer disc name bytes .disc ≡ disc
-store-refused disc name bytes =
-    store-cases disc name bytes (λ u. u .number <ℤ pos 0 → u .disc ≡ disc) (λ r d h. refl) (λ s l g a h. absurd (done-not-below 0 h))
 
 abbrev Unwritten : List ℕ → Reported → Type 0
 Unwritten out u = u .number <ℤ pos 0 → u .out ≡ out
 
-unwritten : (fit : Bool) (n : ℕ) (out after : List ℕ)
-    → Unwritten out (unless fit (reported (Refused ShortOutput) out) (reported (Done n) after))
-unwritten true n out after h = absurd (done-not-below n h)
-unwritten false n out after h = refl
-
-pub retrieve-refused : (disc name out : List ℕ) → retrieveAnswer disc name out .number <ℤ pos 0 → retrieveAnswer disc name out .out ≡ out
-unfolding retrieveAnswer
-retrieve-refused disc name out = by-checks disc (Unwritten out) _ _ (λ e h. refl) (λ e h. refl) (λ e f. go (lookup disc name))
-  where
-    go : (f : Found) → Unwritten out (retrieveAt f disc out)
-    go Nowhere h = refl
-    go (At i) h = unwritten (leb (entryAt disc i .len) (length out)) (entryAt disc i .len) out
-        (overwrite out 0 (contents disc (runOf (entryAt disc i)))) h
-
-pub files-refused : (disc out : List ℕ) → filesAnswer disc out .number <ℤ pos 0 → filesAnswer disc out .out ≡ out
-unfolding filesAnswer
-files-refused disc out =
-    let text : List ℕ = flat fileLine (files disc) in
-    by-checks disc (Unwritten out) _ _ (λ e h. refl) (λ e h. refl)
-    (λ e f. unwritten (leb (length text) (length out)) (length text) out (overwrite out 0 text))
-
 -- ---- each refusal of store only where it says so
-pub store-refused-for : (disc name bytes : List ℕ) (r : Refusal) → storeAnswer disc name bytes .number ≡ answerNumber (Refused r)
-    → Denial disc name (length bytes) r
-store-refused-for disc name bytes r =
-    store-cases disc name bytes (λ u. u .number ≡ answerNumber (Refused r) → Denial disc name (length bytes) r)
-    (λ q d h. subst (λ (x : Refusal). Denial disc name (length bytes) x) (number-refusal q r h) d)
-    (λ s l g a h. absurd (refused-not-done r 0 (sym h)))
-
--- a number below 0 is one of these refusals
-pub store-refused-by : (disc name bytes : List ℕ) → storeAnswer disc name bytes .number <ℤ pos 0 → (r : Refusal)
-    × (storeAnswer disc name bytes .number ≡ answerNumber (Refused r)) × Denial disc name (length bytes) r
-store-refused-by disc name bytes =
-    store-cases disc name bytes (λ u. u .number <ℤ pos 0 → (r : Refusal) × (u .number ≡ answerNumber (Refused r))
-    × Denial disc name (length bytes) r)
-    (λ r d h. (r, refl, d))
-    (λ s l g a h. absurd (done-not-below 0 h))
 
 -- ---- free space
 module _ (disc : List ℕ) (n : ℕ) where

@@ -184,15 +184,6 @@ module _ {disc : List ℕ} {i : ℕ} (file : Present disc i) where
       same-entry (erased disc i) disc j (suc j)
       (moved-up (j * entrySize) entrySize (omega arith) (omega arith) ∙ ap (λ (x : ℕ). part disc x entrySize) q)
 
-  -- what stands in the directory then stood there before, at another place than i; and what stood there still stands there
-  pub erased-from : (k : ℕ) → k < fileCount disc - 1 → (j : ℕ) × (j < fileCount disc) × (j ≡ i → ⊥)
-      × (entryAt (erased disc i) k ≡ entryAt disc j)
-  erased-from k b = go (ltb k i) refl
-    where
-      go : (t : Bool) → ltb k i ≡ t → (j : ℕ) × (j < fileCount disc) × (j ≡ i → ⊥) × (entryAt (erased disc i) k ≡ entryAt disc j)
-      go true e = let l : k < i = ltb-true k i e in (k, omega arith, (λ w. omega arith), erased-earlier k l)
-      go false e = let l : i ≤ k = ltb-false k i e in (suc k, omega arith, (λ w. omega arith), erased-later k l b)
-
   pub erased-to : (j : ℕ) → j < fileCount disc → (j ≡ i → ⊥) → (k : ℕ) × (k < fileCount (erased disc i))
       × (entryAt (erased disc i) k ≡ entryAt disc j)
   erased-to j b n = go (ltb j i) refl

@@ -42,10 +42,6 @@ by-checks disc P refuse rest p q r = go (isDiscLength (length disc)) refl (goodD
     go true e false f = q f
     go true e true f = r e f
 
-pub is-usable : (disc : List ℕ) → isDiscLength (length disc) ≡ true → goodDisc disc ≡ true → checked disc ≡ Usable
-unfolding checked
-is-usable disc l g = rw (l, g)
-
 -- a disc that may be used
 pub record Fit (disc : List ℕ) : Type 0 where
   pub right : isDiscLength (length disc) ≡ true

@@ -8,7 +8,7 @@ use Rattle.buffer.specs.Lists.{index}
 use Rattle.buffer.specs.declared.Found.the-variants.{At, Nowhere}
 use Rattle.buffer.proofs.Bools.{true-not-false}
 use Rattle.buffer.proofs.Lists.{same-differ, same-eq, same-refl}
-use Rattle.buffer.proofs.Tables.{index-tab-at, index-tab-is, index-tab-miss, index-tab-none}
+use Rattle.buffer.proofs.Tables.{index-tab-at, index-tab-is, index-tab-none}
 use Rattle.store.specs.Directory.{entryAt, fileCount, files, goodDisc, lookup, named, nowhereUnless}
 use Rattle.store.specs.Name.{goodName, padded}
 use Rattle.store.proofs.Goodness.{one-of-name}
@@ -42,14 +42,6 @@ lookup-none {disc} {name} {i} e l = true-not-false here (index-tab-none (entryAt
     missed = ap (λ (b : Bool). nowhereUnless b (index (named name) (files disc))) (sym (l .good)) ∙ e
 
 -- ---- what a lookup will find
-pub lookup-nowhere : (disc name : List ℕ) → ((i : ℕ) → Located disc name i → ⊥) → lookup disc name ≡ Nowhere
-unfolding lookup
-lookup-nowhere disc name h = go (goodName name) refl
-  where
-    go : (b : Bool) → goodName name ≡ b → nowhereUnless b (index (named name) (files disc)) ≡ Nowhere
-    go true g = index-tab-miss (entryAt disc) (fileCount disc) (named name)
-        (λ i k. same-differ (entryAt disc i .name) (padded name) (λ q. h i (record { good = g; inside = k; held = q })))
-    go false g = refl
 
 -- where no name stands twice
 pub lookup-is : {disc name : List ℕ} {i : ℕ} → goodDisc disc ≡ true → Located disc name i → lookup disc name ≡ At i

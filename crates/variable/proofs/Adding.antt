@@ -1,28 +1,26 @@
 -- A new variable: its entry last, its bytes in a free run; every other byte and every other variable as it was.
 use Prim.Native.Nat.{ℕ, _+_, _≤_, _<_}
 use mathlib.Core.Path.{_≡_, refl, sym, ap, ap₂, _∙_}
-use mathlib.Core.Bool.{Bool, true, not}
+use mathlib.Core.Bool.{true}
 use mathlib.Core.List.{List, [], _∷_, _++_, map, map-append, append-nil}
 use mathlib.Core.Logic.{_⊎_, inl, inr, ⊎-elim}
 use native.Mathlib.Numerals.{add-one}
 use native.Mathlib.Omega.{arith}
-use lib.ListN.{length, getD, length-append, length-set, List·getD-append}
-use lib.Seq.{getD-at, getD-set-same, length-take-le, take-suc-set}
-use borrow.Author.Tests.{eq-eqb, ne-eqb, not-true}
+use lib.ListN.{length, length-set}
+use lib.Seq.{take-suc-set}
+use borrow.Author.Tests.{eq-eqb, ne-eqb}
 use Rattle.buffer.specs.Buffer.{part}
-use Rattle.buffer.specs.Lists.{all, consIf, index, keep}
-use Rattle.buffer.specs.declared.Found.the-variants.{At}
-use Rattle.buffer.proofs.Bools.{and-both, and-left, and-right}
+use Rattle.buffer.specs.Lists.{all, consIf, keep}
+use Rattle.buffer.proofs.Bools.{and-left, and-right}
 use Rattle.buffer.proofs.Buffer.{overwrite-length, overwrite-part}
 use Rattle.buffer.proofs.Kept.{all-keep, keep-append}
-use Rattle.buffer.proofs.Lists.{all-at, index-is}
 use Rattle.buffer.proofs.Parts.{part-outside}
 use Rattle.buffer.proofs.Tables.{all-map}
 use Rattle.place.specs.Place.{apart, runFrom}
 use Rattle.place.proofs.Place.{Fits, apart-is}
 use Rattle.variable.specs.Assign.{added, highEnd, lowEnd, takenRuns}
 use Rattle.variable.specs.Limits.{maxVariables}
-use Rattle.variable.specs.Table.{Cell, Shaped, cellOf, counted, find, isOf, noVariable, owned, ownedBy, runOf}
+use Rattle.variable.specs.Table.{Cell, Shaped, cellOf, counted, owned, ownedBy, runOf}
 use Rattle.variable.specs.declared.Variable.{Variable}
 use Rattle.variable.specs.declared.Variables.{Variables}
 
@@ -104,24 +102,4 @@ module _ (v : Variables) (e : Variable) (bytes : List ℕ) (shaped : Shaped v) (
   pub owned-added-own : owned (added v e bytes) (e .owner) ≡ owned v (e .owner)
       ++ (record { name = e .name; kind = e .kind; bytes = bytes } ∷ [])
   owned-added-own = owned-added (e .owner) ∙ rw (eq-eqb (e .owner) (e .owner) refl, added-bytes)
-
   -- ---- lookup
-  pub entry-added : getD (added v e bytes .entries) (v .count) noVariable ≡ e
-  unfolding added
-  entry-added =
-      let n = shaped .entries in
-      getD-set-same (v .entries) (v .count) e noVariable (omega arith)
-
-  pub find-added : all (λ d. not (isOf (e .name) (e .owner) d)) (counted v) ≡ true
-      → find (added v e bytes) (e .name) (e .owner) ≡ At (v .count)
-  unfolding find
-  find-added h =
-      let s = shaped .entries in
-      let n : length (counted v) ≡ v .count = length-take-le (v .count) (v .entries) (omega arith) in
-      let p : Variable → Bool = isOf (e .name) (e .owner) in
-      ap (index p) added-counted
-      ∙ index-is p (counted v ++ (e ∷ [])) (v .count) noVariable (simp length-append (omega arith))
-      (rw (getD-at (counted v) e [] noVariable (v .count) n)
-      (and-both (eq-eqb (e .name) (e .name) refl) (eq-eqb (e .owner) (e .owner) refl)))
-      (λ k b. rw (List·getD-append (counted v) (e ∷ []) noVariable k (omega arith))
-      (not-true (p (getD (counted v) k noVariable)) (all-at (λ d. not (p d)) (counted v) k noVariable (omega arith) h)))

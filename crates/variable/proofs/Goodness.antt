@@ -6,11 +6,10 @@ use mathlib.Core.List.{List, [], _∷_}
 use mathlib.Core.Logic.{_⊎_, ⊎-elim}
 use native.Mathlib.Omega.{arith}
 use lib.Dec.{eqb, leb}
-use lib.ListN.{length, getD}
+use lib.ListN.{length}
 use borrow.Author.Tests.{eqb-false, eqb-true, le-leb, leb-true, not-true}
 use Rattle.buffer.specs.Buffer.{part}
 use Rattle.buffer.specs.Lists.{all, any, pairs}
-use Rattle.buffer.specs.declared.Found.the-variants.{At}
 use Rattle.buffer.proofs.Disjunctions.{or-cases}
 use Rattle.buffer.proofs.Bools.{and-both, and-left, and-right}
 use Rattle.buffer.proofs.Kept.{all-kept, keep-all, pairs-keep}
@@ -22,14 +21,13 @@ use Rattle.place.proofs.Place.{Fits, apart-sym}
 use Rattle.variable.specs.Assign.{added, assigned, highEnd, lowEnd, newVariable, takenRuns, valueBytes}
 use Rattle.variable.specs.Good.{beside, goodSize, goodVariable, goodVariables}
 use Rattle.variable.specs.Limits.{maxString, maxVariables, memorySize}
-use Rattle.variable.specs.Table.{Shaped, counted, find, freed, freedAll, isOf, noVariable, ownedBy, runOf}
+use Rattle.variable.specs.Table.{Shaped, counted, freed, freedAll, isOf, ownedBy, runOf}
 use Rattle.variable.specs.declared.Value.{Value}
 use Rattle.variable.specs.declared.Variable.{Variable}
 use Rattle.variable.specs.declared.Variables.{Variables}
 use Rattle.variable.proofs.Adding.{added-count, added-counted}
 use Rattle.variable.proofs.Freeing.{freed-count, freed-counted, freed-shaped}
 use Rattle.variable.proofs.Setting.{assigned-keeps, place-address}
-use Rattle.variable.proofs.Views.{held-at}
 
 -- ---- what the tests say
 pub good-size-bounds : (kind size : ℕ) → goodSize kind size ≡ true → (1 ≤ size) × (size ≤ maxString)
@@ -91,12 +89,6 @@ module _ (live : List ℕ) (v : Variables) where
   unfolding goodVariables
   is-good-variables g = and-both (le-leb _ _ (g .few)) (and-both (g .each) (g .pairwise))
 
-  -- what is found in a good table is good
-  pub found-good : (name id i : ℕ) → goodVariables live v ≡ true → find v name id ≡ At i
-      → GoodVariable live (getD (v .entries) i noVariable)
-  found-good name id i h e = good-variable-is live (getD (v .entries) i noVariable)
-      (held-at v name id i e (goodVariable live) (good-variables-is h .each) .holds)
-
 -- a good variable's value is as long as its entry says
 pub value-length : (live : List ℕ) (v : Variables) (e : Variable) → Shaped v → GoodVariable live e
     → length (part (v .memory) (e .address) (e .size)) ≡ e .size
@@ -127,10 +119,6 @@ freed-good live next v gone h stays =
 pub freed-name-good : (live : List ℕ) (v : Variables) (name id : ℕ) → goodVariables live v ≡ true
     → goodVariables live (freed v (isOf name id)) ≡ true
 freed-name-good live v name id h = freed-good live live v (isOf name id) h (λ e k o. o)
-
--- after an ending no variable is of that process
-pub freed-all-owners : (v : Variables) (id : ℕ) → all (λ e. not (ownedBy id e)) (counted (freedAll v id)) ≡ true
-freed-all-owners v id = rw (freed-counted v (ownedBy id)) (keep-all (λ e. not (ownedBy id e)) (counted v))
 
 -- and they are good for any live IDs that hold every other one
 pub freed-all-good : (live next : List ℕ) (v : Variables) (id : ℕ) → goodVariables live v ≡ true

@@ -1,33 +1,31 @@
 -- SET: where a value goes, and what becomes of table and memory.
 use Prim.Native.Nat.{ℕ, _+_, _-_, _≤_, _<_}
 use mathlib.Core.Path.{_≡_, refl, sym, ap, subst, _∙_}
-use mathlib.Core.Bool.{Bool, true, false, not}
+use mathlib.Core.Bool.{Bool, true, false}
 use mathlib.Core.List.{List, [], _∷_, _++_}
-use mathlib.Core.Logic.{_⊎_}
 use native.Mathlib.Omega.{arith}
 use lib.Dec.{ltb}
-use lib.ListN.{length, getD, replicate, take, length-map}
+use lib.ListN.{length, replicate, take, length-map}
 use lib.Seq.{length-take-le, take-at}
 use borrow.Author.Tests.{ltb-true, ltb-false}
 use Rattle.buffer.specs.Buffer.{part}
 use Rattle.buffer.specs.declared.Found.{Found}
 use Rattle.buffer.specs.declared.Found.the-variants.{At, Nowhere}
-use Rattle.buffer.proofs.Kept.{keep-all}
 use Rattle.place.specs.Place.{filled, fits, maxRuns, noRun, place}
 use Rattle.place.specs.declared.Run.{Run}
 use Rattle.place.proofs.Place.{Fits, no-place-none-fits, place-fits}
 use Rattle.variable.specs.Assign.{added, addressOr, assignAt, assigned, entryLimit, highEnd, ifEntry, lowEnd, newCell, newVariable}
-use Rattle.variable.specs.Assign.{placeFor, placing, placingFault, takenRuns, valueBytes, assignedCells}
+use Rattle.variable.specs.Assign.{placeFor, placing, takenRuns, valueBytes, assignedCells}
 use Rattle.variable.specs.Limits.{maxVariables}
-use Rattle.variable.specs.Table.{Cell, Shaped, counted, find, freed, isOf, noVariable, owned, runOf}
+use Rattle.variable.specs.Table.{Cell, Shaped, counted, freed, isOf, owned, runOf}
 use Rattle.variable.specs.declared.Placing.{Placing}
 use Rattle.variable.specs.declared.Placing.the-variants.{Address, NoEntry, NoRun}
 use Rattle.variable.specs.declared.Value.{Value}
 use Rattle.variable.specs.declared.Variable.{Variable}
 use Rattle.variable.specs.declared.Variables.{Variables}
-use Rattle.variable.proofs.Adding.{added-bytes, added-outside, added-shaped, entry-added, find-added, owned-added-other}
+use Rattle.variable.proofs.Adding.{added-bytes, added-shaped, owned-added-other}
 use Rattle.variable.proofs.Adding.{owned-added-own}
-use Rattle.variable.proofs.Freeing.{freed-counted, freed-memory, freed-shaped, owned-freed-name, owned-freed-other}
+use Rattle.variable.proofs.Freeing.{freed-shaped, owned-freed-name, owned-freed-other}
 
 -- ---- the runs in an array: the first of them are all that are taken
 pub taken-runs-first : (v : Variables) → v .count ≤ maxVariables → length (v .entries) ≡ maxVariables
@@ -105,16 +103,6 @@ module _ (v : Variables) (name id : ℕ) (x : Value) where
       go NoEntry e = old
       go NoRun e = old
 
-  -- Document 01, fault 10: a SET that finds no entry or no run changes nothing
-  pub assigned-fault : placingFault (assigned v name id x .placing) ≡ 10 → assigned v name id x .variables ≡ v
-  unfolding assigned
-  assigned-fault e = go (placeFor rest (x .size)) e
-    where
-      go : (p : Placing) → placingFault (assignAt p v rest name id x .placing) ≡ 10 → assignAt p v rest name id x .variables ≡ v
-      go (Address a) h = absurd (omega arith)
-      go NoEntry h = refl
-      go NoRun h = refl
-
   -- "no entry" only with as many variables as there can be left after freeing the old one
   pub assigned-no-entry : assigned v name id x .placing ≡ NoEntry → maxVariables ≤ rest .count
   assigned-no-entry e = place-no-entry rest (x .size) (sym assigned-placing ∙ e)
@@ -165,25 +153,6 @@ module _ (v : Variables) (name id : ℕ) (x : Value) where
           ap (λ (w : Variables). owned w id) assigned-is
           ∙ owned-added-own rest new (valueBytes x) left room assigned-run sized
           ∙ ap (λ (l : List Cell). l ++ (newCell name x ∷ [])) (owned-freed-name v id name)
-
-      -- only the new run changes
-      pub assigned-memory : (i n : ℕ) → (i + n ≤ a) ⊎ (a + x .size ≤ i)
-          → part (assigned v name id x .variables .memory) i n ≡ part (v .memory) i n
-      assigned-memory i n h =
-          ap (λ (w : Variables). part (w .memory) i n) assigned-is
-          ∙ added-outside rest new (valueBytes x) left room assigned-run sized i n h
-          ∙ ap (λ (m : List ℕ). part m i n) (freed-memory v (isOf name id))
-
-      -- the new variable is found, with its value
-      pub assigned-find : find (assigned v name id x .variables) name id ≡ At (rest .count)
-      assigned-find =
-          ap (λ (w : Variables). find w name id) assigned-is
-          ∙ find-added rest new (valueBytes x) left room assigned-run sized
-          (rw (freed-counted v (isOf name id)) (keep-all (λ d. not (isOf name id d)) (counted v)))
-
-      pub assigned-entry : getD (assigned v name id x .variables .entries) (rest .count) noVariable ≡ new
-      assigned-entry = ap (λ (w : Variables). getD (w .entries) (rest .count) noVariable) assigned-is
-          ∙ entry-added rest new (valueBytes x) left room assigned-run sized
 
       pub assigned-bytes : part (assigned v name id x .variables .memory) a (x .size) ≡ valueBytes x
       assigned-bytes = ap (λ (w : Variables). part (w .memory) a (x .size)) assigned-is

@@ -12,18 +12,17 @@ use Rattle.buffer.specs.Buffer.{part}
 use Rattle.buffer.proofs.Lists.{tab-at, tab-length}
 use Rattle.buffer.proofs.Parts.{part-length}
 use Rattle.store.specs.declared.Entry.{Entry}
-use Rattle.variable.specs.Table.{Shaped, freedAll}
+use Rattle.variable.specs.Table.{Shaped}
 use Rattle.variable.specs.declared.Variables.{Variables}
 use Rattle.store.specs.Layout.{nameSize}
 use Rattle.variable.specs.Limits.{memorySize}
 use Rattle.machine.specs.Area.{kernelOf, processOf, stackAt, variablesOf}
 use Rattle.machine.specs.Limits.{areaLength, recordSize, recordsAt, slotCount, stackSize, zerosAt, zerosSize}
 use Rattle.machine.specs.Start.{started, startedProcess}
-use Rattle.machine.specs.Ended.{ended, endedProcess}
-use Rattle.machine.specs.State.{Local, noProcess, processAt, withFile, withLocal, withProcess, withState}
+use Rattle.machine.specs.Ended.{endedProcess}
+use Rattle.machine.specs.State.{Local, noProcess, processAt, withLocal, withProcess}
 use Rattle.machine.specs.State.{withVariables}
 use Rattle.machine.specs.declared.Kernel.{Kernel}
-use Rattle.machine.specs.declared.OpenFile.{OpenFile}
 use Rattle.machine.specs.declared.Process.{Process}
 
 pub record SizedProcess (p : Process) : Type 0 where
@@ -60,12 +59,6 @@ module _ (p : Process) (sized : SizedProcess p) where
   pub with-local-sized : (l : Local) → length (l .stack) ≤ stackSize → SizedProcess (withLocal p l)
   with-local-sized l h = record { name = sized .name; stack = simp (length-append, length-replicate) (omega arith) }
 
-  pub with-file-sized : (f : OpenFile) → SizedProcess (withFile p f)
-  with-file-sized f = record { name = sized .name; stack = sized .stack }
-
-  pub with-state-sized : (state : ℕ) → SizedProcess (withState p state)
-  with-state-sized state = record { name = sized .name; stack = sized .stack }
-
   pub ended-process-sized : (fault : ℕ) → SizedProcess (endedProcess p fault)
   ended-process-sized fault = record { name = sized .name; stack = refl }
 
@@ -97,14 +90,3 @@ module _ (k : Kernel) (sized : Sized k) where
   started-sized slot e h =
       let s = with-process-sized slot (startedProcess e (k .next)) (λ m. started-process-sized e (k .next) h) in
       record { variables = s .variables; zeros = s .zeros; processes = s .processes; each = s .each }
-
--- ending keeps the lengths where freeing does
-pub ended-sized : (k : Kernel) → Sized k → (slot fault : ℕ) → Shaped (freedAll (k .variables) (processAt k slot .id))
-    → Sized (ended k slot fault)
-unfolding ended
-ended-sized k sized slot fault h =
-    with-variables-sized (withProcess k slot (endedProcess (processAt k slot) fault))
-    (with-process-sized k sized slot (endedProcess (processAt k slot) fault)
-    (λ m. ended-process-sized (processAt k slot) (sized .each slot m) fault))
-    (freedAll (k .variables) (processAt k slot .id))
-    h

@@ -1,13 +1,13 @@
 -- No call changes the length of disc, area or output: no kind of change changes the disc's, the area is the bytes of a state before and
 -- after, and no text written is longer than the output lent.
 use Prim.Native.Nat.{ℕ, _*_, _≤_}
-use mathlib.Core.Path.{_≡_, refl, sym, ap, _∙_}
+use mathlib.Core.Path.{_≡_, refl, sym, _∙_}
 use mathlib.Core.Bool.{Bool, true, false, _&&_, not, cond}
 use mathlib.Core.List.{List, [], _∷_}
 use native.Mathlib.Omega.{arith}
 use lib.Dec.{leb, ltb}
 use lib.ListN.{length, length-append, length-replicate}
-use borrow.Author.Tests.{eqb-true, leb-true, not-true}
+use borrow.Author.Tests.{eqb-true, leb-true}
 use Rattle.buffer.specs.Buffer.{overwrite}
 use Rattle.buffer.specs.Lists.{flat}
 use Rattle.buffer.specs.declared.Found.{Found}
@@ -29,7 +29,7 @@ use Rattle.store.proofs.Lookups.{lookup-at}
 use Rattle.machine.specs.Answer.{Answer, Buffers, Other, store, retrieve, erase, files, freeSpace, list, Call, turn, round}
 use Rattle.machine.specs.Answer.{command, run, other, answer, bootAnswer, commandAnswer, done, eraseAt, formatAnswer, onDisc}
 use Rattle.machine.specs.Answer.{onGood, otherAnswer, refused, runAt}
-use Rattle.machine.specs.Area.{isAreaLength, kernelBytes, kernelOf}
+use Rattle.machine.specs.Area.{isAreaLength, kernelOf}
 use Rattle.machine.specs.Demands.{SameLengths}
 use Rattle.machine.specs.Limits.{roundRoom, slotCount, turnRoom}
 use Rattle.machine.specs.Operations.{Command, Commanded, becomes, refused as declined, commanded, inUse, listText, slots}

@@ -18,7 +18,7 @@ use Rattle.store.specs.File.{placeOf}
 use Rattle.store.specs.Layout.{dataStart, entrySize, nameSize}
 use Rattle.store.specs.declared.Entry.{Entry}
 use Rattle.store.proofs.Checks.{readable}
-use Rattle.store.proofs.Lookups.{Located, lookup-at, lookup-is, lookup-none, lookup-nowhere}
+use Rattle.store.proofs.Lookups.{Located, lookup-at, lookup-is, lookup-none}
 use Rattle.machine.specs.Fields.{Free, Lowest, Named, NoFile, entryStart, sizeOf, startOf}
 use Rattle.machine.proofs.Fields.Names.{good-is-name, is-name-good, padded-spells, spells-padded}
 use Rattle.machine.proofs.Fields.Parts.{part-first, part-word}
@@ -60,9 +60,6 @@ module _ {disc name : List ℕ} {i : ℕ} where
 
 pub lookup-named : (disc name : List ℕ) (i : ℕ) → lookup disc name ≡ At i → Named disc name i
 lookup-named disc name i e = located-named (lookup-at disc name i e)
-
-pub no-file-lookup : (disc name : List ℕ) → NoFile disc name → lookup disc name ≡ Nowhere
-no-file-lookup disc name n = lookup-nowhere disc name (λ i l. n i (located-named l))
 
 -- on a disc that may be used
 module _ (disc : List ℕ) (long : isDiscLength (length disc) ≡ true) (good : goodDisc disc ≡ true) where

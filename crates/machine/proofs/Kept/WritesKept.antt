@@ -5,7 +5,6 @@ use mathlib.Core.Bool.{Bool, true, false}
 use mathlib.Core.List.{List}
 use lib.Dec.{eqb}
 use lib.ListN.{length}
-use lib.Seq.{getD-set-other}
 use borrow.Author.Tests.{eqb-false, eqb-true}
 use Rattle.place.specs.Place.{apart}
 use Rattle.place.specs.declared.Run.{Run}
@@ -15,10 +14,9 @@ use Rattle.store.proofs.Changes.{Inside, written-files, written-length}
 use Rattle.store.proofs.Contents.{written-elsewhere}
 use Rattle.store.proofs.Goodness.{beside-at, good-disc-is}
 use Rattle.store.proofs.Invariant.{file-inside, written-good}
-use Rattle.variable.specs.Table.{owned}
 use Rattle.machine.specs.Beyond.{fileRun}
 use Rattle.machine.specs.GoodArea.{goodKernel}
-use Rattle.machine.specs.State.{isLive, noProcess, processAt, withProcess}
+use Rattle.machine.specs.State.{isLive, processAt, withProcess}
 use Rattle.machine.specs.Turn.{programOf}
 use Rattle.machine.specs.declared.Kernel.{Kernel}
 use Rattle.machine.specs.declared.Process.{Process}
@@ -42,13 +40,6 @@ module _ {w : ℕ} {k : Kernel} {disc : List ℕ} {j : Kernel} {after : List ℕ
       (subst (λ (r : Run). offset + length (x .bytes) ≤ r .len) (file .run-is) (x .inside)))
 
   module _ (s : ℕ) (h : isLive (processAt k s) ≡ true) where
-    pub writes-spares-process : (s ≡ w → ⊥) → (processAt j s ≡ processAt k s)
-        × (owned (j .variables) (processAt k s .id) ≡ owned (k .variables) (processAt k s .id))
-    writes-spares-process other =
-        subst⁻¹ (λ (l : Kernel). (processAt l s ≡ processAt k s)
-        × (owned (l .variables) (processAt k s .id) ≡ owned (k .variables) (processAt k s .id))) (x .kernel)
-        (getD-set-other (k .processes) w s (x .process) noProcess other, refl)
-
     -- only what runs the file that is written sees another program
     pub writes-program : (processAt k w .file .start ≡ processAt k s .code .start → processAt k w .file .len ≡ processAt k s .code .len → ⊥)
         → programOf after (processAt k s) ≡ programOf disc (processAt k s)

@@ -13,7 +13,6 @@ use Rattle.buffer.specs.declared.Found.the-variants.{At, Nowhere}
 use Rattle.buffer.proofs.Lists.{tab-at, tab-length}
 use Rattle.float.specs.declared.whole.Size.{Size}
 use Rattle.float.specs.declared.whole.Size.the-variants.{Is, Refused}
-use Rattle.number.specs.Compare.{sizeWithin}
 use Rattle.number.specs.declared.Number.{Number}
 use Rattle.place.specs.Place.{runFrom}
 use Rattle.store.specs.Directory.{contents, entryAt, fileCount, files, lookup}
