@@ -40,6 +40,12 @@ onBoth b rest =
 abbrev pub someFile : Buffers → List ℕ → Type 0
 someFile b name = (i : ℕ) × Named (b .disc) name i
 
+abbrev pub someEnded : Buffers → Type 0
+someEnded b = (i : ℕ) × Ended (b .area) i
+
+abbrev pub idLeft : Buffers → Type 0
+idLeft b = nextId (b .area) ≡ idLimit → ⊥
+
 abbrev pub notAlready : Buffers → (id state : ℕ) → Type 0
 notAlready b id state = (i : ℕ) → HasId (b .area) id i → stateByte (b .area) i ≡ state → ⊥
 
@@ -79,12 +85,7 @@ tests (turn slot clock) b =
     passed))
 tests (round clock) b = onBoth b (test 4 (roundRoom ≤ length (b .out)) passed)
 tests (command c id) b = onBoth b (commandTests c id b)
-tests (run name) b =
-    onBoth b
-    (test 12 ((i : ℕ) × Ended (b .area) i)
-    (test 10 (someFile b name)
-    (test 13 (nextId (b .area) ≡ idLimit → ⊥)
-    passed)))
+tests (run name) b = onBoth b (test 12 (someEnded b) (test 10 (someFile b name) (test 13 (idLeft b) passed)))
 tests (other o) b = otherTests o b
 
 -- Document 01: "format and boot try only 1"
