@@ -14,14 +14,13 @@ use Rattle.machine.specs.Limits.{slotCount, turnRoom}
 use Rattle.machine.specs.Refusals.{MayTurn, Passes}
 use Rattle.machine.specs.State.{isRunning, processAt}
 use Rattle.machine.specs.Turn.{turned}
-use Rattle.machine.proofs.Demands.GoodCalls.{on-good}
 use Rattle.machine.proofs.Demands.Rounds.{turn-not-running, turn-running}
 use Rattle.machine.proofs.Demands.TurnCalls.{prints-little}
 use Rattle.turn.specs.Turns.{TurnLeft}
 use Rattle.turn.proofs.Passing.{area-size}
 use Rattle.operation.specs.Answers.{answered, lent}
 use Rattle.operation.specs.declared.Answer.the-variants.{Done}
-use Rattle.operation.proofs.FirstTests.{first-passed, first-refused, room-passed, room-refused}
+use Rattle.operation.proofs.FirstTests.{first-passed, first-refused, first-short}
 use Rattle.operation.proofs.turns.turn.Statement.{statement}
 use Rattle.operation.proofs.turns.turn.Tie as tie
 
@@ -45,7 +44,7 @@ abbrev runs : tie.After-turn-slot → tie.Else3
 runs c = c .before .before .before .before
 
 passes : (c : tie.After-enum-told) → let a = tested c .args in Passes (a .disc .now) (a .area .now)
-passes c = first-passed _ _ (sym (c .before .before .check .ensures) ∙ c .enum-told .given .1)
+passes c = first-passed _ _ (c .before .before .check .ensures) (c .enum-told .given .1)
 
 room : (c : tie.Else1) → leb turnRoom (length (tested (c .before) .args .out .now)) ≡ true
 room c = le-leb turnRoom (length (tested (c .before) .args .out .now)) (omega (arith, c .if1 .left))
@@ -64,13 +63,13 @@ may-turn c =
 
 returns : tie.Need-returns
 unfolding answer
-returns c = first-refused _ _ (sym (c .before .before .before .check .ensures) ∙ c .before .refusal .given .1) _ _
+returns c = let u = c .before in first-refused _ _ (u .before .before .check .ensures) (u .refusal .given .1) _ _
 
 returns-2 : tie.Need-returns-2
 unfolding answer
 returns-2 c =
-    let a = tested (c .before) .args in
-    room-refused (a .disc .now) (a .area .now) (a .out .now) turnRoom _ (c .if1 .taken) ∙ sym (on-good _ _ (passes (c .before)))
+    let u = c .before in
+    first-short _ _ (u .before .before .check .ensures) (u .enum-told .given .1) _ turnRoom _ (c .if1 .taken)
 
 returns-3 : tie.Need-returns-3
 unfolding answer
