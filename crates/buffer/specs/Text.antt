@@ -1,6 +1,6 @@
 -- A text that grows.
 use Prim.Native.Nat.{ℕ, _+_}
-use mathlib.Core.List.{List, []}
+use mathlib.Core.List.{List}
 use lib.ListN.{length, replicate, take}
 use Rattle.buffer.specs.Buffer.{overwrite}
 use Rattle.buffer.specs.declared.text.Text.{Text}

@@ -1,7 +1,7 @@
 -- Places for runs of bytes. Files on the disc and variables in memory are placed by the same definitions.
 use Prim.Native.Nat.{ℕ, zero, suc, _+_, _-_}
 use mathlib.Core.Bool.{Bool, true, false, _&&_, _||_}
-use mathlib.Core.List.{List, [], _++_}
+use mathlib.Core.List.{List, _++_}
 use lib.Dec.{leb}
 use lib.ListN.{length, replicate}
 use Rattle.buffer.specs.Lists.{all}

@@ -3,26 +3,26 @@
 use Prim.Native.Nat.{ℕ, zero, suc, _+_, _-_, _≤_, _<_}
 use mathlib.Core.Path.{_≡_, refl, sym, ap, _∙_, subst}
 use mathlib.Core.Bool.{Bool, true, false, _&&_, _||_, not, and-assoc, and-true}
-use mathlib.Core.List.{List, [], _∷_, _++_}
+use mathlib.Core.List.{List, [], _∷_}
 use mathlib.Core.Logic.{⊎-elim}
 use native.Mathlib.Nat.{add-assoc, add-zero, not-suc-le-zero, le-of-suc-le-suc}
 use native.Mathlib.Omega.{arith}
 use lib.Dec.{eqb, leb, ltb}
-use lib.ListN.{length, getD, replicate, take, length-append, length-replicate, getD-replicate, List·getD-append}
+use lib.ListN.{length, getD, replicate, getD-replicate, List·getD-append}
 use lib.Seq.{ext-getD, getD-append-add, getD-take}
 use borrow.Author.Tests.{eq-eqb, eqb-false, eqb-true, leb-true, ltb-false, ltb-true, ne-eqb, not-true}
 use Rattle.buffer.specs.Buffer.{part}
 use Rattle.buffer.specs.Lists.{all, same, tab}
-use Rattle.buffer.proofs.Bools.{and-left, and-right, and-both, not-is-true, true-not-false}
+use Rattle.buffer.proofs.Bools.{and-left, and-right, and-both, not-is-true}
 use Rattle.buffer.proofs.Disjunctions.{or-cases, or-first, or-second}
 use Rattle.buffer.proofs.Equivalence.{all-tab-more, both-ways}
 use Rattle.buffer.proofs.Fours.{part-spelled}
 use Rattle.buffer.proofs.Lists.{all-at, all-each, same-refl, tab-at, tab-length}
 use Rattle.buffer.proofs.Tables.{all-tab-at, all-tab-each}
 use Rattle.store.specs.Layout.{maxName, nameSize}
-use Rattle.store.specs.Name.{goodField, goodName, isNameByte, padded, trimmed, unlessZero}
+use Rattle.store.specs.Name.{goodField, isNameByte, padded, trimmed, unlessZero}
 use Rattle.store.proofs.Names.{GoodName, field-name-good, field-padded, good-name-is, is-good-name, padded-length, text-ends}
-use Rattle.store.proofs.Names.{trimmed-first, trimmed-short}
+use Rattle.store.proofs.Names.{trimmed-first}
 
 -- a byte of a name, or a zero with another behind it
 abbrev pub fieldByte : ℕ → ℕ → Bool

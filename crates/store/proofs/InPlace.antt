@@ -6,7 +6,6 @@ use native.Mathlib.Omega.{arith}
 use lib.ListN.{length, drop}
 use lib.Seq.{take-take}
 use Rattle.buffer.specs.Buffer.{part, wordAt}
-use Rattle.place.specs.declared.Run.{Run}
 use Rattle.store.specs.Directory.{entryAt, runOf}
 use Rattle.store.specs.Layout.{dataStart, entrySize, maxFiles, nameSize}
 use Rattle.store.proofs.Entries.{entry-fields}

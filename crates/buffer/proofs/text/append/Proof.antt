@@ -1,11 +1,9 @@
 -- `buffer::text::append` meets its contract.
-use Prim.Native.Nat.{_+_, _≤_}
-use mathlib.Core.Path.{_≡_, ap}
+use mathlib.Core.Path.{_≡_}
 use native.Mathlib.Omega.{arith}
 use borrow.Author.Needs.{needs}
 use lib.ListN.{length}
 use Rattle.buffer.specs.Text.{textSize}
-use Rattle.buffer.specs.declared.text.Text.{Text}
 use Rattle.buffer.proofs.text.append.Statement.{statement}
 use Rattle.buffer.proofs.text.append.Tie as tie
 

@@ -1,9 +1,6 @@
 -- Behind the tests, the turns of all slots, if the output has room for them.
-use Prim.Native.Nat.{ℕ}
-use mathlib.Core.Path.{_≡_, sym, _∙_}
 use native.Mathlib.Omega.{arith}
 use borrow.Author.Needs.{needs}
-use lib.ListN.{length}
 use Rattle.machine.specs.Answer.{answer}
 use Rattle.machine.specs.Limits.{roundRoom}
 use Rattle.machine.specs.Refusals.{Passes}

@@ -1,8 +1,6 @@
 -- Behind the tests, the turn of a slot that runs, if the output has room for it.
-use Prim.Native.Nat.{ℕ, _<_, _≤_}
 use mathlib.Core.Path.{_≡_, sym, ap, _∙_}
-use mathlib.Core.Bool.{true, false, _&&_}
-use mathlib.Core.List.{List}
+use mathlib.Core.Bool.{true}
 use native.Mathlib.Omega.{arith}
 use borrow.Author.Needs.{needs}
 use borrow.Author.Tests.{le-leb, le-ltb, leb-true, lt-ltb, ltb-true, not-false, not-true}
@@ -13,7 +11,6 @@ use Rattle.machine.specs.Area.{kernelOf}
 use Rattle.machine.specs.Limits.{slotCount, turnRoom}
 use Rattle.machine.specs.Refusals.{MayTurn, Passes}
 use Rattle.machine.specs.State.{isRunning, processAt}
-use Rattle.machine.specs.Turn.{turned}
 use Rattle.machine.proofs.Demands.Rounds.{turn-not-running, turn-running}
 use Rattle.machine.proofs.Demands.TurnCalls.{prints-little}
 use Rattle.turn.specs.Turns.{TurnLeft}

@@ -1,7 +1,7 @@
 -- Three equal numbers of four bytes are twelve equal bytes.
 use native.Mathlib.Omega.{arith}
 use borrow.Author.Needs.{needs}
-use Rattle.buffer.proofs.Fours.{Bytes, three-fours}
+use Rattle.buffer.proofs.Fours.{three-fours}
 use Rattle.store.proofs.good.same_name.Statement.{statement}
 use Rattle.store.proofs.good.same_name.Tie as tie
 

@@ -1,6 +1,6 @@
 -- Each action is the effect that its step stands for: what is done of it leaves disc and area as that effect does.
-use Prim.Native.Nat.{ℕ, _+_, _≤_}
-use mathlib.Core.Path.{_≡_, refl, sym, ap, subst, _∙_}
+use Prim.Native.Nat.{ℕ}
+use mathlib.Core.Path.{_≡_, sym, ap, subst, _∙_}
 use mathlib.Core.List.{List, [], _++_, append-nil}
 use native.Mathlib.Omega.{arith}
 use borrow.Author.Needs.{needs}
@@ -17,7 +17,7 @@ use Rattle.machine.specs.declared.Process.{Process}
 use Rattle.process.specs.Stepping.{Left, left, leftBy, pushing, stackOf}
 use Rattle.stack.specs.Steps.{about, effectBy, effectOf, keeping}
 use Rattle.stack.specs.declared.Action.{Action}
-use Rattle.stack.specs.declared.Action.the-variants.{Push, Print, Assign, Stop, Fault, Open, Close, Write, Read, ReadString, Fork, Await}
+use Rattle.stack.specs.declared.Action.the-variants.{Await}
 use Rattle.turn.specs.Turns.{Bounds}
 use Rattle.turn.proofs.take.carry_out.Statement.{statement}
 use Rattle.turn.proofs.take.carry_out.Tie as tie
