@@ -21,7 +21,7 @@ abbrev taken : tie.After-slice-known6 → tie.After-take-turns
 taken c = let lent = c .before .before .before in lent .before .before .before
 
 abbrev roomy : tie.After-take-turns → tie.Else1
-roomy c = c .before .before .before .before
+roomy c = let lent = c .before .before in lent .before .before
 
 passes : (c : tie.After-enum-told) → let a = tested c .args in Passes (a .disc .now) (a .area .now)
 passes c = first-passed _ _ (c .before .before .check .ensures) (c .enum-told .given .1)

@@ -38,7 +38,7 @@ abbrev taken : tie.After-slice-known6 → tie.After-turn-slot
 taken c = let lent = c .before .before .before in lent .before .before .before
 
 abbrev runs : tie.After-turn-slot → tie.Else3
-runs c = c .before .before .before .before
+runs c = let lent = c .before .before in lent .before .before
 
 passes : (c : tie.After-enum-told) → let a = tested c .args in Passes (a .disc .now) (a .area .now)
 passes c = first-passed _ _ (c .before .before .check .ensures) (c .enum-told .given .1)
