@@ -1,14 +1,14 @@
 -- Variables by columns: two clash in the columns where they are not beside each other, and no place behind the last one
 -- clashes with any.
 use Prim.Native.Nat.{ℕ, _+_, _*_, _-_, _≤_, _<_}
-use mathlib.Core.Path.{_≡_, refl, sym, ap, ap₂, _∙_, subst}
-use mathlib.Core.Bool.{Bool, true, false, _&&_, _||_, not, and-comm, and-false}
+use mathlib.Core.Path.{_≡_, refl, sym, _∙_, subst}
+use mathlib.Core.Bool.{Bool, true, false, _&&_, _||_, not, and-false}
 use mathlib.Core.List.{List}
 use native.Mathlib.Omega.{arith}
 use native.Mathlib.Nat.{add-assoc}
 use lib.Dec.{eqb, leb, ltb}
-use lib.ListN.{length, getD, replicate, length-replicate, getD-replicate}
-use borrow.Author.Tests.{eqb-false, eqb-true, leb-true, lt-leb, lt-ltb, le-leb, le-ltb, ltb-false, ltb-true, ne-eqb, not-false, not-true}
+use lib.ListN.{length, getD, replicate, getD-replicate}
+use borrow.Author.Tests.{eqb-false, eqb-true, lt-leb, le-leb, le-ltb, ltb-false, ltb-true, ne-eqb, not-false, not-true}
 use Rattle.buffer.specs.Buffer.{overwrite, part, wordAt}
 use Rattle.buffer.specs.Lists.{any, pairs, tab}
 use Rattle.buffer.proofs.Bools.{not-true-is-false, true-not-false}
@@ -20,7 +20,6 @@ use Rattle.buffer.proofs.Tables.{pairs-tab-at}
 use Rattle.place.specs.Place.{apart}
 use Rattle.variable.specs.Good.{beside}
 use Rattle.variable.specs.Limits.{maxVariables}
-use Rattle.variable.specs.Table.{isOf, runOf}
 use Rattle.variable.specs.declared.Variable.{Variable}
 use Rattle.machine.specs.Limits.{entriesAt, entrySize}
 use Rattle.area.specs.Columns.{bytesOf, clash, endsOf, firsts, places, variableIn, wordsOf}

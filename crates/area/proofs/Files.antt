@@ -17,7 +17,7 @@ use Rattle.buffer.proofs.Kept.{any-at}
 use Rattle.buffer.proofs.Lists.{tab-at, tab-length}
 use Rattle.place.specs.Place.{apart}
 use Rattle.place.specs.declared.Run.{Run}
-use Rattle.store.specs.Directory.{Readable, entryAt, fileCount, files, goodDisc, runOf}
+use Rattle.store.specs.Directory.{entryAt, fileCount, files, runOf}
 use Rattle.store.specs.Layout.{entrySize, maxFiles, nameSize}
 use Rattle.store.specs.declared.Entry.{Entry}
 use Rattle.store.proofs.Goodness.{GoodEntry, beside-at, good-entry-at}

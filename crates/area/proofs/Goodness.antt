@@ -1,10 +1,10 @@
 -- A good area in the parts that the code tests one after the other: header, records, IDs by slot, variables.
 use Prim.Native.Nat.{ℕ, _≤_}
 use mathlib.Core.Path.{_≡_, sym, ap, _∙_}
-use mathlib.Core.Bool.{Bool, true, false, _&&_, and-false, and-true}
+use mathlib.Core.Bool.{Bool, true, false, and-false, and-true}
 use mathlib.Core.List.{List, map}
 use native.Mathlib.Omega.{arith}
-use Rattle.buffer.specs.Lists.{all, keep, pairs, tab}
+use Rattle.buffer.specs.Lists.{all, keep, pairs}
 use Rattle.buffer.proofs.Lists.{map-tab}
 use Rattle.store.specs.Directory.{files}
 use Rattle.variable.specs.Good.{goodVariables}

@@ -5,22 +5,21 @@ use mathlib.Core.List.{List, _++_}
 use native.Mathlib.Omega.{arith}
 use lib.ListN.{length, getD, take, length-append}
 use lib.Seq.{getD-take, length-take-le}
-use Rattle.buffer.specs.Buffer.{overwrite, wordBytes}
+use Rattle.buffer.specs.Buffer.{wordBytes}
 use Rattle.buffer.specs.Lists.{flat}
-use Rattle.buffer.proofs.Buffer.{overwrite-length}
 use Rattle.variable.specs.Limits.{maxVariables}
 use Rattle.variable.specs.Table.{Shaped, noVariable}
 use Rattle.variable.specs.declared.Variable.{Variable}
 use Rattle.variable.specs.declared.Variables.{Variables}
 use Rattle.machine.specs.Area.{processBytes, processOf, variableBytes, variableOf}
-use Rattle.machine.specs.Limits.{areaLength, countAt, entrySize, nextAt, recordSize, recordsAt, slotCount, zerosSize}
+use Rattle.machine.specs.Limits.{countAt, entrySize, recordSize, recordsAt, zerosSize}
 use Rattle.machine.specs.State.{noProcess}
 use Rattle.machine.specs.declared.Kernel.{Kernel}
 use Rattle.machine.specs.declared.Process.{Process}
 use Rattle.machine.proofs.Bytes.FixedWidth.{Encoded, flat-length}
 use Rattle.machine.proofs.Bytes.Records.{process-bytes-length, process-decode-encode, variable-decode-encode}
 use Rattle.machine.proofs.Bytes.Sizes.{SizedProcess}
-use Rattle.area.specs.Parts.{recordAt, variablesBytes}
+use Rattle.area.specs.Parts.{variablesBytes}
 
 pub entries-bytes-length : (l : List Variable) → length l ≡ maxVariables → length (flat variableBytes l) ≡ maxVariables * entrySize
 entries-bytes-length l h =
@@ -57,19 +56,3 @@ records-length l i h each =
           size = process-bytes-length (getD l j noProcess) (each j k);
           back = process-decode-encode (getD l j noProcess) (each j k);
         })
-
--- ---- putting a part back keeps the area's length
-module _ (area : List ℕ) (size : length area ≡ areaLength) where
-  pub process-put-length : (slot : ℕ) (p : Process) → slot < slotCount → SizedProcess p
-      → length (overwrite area (recordAt slot) (processBytes p)) ≡ areaLength
-  process-put-length slot p h s =
-      let n = process-bytes-length p s in
-      overwrite-length area (processBytes p) (recordAt slot) (omega arith) ∙ size
-
-  pub variables-put-length : (v : Variables) → Shaped v → length (overwrite area 0 (variablesBytes v)) ≡ areaLength
-  variables-put-length v s =
-      let n = variables-bytes-length v s in
-      overwrite-length area (variablesBytes v) 0 (omega arith) ∙ size
-
-  pub next-put-length : (next : ℕ) → length (overwrite area nextAt (wordBytes next)) ≡ areaLength
-  next-put-length next = overwrite-length area (wordBytes next) nextAt (omega arith) ∙ size

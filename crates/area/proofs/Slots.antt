@@ -1,6 +1,6 @@
 -- IDs by slot: 0 where nothing lives.
-use Prim.Native.Nat.{ℕ, _+_, _≤_, _<_}
-use mathlib.Core.Path.{_≡_, refl, sym, ap, _∙_}
+use Prim.Native.Nat.{ℕ, _+_, _<_}
+use mathlib.Core.Path.{_≡_, refl, sym, _∙_}
 use mathlib.Core.Bool.{Bool, true, false, cond, _&&_, _||_, not, and-false}
 use mathlib.Core.List.{List, [], _∷_, map}
 use native.Mathlib.Numerals.{add-one}
@@ -8,7 +8,7 @@ use native.Mathlib.Omega.{arith}
 use lib.Dec.{eqb}
 use lib.ListN.{getD, length, take}
 use lib.Seq.{getD-take, length-take-le, take-suc}
-use borrow.Author.Tests.{eq-eqb, eqb-false, eqb-true, ne-eqb}
+use borrow.Author.Tests.{eqb-false, eqb-true, ne-eqb}
 use Rattle.buffer.specs.Lists.{all, any, consIf, keep, pairs}
 use Rattle.buffer.proofs.Bools.{and-both, and-left, and-right, not-true-is-false, true-not-false}
 use Rattle.buffer.proofs.Lists.{all-each, pairs-at, pairs-snoc}

@@ -19,13 +19,13 @@ module _ {A : Type 0} (f : ℕ → A) (n : ℕ) where
     pub size : length l ≡ n
     pub first : take i l ≡ tab f i
 
-  pub filled-next : (l : List A) (i : ℕ) (x : A) → Filled l i → i < n → x ≡ f i → Filled (set l i x) (i + 1)
-  filled-next l i x p h e =
+  pub filled-next : {l : List A} {i : ℕ} {x : A} → Filled l i → i < n → x ≡ f i → Filled (set l i x) (i + 1)
+  filled-next {l} {i} {x} p h e =
       let q = p .size in
       record { few = omega arith; size = length-set l i x ∙ q; first = tab-next f l i x (omega arith) (p .first) e }
 
-  pub filled-all : (l : List A) (i : ℕ) → Filled l i → n ≤ i → l ≡ tab f n
-  filled-all l i p h =
+  pub filled-all : {l : List A} {i : ℕ} → Filled l i → n ≤ i → l ≡ tab f n
+  filled-all {l} {i} p h =
       let q = p .size in
       let m : i ≡ n = omega (arith, p .few) in
       rw (← m) (sym (take-all i l (omega arith)) ∙ p .first)

@@ -10,12 +10,12 @@ use Rattle.buffer.specs.Lists.{flat}
 use Rattle.variable.specs.Table.{Shaped}
 use Rattle.variable.specs.declared.Variables.{Variables}
 use Rattle.machine.specs.Area.{Whole, kernelBytes, kernelOf, processBytes}
-use Rattle.machine.specs.Limits.{areaLength, nextAt, slotCount}
+use Rattle.machine.specs.Limits.{areaLength, slotCount}
 use Rattle.machine.specs.State.{noProcess, processAt, withProcess, withVariables}
 use Rattle.machine.specs.declared.Kernel.{Kernel}
 use Rattle.machine.specs.declared.Process.{Process}
 use Rattle.machine.proofs.Bytes.Records.{process-bytes-length}
-use Rattle.machine.proofs.Bytes.Sizes.{Sized, SizedProcess, decoded-sized, with-process-sized}
+use Rattle.machine.proofs.Bytes.Sizes.{Sized, SizedProcess, decoded-sized}
 use Rattle.area.specs.Parts.{recordAt, variablesBytes}
 use Rattle.area.proofs.Runs.{overwrite-middle}
 use Rattle.area.proofs.Lengths.{head-bytes-length, headBytes, records-length, variables-bytes-length}
@@ -27,9 +27,6 @@ flat-around f [] x m = refl
 flat-around f (y ∷ l) x m = rw (flat-around f l x m) (simp append-assoc)
 
 -- ---- a state of the right lengths
-abbrev pub withNext : Kernel → ℕ → Kernel
-withNext k next = record { variables = k .variables; next = next; zeros = k .zeros; processes = k .processes }
-
 module _ (k : Kernel) (sized : Sized k) where
   -- the bytes around the record of a slot
   abbrev before : ℕ → List ℕ
@@ -73,17 +70,6 @@ module _ (k : Kernel) (sized : Sized k) where
       (variables-bytes-length old (sized .variables) ∙ sym (variables-bytes-length v s)))
       ∙ ap (λ (l : List ℕ). overwrite l 0 (variablesBytes v)) (sym (split (variablesBytes old)))
 
-  pub next-bytes-put : (next : ℕ) → kernelBytes (withNext k next) ≡ overwrite (kernelBytes k) nextAt (wordBytes next)
-  unfolding kernelBytes
-  next-bytes-put next =
-      let front = variablesBytes (k .variables) in
-      let rest : List ℕ = k .zeros ++ flat processBytes (k .processes) in
-      append-assoc (front ++ wordBytes next) (k .zeros) (flat processBytes (k .processes))
-      ∙ sym (overwrite-middle front (wordBytes (k .next)) (wordBytes next) rest nextAt
-      (variables-bytes-length (k .variables) (sized .variables)) refl)
-      ∙ ap (λ (l : List ℕ). overwrite l nextAt (wordBytes next))
-      (sym (append-assoc (front ++ wordBytes (k .next)) (k .zeros) (flat processBytes (k .processes))))
-
 -- ---- an area that is all that its state says
 module _ (area : List ℕ) (size : length area ≡ areaLength) (whole : Whole area) where
   abbrev sized : Sized (kernelOf area)
@@ -93,26 +79,3 @@ module _ (area : List ℕ) (size : length area ≡ areaLength) (whole : Whole ar
       → kernelBytes (withProcess (kernelOf area) i p) ≡ overwrite area (recordAt i) (processBytes p)
   process-written i p h s =
       process-bytes-put (kernelOf area) sized i p h s ∙ ap (λ (l : List ℕ). overwrite l (recordAt i) (processBytes p)) whole
-
-  pub variables-written : (v : Variables) → Shaped v
-      → kernelBytes (withVariables (kernelOf area) v) ≡ overwrite area 0 (variablesBytes v)
-  variables-written v s = variables-bytes-put (kernelOf area) sized v s ∙ ap (λ (l : List ℕ). overwrite l 0 (variablesBytes v)) whole
-
-  pub next-written : (next : ℕ) → kernelBytes (withNext (kernelOf area) next) ≡ overwrite area nextAt (wordBytes next)
-  next-written next = next-bytes-put (kernelOf area) sized next ∙ ap (λ (l : List ℕ). overwrite l nextAt (wordBytes next)) whole
-
-  -- a process, then the variables: as a SET and an ending do
-  pub process-variables-written : (i : ℕ) (p : Process) (v : Variables) → i < slotCount → SizedProcess p → Shaped v
-      → kernelBytes (withVariables (withProcess (kernelOf area) i p) v)
-      ≡ overwrite (overwrite area (recordAt i) (processBytes p)) 0 (variablesBytes v)
-  process-variables-written i p v h s t =
-      variables-bytes-put (withProcess (kernelOf area) i p) (with-process-sized (kernelOf area) sized i p (λ m. s)) v t
-      ∙ ap (λ (l : List ℕ). overwrite l 0 (variablesBytes v)) (process-written i p h s)
-
-  -- a process, then next ID: as a start does
-  pub process-next-written : (i : ℕ) (p : Process) (next : ℕ) → i < slotCount → SizedProcess p
-      → kernelBytes (withNext (withProcess (kernelOf area) i p) next)
-      ≡ overwrite (overwrite area (recordAt i) (processBytes p)) nextAt (wordBytes next)
-  process-next-written i p next h s =
-      next-bytes-put (withProcess (kernelOf area) i p) (with-process-sized (kernelOf area) sized i p (λ m. s)) next
-      ∙ ap (λ (l : List ℕ). overwrite l nextAt (wordBytes next)) (process-written i p h s)

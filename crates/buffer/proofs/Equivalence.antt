@@ -1,6 +1,6 @@
 -- Tests that say the same, and one more turn of a loop that joins tests and has no way out.
-use Prim.Native.Nat.{ℕ, zero, suc, _+_, _<_}
-use mathlib.Core.Path.{_≡_, refl, sym, _∙_}
+use Prim.Native.Nat.{ℕ, zero, suc, _+_, _≤_, _<_}
+use mathlib.Core.Path.{_≡_, refl, sym, ap₂, _∙_}
 use mathlib.Core.Bool.{Bool, true, false, _&&_, _||_, and-false}
 use mathlib.Core.List.{List, [], _∷_}
 use native.Mathlib.Numerals.{add-one}
@@ -22,14 +22,28 @@ module _ {A : Type 0} (p : A → Bool) where
   pub all-tab-more : (f : ℕ → A) (i : ℕ) → all p (tab f (i + 1)) ≡ all p (tab f i) && p (f i)
   all-tab-more f i = rw (tab-more f i, all-snoc p (tab f i) (f i))
 
-  pub any-tab-more : (f : ℕ → A) (i : ℕ) → any p (tab f (i + 1)) ≡ any p (tab f i) || p (f i)
-  any-tab-more f i = rw (tab-more f i, any-snoc p (tab f i) (f i))
-
   pub all-take-more : (l : List A) (i : ℕ) (d : A) → i < length l → all p (take (i + 1) l) ≡ all p (take i l) && p (getD l i d)
   all-take-more l i d h = rw (add-one, take-suc l i d, all-snoc p (take i l) (getD l i d))
 
   pub any-take-more : (l : List A) (i : ℕ) (d : A) → i < length l → any p (take (i + 1) l) ≡ any p (take i l) || p (getD l i d)
   any-take-more l i d h = rw (add-one, take-suc l i d, any-snoc p (take i l) (getD l i d))
+
+-- ---- a loop that asks each of n elements: whether one of the first i was such
+module _ {A : Type 0} (p : A → Bool) (f : ℕ → A) (n : ℕ) where
+  pub record Asked (hit : Bool) (i : ℕ) : Type 0 where
+    pub few : i ≤ n
+    pub among : hit ≡ any p (tab f i)
+
+  pub asked-none : Asked false 0
+  unfolding any tab
+  asked-none = record { few = omega arith; among = refl }
+
+  pub asked-next : {hit b : Bool} {i : ℕ} → Asked hit i → i < n → b ≡ p (f i) → Asked (hit || b) (i + 1)
+  asked-next {i = i} a h e =
+      record { few = omega arith; among = rw (tab-more f i, any-snoc p (tab f i) (f i)) (ap₂ _||_ (a .among) e) }
+
+  pub asked-all : {hit : Bool} {i : ℕ} → Asked hit i → n ≤ i → hit ≡ any p (tab f n)
+  asked-all {i = i} a h = let q : i ≡ n = omega (arith, a .few) in rw q at (a .among)
 
 -- ---- the same test of every element
 pub all-tab-same : {A B : Type 0} (p : A → Bool) (q : B → Bool) (f : ℕ → A) (g : ℕ → B) (n : ℕ)

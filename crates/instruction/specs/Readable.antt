@@ -1,5 +1,5 @@
 -- What reading a variable needs of the table: each counted one lies in memory and is no longer than a stack.
-use Prim.Native.Nat.{ℕ, _+_, _≤_}
+use Prim.Native.Nat.{_+_, _≤_}
 use mathlib.Core.Bool.{Bool, true, _&&_}
 use mathlib.Core.Path.{_≡_}
 use lib.Dec.{leb}

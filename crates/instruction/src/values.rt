@@ -17,7 +17,6 @@ use store::name::text_length;
 use variable::Variables;
 use variable::table::find_variable;
 use variable::table::value_of;
-ghost use mathlib.Core.Bool.{true};
 ghost use mathlib.Core.List.{_++_};
 ghost use mathlib.Core.Path.{_≡_};
 ghost use Prim.Native.Nat.{_≤_, _<_};

@@ -1,5 +1,5 @@
 -- Every row holds, by computing the definitions on its bytes.
-use mathlib.Core.Path.{_≡_, refl}
+use mathlib.Core.Path.{refl}
 use lib.Count.{trailingZeros}
 use lib.Ieee.{ofBits, ofFields}
 use Rattle.buffer.specs.Lists.{all, any, flat, index, keep, pairs, same, tab}

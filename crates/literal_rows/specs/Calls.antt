@@ -4,7 +4,7 @@ use mathlib.Core.List.{List, [], _∷_}
 use lib.IntN.{ℤ}
 use lib.ListN.{replicate}
 use Rattle.buffer.specs.Buffer.{overwrite}
-use Rattle.machine.specs.Answer.{Answer, Call, answer, formatAnswer}
+use Rattle.machine.specs.Answer.{Call, answer, formatAnswer}
 use Rattle.machine.specs.Limits.{roundRoom}
 use Rattle.machine.specs.Trace.{Storage, lending, storageOf}
 

@@ -10,7 +10,6 @@ use buffer::text::Text;
 use machine::Process;
 use machine::limits::SLOT_COUNT;
 ghost use mathlib.Core.Path.{_≡_};
-ghost use mathlib.Core.List.{_++_};
 ghost use Prim.Native.Nat.{_+_, _*_, _≤_};
 ghost use lib.ListN.{length};
 ghost use Rattle.buffer.specs.Text.{appended, emptyText, textSize};

@@ -3,7 +3,7 @@ use Prim.Native.Nat.{ℕ, _-_}
 use mathlib.Core.Path.{_≡_, refl, sym, ap, _∙_}
 use mathlib.Core.List.{List, [], append-nil}
 use native.Mathlib.Omega.{arith}
-use lib.ListN.{length, replicate, take}
+use lib.ListN.{length, replicate}
 use lib.Seq.{length-take-le, take-at}
 use Rattle.buffer.specs.Buffer.{overwrite}
 use Rattle.variable.specs.Assign.{assignAt, assigned, placeFor, placingFault, valueBytes, valueOf}

@@ -5,7 +5,7 @@ use machine::limits::STACK_SIZE;
 use stack::Step;
 ghost use mathlib.Core.List.{_++_};
 ghost use mathlib.Core.Path.{_≡_};
-ghost use Prim.Native.Nat.{_+_, _-_, _<_, _≤_};
+ghost use Prim.Native.Nat.{_+_, _<_, _≤_};
 ghost use lib.ListN.{length, take};
 ghost use Rattle.machine.specs.Area.{kernelBytes, kernelOf};
 ghost use Rattle.machine.specs.Limits.{areaLength, slotCount, stackSize};

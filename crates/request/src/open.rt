@@ -16,7 +16,6 @@ ghost use Prim.Native.Nat.{ℕ};
 ghost use Rattle.machine.specs.Area.{kernelOf};
 ghost use Rattle.machine.specs.Beyond.{answered, continues, created, createdAt, newFileSize, opened};
 ghost use Rattle.machine.specs.Effect.{opens};
-ghost use Rattle.place.specs.declared.Run.{Run};
 ghost use Rattle.process.specs.Stepping.{Stepping, left, stackOf};
 ghost use Rattle.request.specs.Answers.{after, runFrom};
 ghost use Rattle.stack.specs.Steps.{about, keeping};

@@ -7,7 +7,7 @@ use number::compare::equals_whole;
 use process::advance::go_on;
 use stack::Step;
 ghost use mathlib.Core.Path.{_≡_};
-ghost use mathlib.Core.List.{List, []};
+ghost use mathlib.Core.List.{List};
 ghost use Prim.Native.Nat.{ℕ};
 ghost use lib.ListN.{length};
 ghost use Rattle.buffer.specs.Lists.{any};

@@ -28,14 +28,18 @@ use Rattle.number.specs.declared.operators.Unary.{Unary}
 use Rattle.number.specs.declared.operators.Unary.the-variants.{Increment, Decrement, UnaryMinus, LogicalNot, BitwiseNot, Convert}
 use Rattle.number.specs.declared.operators.Unary.the-variants.{Abs, Sq, Sqrt}
 use Rattle.store.specs.Name.{trimmed}
-use Rattle.machine.specs.Effect.{number}
+use Rattle.machine.specs.Effect.{Effect, number, withNumber, withPopped}
 use Rattle.machine.specs.Stack.{Item, Popped, popped, cannot, pop, stringKind}
 use Rattle.machine.proofs.Instructions.Popping.{Pops, TakenOff, number-kinds, pop-pops}
+use Rattle.stack.specs.Steps.{Means, lastStep}
 use Rattle.stack.specs.Tops.{bytesBelow, isNumeric, numberOn, numbered, valueEnd, valueOn}
+use Rattle.stack.specs.declared.Action.the-variants.{Fault}
+use Rattle.stack.specs.declared.Step.{Step}
 use Rattle.stack.specs.declared.TopNumber.{TopNumber}
 use Rattle.stack.specs.declared.TopNumber.the-variants.{Is, NoNumber}
 use Rattle.stack.specs.declared.TopValue.{TopValue}
 use Rattle.stack.specs.declared.TopValue.the-variants.{Lies, NoValue}
+use Rattle.stack.proofs.Steps.{last-means}
 
 -- ---- values
 abbrev itemAt : List ℕ → ℕ → ℕ → ℕ → Item
@@ -61,6 +65,11 @@ module _ (types : Types) (stack : List ℕ) {r : TopValue} (known : (valueOn sta
 
   pub no-value : {fault : ℕ} → r ≡ NoValue fault → pop types stack ≡ cannot fault
   no-value told = sym (known .0) ∙ ap (valueOn stack) told
+
+  -- an instruction that needs it faults, whatever it lies on
+  pub value-faults : {fault : ℕ} → r ≡ NoValue fault → (whole : List ℕ) {d : Step} → d ≡ lastStep (Fault fault)
+      → (next : Item → List ℕ → Effect) → Means whole d (withPopped (pop types stack) next)
+  value-faults told whole e next = rw (no-value told) (last-means whole e)
 
 -- a string less its zero
 pub string-text : (stack : List ℕ) (kind at len : ℕ) → OnTop AnyString stack kind at len
@@ -100,12 +109,16 @@ module _ (types : Types) (stack : List ℕ) {r : TopNumber}
           }
       go (cannot fault) q e = absurd (let z : _≡_ {A = ℕ} 0 1 = cc in omega arith)
 
-  pub no-number : {fault : ℕ} → r ≡ NoNumber fault → pop types stack ≡ cannot fault
+  no-number : {fault : ℕ} → r ≡ NoNumber fault → pop types stack ≡ cannot fault
   no-number {fault} told = go (pop types stack) (ap (numberOn stack) (sym told) ∙ known .0)
     where
       go : (p : Popped) → numberOn stack (NoNumber fault) ≡ numbered p → p ≡ cannot fault
       go (popped item rest) e = absurd (let z : _≡_ {A = ℕ} 0 1 = cc in omega arith)
       go (cannot f) e = cc
+
+  pub number-faults : {fault : ℕ} → r ≡ NoNumber fault → (whole : List ℕ) {d : Step} → d ≡ lastStep (Fault fault)
+      → (next : Number → List ℕ → Effect) → Means whole d (withNumber (pop types stack) next)
+  number-faults told whole e next = rw (no-number told) (last-means whole e)
 
 -- ---- sets of types of numbers
 is-number : (kind n : ℕ) → includes AnyNumber n ≡ true → eqb kind n ≡ true → includes AnyNumber kind ≡ true

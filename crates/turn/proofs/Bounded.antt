@@ -1,6 +1,6 @@
 -- What good buffers say of the running process of a slot, and of the step that its instruction takes: enough to carry it out.
-use Prim.Native.Nat.{ℕ, _+_, _-_, _≤_, _<_}
-use mathlib.Core.Path.{_≡_, refl, ap, subst, subst⁻¹}
+use Prim.Native.Nat.{ℕ, _+_, _≤_, _<_}
+use mathlib.Core.Path.{_≡_, refl, subst⁻¹}
 use mathlib.Core.Bool.{true}
 use mathlib.Core.List.{List}
 use mathlib.Core.Logic.{⊎-elim}
@@ -35,7 +35,7 @@ use Rattle.machine.proofs.Goodness.GoodRecords.{Closed, Opened}
 use Rattle.machine.proofs.Instructions.Executing.{exec-sound}
 use Rattle.machine.proofs.Instructions.Sound.{Asked, Sound}
 use Rattle.instruction.specs.Readable.{Readable, isHeld}
-use Rattle.process.specs.Stepping.{Stepping, stackOf}
+use Rattle.process.specs.Stepping.{stackOf}
 use Rattle.stack.specs.Steps.{Means, about, effectBy, effectOf, keeping}
 use Rattle.stack.specs.declared.Action.{Action}
 use Rattle.stack.specs.declared.Action.the-variants.{Push, Print, Assign, Stop, Fault, Open, Close, Write, Read, ReadString, Fork, Await}

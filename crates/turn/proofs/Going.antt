@@ -1,6 +1,6 @@
 -- The turns of a round, one after the other: what is printed so far, and what the slots that are left still do.
-use Prim.Native.Nat.{ℕ, suc, _+_, _*_, _≤_, _<_}
-use mathlib.Core.Path.{_≡_, refl, sym, ap, subst, subst⁻¹, _∙_}
+use Prim.Native.Nat.{ℕ, _+_, _*_, _≤_, _<_}
+use mathlib.Core.Path.{_≡_, refl, sym, ap, subst⁻¹, _∙_}
 use mathlib.Core.Bool.{true}
 use mathlib.Core.List.{List, [], _∷_, _++_, append-assoc, append-nil}
 use native.Mathlib.Nat.{zero-add}
@@ -15,7 +15,7 @@ use Rattle.buffer.specs.Lists.{all, tab}
 use Rattle.buffer.proofs.Buffer.{overwrite-joined, overwrite-length}
 use Rattle.buffer.proofs.Lists.{all-at, tab-at, tab-length}
 use Rattle.machine.specs.Area.{AreBytes, Whole, kernelBytes, kernelOf}
-use Rattle.machine.specs.Limits.{areaLength, roundRoom, slotCount, turnRoom}
+use Rattle.machine.specs.Limits.{roundRoom, slotCount, turnRoom}
 use Rattle.machine.specs.Operations.{slots, turnIfRunning, turnsOf}
 use Rattle.machine.specs.Refusals.{Passes}
 use Rattle.machine.specs.Turn.{Turned}

@@ -21,14 +21,14 @@ use store::layout::MAX_FILES;
 use store::layout::NAME_SIZE;
 ghost use mathlib.Core.Path.{_≡_};
 ghost use mathlib.Core.Bool.{true, _||_};
-ghost use Prim.Native.Nat.{_+_, _<_, _≤_};
+ghost use Prim.Native.Nat.{_+_, _<_};
 ghost use lib.Dec.{eqb};
 ghost use lib.ListN.{length};
 ghost use Rattle.buffer.specs.Lists.{all, any};
 ghost use Rattle.store.specs.Directory.{Readable, files};
 ghost use Rattle.machine.specs.Area.{kernelOf, processOf};
 ghost use Rattle.machine.specs.GoodArea.{goodFile, goodLive, goodProcess, goodRegisters, isProgram};
-ghost use Rattle.machine.specs.Limits.{areaLength, recordSize, slotCount};
+ghost use Rattle.machine.specs.Limits.{areaLength, recordSize};
 ghost use Rattle.machine.specs.State.{paused, running};
 ghost use Rattle.area.specs.Columns.{FileOf, Listed, fileRuns};
 

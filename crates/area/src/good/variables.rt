@@ -18,8 +18,6 @@ use machine::limits::SLOT_COUNT;
 use variable::MAX_STRING;
 use variable::MAX_VARIABLES;
 ghost use mathlib.Core.Path.{_≡_};
-ghost use mathlib.Core.Bool.{_&&_};
-ghost use mathlib.Core.List.{[]};
 ghost use Prim.Native.Nat.{_+_, _<_, _≤_};
 ghost use lib.Dec.{eqb, leb};
 ghost use lib.ListN.{length, replicate, take};

@@ -32,7 +32,8 @@ append-requires c κs =
 returns : tie.Need-returns
 unfolding tail
 returns c =
-    let d = c .before .before .before .before in
+    let lent = c .before .before in
+    let d = lent .before .before in
     let few = digits-few maxDigits (d .before .args .n) in
     let e = c .append .ensures ∙ ap (appended (d .before .args .text)) (shown d) in
     (e, omega (arith, ap (λ (t : _). t .len) e))

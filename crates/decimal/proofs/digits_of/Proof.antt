@@ -1,5 +1,5 @@
 -- The loop: the digits of n are those of rest less its last, and then those written; before these are zeros.
-use Prim.Native.Nat.{_+_, _/_, _^_, _≤_, _<_}
+use Prim.Native.Nat.{_+_, _/_, _^_, _<_}
 use mathlib.Core.Path.{_≡_, refl, sym, _∙_}
 use mathlib.Core.List.{_++_}
 use native.Mathlib.Omega.{arith}

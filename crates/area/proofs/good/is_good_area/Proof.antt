@@ -3,18 +3,14 @@ use mathlib.Core.Path.{_≡_, sym, ap, _∙_}
 use mathlib.Core.Bool.{true}
 use mathlib.Core.List.{List}
 use Prim.Native.Nat.{ℕ}
-use native.Mathlib.Omega.{arith}
 use borrow.Author.Needs.{needs}
 use borrow.Author.Tests.{not-true, not-false}
-use lib.ListN.{length}
 use Rattle.buffer.specs.Lists.{all, keep, pairs}
-use Rattle.buffer.proofs.Lists.{tab-length}
 use Rattle.store.specs.Directory.{files}
 use Rattle.variable.specs.Good.{goodVariables}
 use Rattle.machine.specs.Area.{kernelOf, variablesOf}
 use Rattle.machine.specs.GoodArea.{goodHeader, goodProcess}
-use Rattle.machine.specs.Limits.{slotCount}
-use Rattle.area.specs.Columns.{differs, isId, processIn, slotId, slotIds}
+use Rattle.area.specs.Columns.{differs, isId, slotIds}
 use Rattle.area.proofs.Goodness.{bad-header, bad-ids, bad-records, variables-left}
 use Rattle.area.proofs.good.is_good_area.Statement.{statement}
 use Rattle.area.proofs.good.is_good_area.Tie as tie

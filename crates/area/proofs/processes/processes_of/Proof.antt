@@ -1,14 +1,15 @@
 -- The loop: the first processes of the array are those of the area.
-use Prim.Native.Nat.{ℕ, _-_}
+use Prim.Native.Nat.{_-_}
 use mathlib.Core.Path.{refl, ap, _∙_}
-use mathlib.Core.List.{List, [], _∷_}
+use mathlib.Core.List.{[], _∷_}
 use native.Mathlib.Omega.{arith}
 use borrow.Author.Needs.{needs}
 use Rattle.buffer.specs.Lists.{tab}
 use Rattle.machine.specs.Area.{kernelOf}
 use Rattle.machine.specs.Limits.{slotCount}
 use Rattle.machine.specs.declared.Process.{Process}
-use Rattle.area.proofs.Reading.{process-read, processIn}
+use Rattle.area.specs.Columns.{processIn}
+use Rattle.area.proofs.Reading.{process-read}
 use Rattle.area.proofs.Tables.{Filled, filled-all, filled-next}
 use Rattle.area.proofs.processes.processes_of.Statement.{statement}
 use Rattle.area.proofs.processes.processes_of.Tie as tie
@@ -19,26 +20,20 @@ Inv-loop area processes₀ slot₀ processes slot = Filled (processIn area) slot
 abbrev μ-loop : tie.MeasureT-loop
 μ-loop area processes₀ slot₀ processes slot = slotCount - slot
 
-abbrev area : tie.At-loop Inv-loop μ-loop → List ℕ
-area c = let start = c .before .before .before in start .args .area .now
-
 loop-holds : tie.Need-loop-holds Inv-loop μ-loop
 unfolding tab
 loop-holds c =
-    let first = c .process-at .ensures ∙ process-read (c .before .before .args .area .now) 0 (omega arith) in
+    let first = c .process-at .ensures ∙ process-read _ 0 (omega arith) in
     record { few = omega arith; size = refl; first = ap (λ (p : Process). p ∷ []) first }
 
 loop-again : tie.Need-loop-again Inv-loop μ-loop
 loop-again c =
     let l = c .before .before in
-    filled-next (processIn (area l)) slotCount (l .loop .processes) (l .loop .slot) (c .process-at2 .result) (l .loop .inv) (omega arith)
-    (c .process-at2 .ensures ∙ process-read (area l) (l .loop .slot) (omega arith))
+    filled-next _ _ (l .loop .inv) (omega arith) (c .process-at2 .ensures ∙ process-read _ (l .loop .slot) (omega arith))
 
 returns : tie.Need-returns Inv-loop μ-loop
 unfolding kernelOf
-returns c =
-    let l = c .before in
-    filled-all (processIn (area l)) slotCount (l .loop .processes) (l .loop .slot) (l .loop .inv) (omega arith)
+returns c = filled-all _ _ (c .before .loop .inv) (omega arith)
 
 pub processes-of-spec : {M : Type 1} → statement M
 processes-of-spec =

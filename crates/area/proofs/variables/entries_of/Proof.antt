@@ -1,14 +1,14 @@
 -- The loop: the first entries of the array are those of the area.
-use Prim.Native.Nat.{ℕ, _-_}
+use Prim.Native.Nat.{_-_}
 use mathlib.Core.Path.{refl, ap}
-use mathlib.Core.List.{List, [], _∷_}
+use mathlib.Core.List.{[], _∷_}
 use native.Mathlib.Omega.{arith}
 use borrow.Author.Needs.{needs}
 use Rattle.buffer.specs.Lists.{tab}
 use Rattle.variable.specs.Limits.{maxVariables}
 use Rattle.variable.specs.declared.Variable.{Variable}
 use Rattle.machine.specs.Area.{variablesOf}
-use Rattle.area.proofs.Reading.{variableIn}
+use Rattle.area.specs.Columns.{variableIn}
 use Rattle.area.proofs.Tables.{Filled, filled-all, filled-next}
 use Rattle.area.proofs.variables.entries_of.Statement.{statement}
 use Rattle.area.proofs.variables.entries_of.Tie as tie
@@ -19,24 +19,16 @@ Inv-loop area entries₀ i₀ entries i = Filled (variableIn area) maxVariables 
 abbrev μ-loop : tie.MeasureT-loop
 μ-loop area entries₀ i₀ entries i = maxVariables - i
 
-abbrev area : tie.At-loop Inv-loop μ-loop → List ℕ
-area c = let start = c .before .before .before in start .args .area .now
-
 loop-holds : tie.Need-loop-holds Inv-loop μ-loop
 unfolding tab
 loop-holds c = record { few = omega arith; size = refl; first = ap (λ (e : Variable). e ∷ []) (c .variable-at .ensures) }
 
 loop-again : tie.Need-loop-again Inv-loop μ-loop
-loop-again c =
-    let l = c .before .before in
-    filled-next (variableIn (area l)) maxVariables (l .loop .entries) (l .loop .i) (c .variable-at2 .result) (l .loop .inv)
-    (omega arith) (c .variable-at2 .ensures)
+loop-again c = filled-next _ _ (c .before .before .loop .inv) (omega arith) (c .variable-at2 .ensures)
 
 returns : tie.Need-returns Inv-loop μ-loop
 unfolding variablesOf
-returns c =
-    let l = c .before in
-    filled-all (variableIn (area l)) maxVariables (l .loop .entries) (l .loop .i) (l .loop .inv) (omega arith)
+returns c = filled-all _ _ (c .before .loop .inv) (omega arith)
 
 pub entries-of-spec : {M : Type 1} → statement M
 entries-of-spec =

@@ -1,8 +1,8 @@
 -- The fields of the entry's six bytes.
 use Prim.Native.Nat.{_+_, _*_}
 use borrow.Author.Needs.{needs}
+use Rattle.buffer.proofs.Parts.{part-to}
 use Rattle.machine.specs.Limits.{entriesAt, entrySize}
-use Rattle.area.proofs.Reading.{part-between}
 use Rattle.area.proofs.variables.variable_at.Statement.{statement}
 use Rattle.area.proofs.variables.variable_at.Tie as tie
 
@@ -13,7 +13,7 @@ returns : tie.Need-returns
 returns c =
     let read = c .before .before in
     let a = start (read .before .before .before) .args in
-    let e = part-between (a .area .now) (entriesAt + a .i * entrySize) entrySize in
+    let e = part-to (a .area .now) (entriesAt + a .i * entrySize) entrySize in
     cc
 
 pub variable-at-spec : {M : Type 1} → statement M

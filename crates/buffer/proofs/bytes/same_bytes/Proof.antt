@@ -22,12 +22,13 @@ returns c =
 
 returns-2 : tie.Need-returns-2 Inv-loop μ-loop
 returns-2 c =
-    let l = c .before .before .before .before in
+    let read = c .before .before in
+    let l = read .before .before in
     let a = l .before .before .args in
     sym (same-differ (a .a .now) (a .b .now) (λ e. c .if2 .taken (ap (λ (s : mathlib.Core.List.List ℕ). getD s (l .loop .i) 0) e)))
 
 loop-again : tie.Need-loop-again Inv-loop μ-loop
-loop-again c = (omega arith, below-more _ _ (c .before .before .before .before .loop .inv .1) (c .if2 .left))
+loop-again c = let read = c .before .before in (omega arith, below-more _ _ (read .before .before .loop .inv .1) (c .if2 .left))
 
 returns-3 : tie.Need-returns-3 Inv-loop μ-loop
 returns-3 c =

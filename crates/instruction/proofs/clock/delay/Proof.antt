@@ -6,8 +6,7 @@ use Rattle.number.specs.Compare.{exceeds}
 use Rattle.number.specs.declared.instruction.Types.the-variants.{AnyNumber}
 use Rattle.number.proofs.Operands.{widened, widens}
 use Rattle.machine.specs.Effect.{clockInt}
-use Rattle.stack.proofs.Popping.{NumberOnTop, no-number, number-on-top}
-use Rattle.stack.proofs.Steps.{last-means}
+use Rattle.stack.proofs.Popping.{NumberOnTop, number-faults, number-on-top}
 use borrow.Author.Needs.{needs}
 use Rattle.instruction.proofs.clock.delay.Statement.{statement}
 use Rattle.instruction.proofs.clock.delay.Tie as tie
@@ -58,9 +57,7 @@ returns-2 c =
 returns-3 : tie.Need-returns-3
 returns-3 c =
     let k = c .before .before in
-    let p = k .before .before in
-    let st = start p .args .stack .now in
-    rw (no-number AnyNumber st (p .top-number .ensures) (k .fault .given .1)) (last-means st (c .last-step .ensures))
+    number-faults AnyNumber _ (k .before .before .top-number .ensures) (k .fault .given .1) _ (c .last-step .ensures) _
 
 pub delay-spec : {M : Type 1} → statement M
 delay-spec =

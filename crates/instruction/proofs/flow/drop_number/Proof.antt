@@ -1,8 +1,7 @@
 -- The number goes, and what lies below it stays.
 use native.Mathlib.Omega.{arith}
 use Rattle.number.specs.declared.instruction.Types.the-variants.{AnyNumber}
-use Rattle.stack.proofs.Popping.{NumberOnTop, no-number, number-on-top}
-use Rattle.stack.proofs.Steps.{last-means}
+use Rattle.stack.proofs.Popping.{NumberOnTop, number-faults, number-on-top}
 use borrow.Author.Needs.{needs}
 use Rattle.instruction.proofs.flow.drop_number.Statement.{statement}
 use Rattle.instruction.proofs.flow.drop_number.Tie as tie
@@ -29,9 +28,7 @@ returns c = rw (top (c .before .before) .pops) (c .go .ensures)
 returns-2 : tie.Need-returns-2
 returns-2 c =
     let k = c .before .before in
-    let p = k .before .before in
-    let st = start p .args .stack .now in
-    rw (no-number AnyNumber st (p .top-number .ensures) (k .fault .given .1)) (last-means st (c .last-step .ensures))
+    number-faults AnyNumber _ (k .before .before .top-number .ensures) (k .fault .given .1) _ (c .last-step .ensures) _
 
 pub drop-number-spec : {M : Type 1} → statement M
 drop-number-spec =

@@ -4,7 +4,7 @@ use lib.ListN.{length}
 use native.Mathlib.Omega.{arith}
 use borrow.Author.Tests.{le-leb, lt-leb}
 use Rattle.number.specs.declared.instruction.Types.the-variants.{AnyNumber}
-use Rattle.stack.proofs.Popping.{NumberOnTop, no-number, number-on-top}
+use Rattle.stack.proofs.Popping.{NumberOnTop, number-faults, number-on-top}
 use Rattle.stack.proofs.Steps.{last-means}
 use borrow.Author.Needs.{needs}
 use Rattle.instruction.proofs.flow.enter_while.Statement.{statement}
@@ -53,9 +53,7 @@ returns-3 : tie.Need-returns-3
 returns-3 c =
     let k = c .before .before in
     let p = k .before .before in
-    let st = start (p .before) .args .stack .now in
-    rw (le-leb _ _ (fits (p .before)), no-number AnyNumber st (p .top-number .ensures) (k .fault .given .1))
-    (last-means st (c .last-step2 .ensures))
+    rw (le-leb _ _ (fits (p .before))) (number-faults AnyNumber _ (p .top-number .ensures) (k .fault .given .1) _ (c .last-step2 .ensures) _)
 
 pub enter-while-spec : {M : Type 1} → statement M
 enter-while-spec =

@@ -7,7 +7,7 @@ use native.Mathlib.Omega.{arith}
 use borrow.Author.Tests.{le-leb, lt-leb}
 use Rattle.number.specs.Value.{isZero}
 use Rattle.number.specs.declared.instruction.Types.the-variants.{AnyNumber}
-use Rattle.stack.proofs.Popping.{NumberOnTop, no-number, number-on-top}
+use Rattle.stack.proofs.Popping.{NumberOnTop, number-faults, number-on-top}
 use Rattle.stack.proofs.Steps.{last-means}
 use borrow.Author.Needs.{needs}
 use Rattle.instruction.proofs.flow.jump_if.Statement.{statement}
@@ -68,9 +68,7 @@ returns-4 : tie.Need-returns-4
 returns-4 c =
     let k = c .before .before in
     let p = k .before .before in
-    let st = start (p .before) .args .stack .now in
-    rw (le-leb _ _ (fits (p .before)), no-number AnyNumber st (p .top-number .ensures) (k .fault .given .1))
-    (last-means st (c .last-step2 .ensures))
+    rw (le-leb _ _ (fits (p .before))) (number-faults AnyNumber _ (p .top-number .ensures) (k .fault .given .1) _ (c .last-step2 .ensures) _)
 
 pub jump-if-spec : {M : Type 1} → statement M
 jump-if-spec =

@@ -1,7 +1,6 @@
 -- One operand comes off the stack, and the operator's answer goes onto it.
 use Rattle.machine.specs.Effect.{operates}
-use Rattle.stack.proofs.Popping.{NumberOnTop, no-number, number-on-top, unary-numeric}
-use Rattle.stack.proofs.Steps.{last-means}
+use Rattle.stack.proofs.Popping.{NumberOnTop, number-faults, number-on-top, unary-numeric}
 use borrow.Author.Needs.{needs}
 use Rattle.instruction.proofs.operate.operate_one.Statement.{statement}
 use Rattle.instruction.proofs.operate.operate_one.Tie as tie
@@ -38,9 +37,7 @@ returns-2 c =
     let k = c .before .before in
     let p = k .before .before in
     let y = p .before in
-    let st = start y .args .stack .now in
-    rw (← y .types-of .ensures, no-number (y .types-of .result) st (p .top-number .ensures) (k .fault .given .1))
-    (last-means st (c .last-step .ensures))
+    rw (← y .types-of .ensures) (number-faults _ _ (p .top-number .ensures) (k .fault .given .1) _ (c .last-step .ensures) _)
 
 pub operate-one-spec : {M : Type 1} → statement M
 operate-one-spec =

@@ -6,8 +6,7 @@ use lib.ListN.{length, take}
 use lib.Seq.{length-take-le, take-take}
 use native.Mathlib.Omega.{arith}
 use Rattle.machine.specs.Effect.{operates}
-use Rattle.stack.proofs.Popping.{NumberOnTop, binary-numeric, no-number, number-on-top}
-use Rattle.stack.proofs.Steps.{last-means}
+use Rattle.stack.proofs.Popping.{NumberOnTop, binary-numeric, number-faults, number-on-top}
 use borrow.Author.Needs.{needs}
 use Rattle.instruction.proofs.operate.operate_two.Statement.{statement}
 use Rattle.instruction.proofs.operate.operate_two.Tie as tie
@@ -83,12 +82,8 @@ returns-2 c =
     let p = f .before .before in
     let k = second p in
     let y = popped k .before in
-    let t = top k in
-    rw (
-      ← y .types-of .ensures,
-      t .pops,
-      no-number (y .types-of .result) (rest k) (p .top-number2 .ensures) (f .fault .given .1),
-    ) (last-means (start y .args .stack .now) (c .last-step .ensures))
+    rw (← y .types-of .ensures, top k .pops)
+    (number-faults _ (rest k) (p .top-number2 .ensures) (f .fault .given .1) _ (c .last-step .ensures) _)
 
 returns-3 : tie.Need-returns-3
 unfolding operates
@@ -96,9 +91,7 @@ returns-3 c =
     let f = c .before .before in
     let p = f .before .before in
     let y = p .before in
-    let st = start y .args .stack .now in
-    rw (← y .types-of .ensures, no-number (y .types-of .result) st (p .top-number .ensures) (f .fault2 .given .1))
-    (last-means st (c .last-step2 .ensures))
+    rw (← y .types-of .ensures) (number-faults _ _ (p .top-number .ensures) (f .fault2 .given .1) _ (c .last-step2 .ensures) _)
 
 pub operate-two-spec : {M : Type 1} → statement M
 operate-two-spec =

@@ -5,8 +5,7 @@ use native.Mathlib.Omega.{arith}
 use Rattle.buffer.specs.Buffer.{part}
 use Rattle.number.specs.declared.instruction.Types.the-variants.{AnyString}
 use Rattle.store.specs.Name.{trimmed}
-use Rattle.stack.proofs.Popping.{OnTop, no-value, string-text, value-on-top}
-use Rattle.stack.proofs.Steps.{last-means}
+use Rattle.stack.proofs.Popping.{OnTop, string-text, value-faults, value-on-top}
 use borrow.Author.Needs.{needs}
 use Rattle.instruction.proofs.reach.fork_process.Statement.{statement}
 use Rattle.instruction.proofs.reach.fork_process.Tie as tie
@@ -40,9 +39,7 @@ returns c = let k = c .before .before in rw (top k .pops, ← name k .1) (c .wit
 returns-2 : tie.Need-returns-2
 returns-2 c =
     let k = c .before .before in
-    let p = k .before .before in
-    let st = start p .args .stack .now in
-    rw (no-value AnyString st (p .top-value .ensures) (k .fault .given .1)) (last-means st (c .last-step .ensures))
+    value-faults AnyString _ (k .before .before .top-value .ensures) (k .fault .given .1) _ (c .last-step .ensures) _
 
 pub fork-process-spec : {M : Type 1} → statement M
 fork-process-spec =

@@ -9,8 +9,7 @@ use Rattle.buffer.specs.Buffer.{part}
 use Rattle.buffer.proofs.Parts.{part-of-take}
 use Rattle.number.specs.declared.instruction.Types.the-variants.{AnyNumber, AnyString}
 use Rattle.store.specs.Name.{trimmed}
-use Rattle.stack.proofs.Popping.{NumberOnTop, OnTop, no-number, no-value, number-on-top, string-text, value-on-top}
-use Rattle.stack.proofs.Steps.{last-means}
+use Rattle.stack.proofs.Popping.{NumberOnTop, OnTop, number-faults, number-on-top, string-text, value-faults, value-on-top}
 use borrow.Author.Needs.{needs}
 use Rattle.instruction.proofs.reach.open_file.Statement.{statement}
 use Rattle.instruction.proofs.reach.open_file.Tie as tie
@@ -86,15 +85,12 @@ returns-2 c =
     let f = c .before .before in
     let p = f .before .before in
     let k = size p in
-    rw (top k .pops, no-value AnyString (rest k) (p .top-value .ensures) (f .fault .given .1))
-    (last-means (start (popped k) .args .stack .now) (c .last-step .ensures))
+    rw (top k .pops) (value-faults AnyString (rest k) (p .top-value .ensures) (f .fault .given .1) _ (c .last-step .ensures) _)
 
 returns-3 : tie.Need-returns-3
 returns-3 c =
     let f = c .before .before in
-    let p = f .before .before in
-    let st = start p .args .stack .now in
-    rw (no-number AnyNumber st (p .top-number .ensures) (f .fault2 .given .1)) (last-means st (c .last-step2 .ensures))
+    number-faults AnyNumber _ (f .before .before .top-number .ensures) (f .fault2 .given .1) _ (c .last-step2 .ensures) _
 
 pub open-file-spec : {M : Type 1} → statement M
 open-file-spec =

@@ -3,8 +3,7 @@ use mathlib.Core.Path.{_≡_}
 use Prim.Native.Nat.{_+_, _-_}
 use native.Mathlib.Omega.{arith}
 use Rattle.number.specs.declared.instruction.Types.the-variants.{AnyNumber}
-use Rattle.stack.proofs.Popping.{NumberOnTop, no-number, number-on-top}
-use Rattle.stack.proofs.Steps.{last-means}
+use Rattle.stack.proofs.Popping.{NumberOnTop, number-faults, number-on-top}
 use borrow.Author.Needs.{needs}
 use Rattle.instruction.proofs.reach.wait.Statement.{statement}
 use Rattle.instruction.proofs.reach.wait.Tie as tie
@@ -35,9 +34,7 @@ returns c =
 returns-2 : tie.Need-returns-2
 returns-2 c =
     let k = c .before .before in
-    let p = k .before .before in
-    let st = start p .args .stack .now in
-    rw (no-number AnyNumber st (p .top-number .ensures) (k .fault .given .1)) (last-means st (c .last-step .ensures))
+    number-faults AnyNumber _ (k .before .before .top-number .ensures) (k .fault .given .1) _ (c .last-step .ensures) _
 
 pub wait-spec : {M : Type 1} → statement M
 wait-spec =

@@ -1,8 +1,7 @@
 -- The value's bytes are copied as they lie.
 use native.Mathlib.Omega.{arith}
 use Rattle.number.specs.declared.instruction.Types.the-variants.{AnyValue}
-use Rattle.stack.proofs.Popping.{OnTop, no-value, value-on-top}
-use Rattle.stack.proofs.Steps.{last-means}
+use Rattle.stack.proofs.Popping.{OnTop, value-faults, value-on-top}
 use borrow.Author.Needs.{needs}
 use Rattle.instruction.proofs.reach.write_file.Statement.{statement}
 use Rattle.instruction.proofs.reach.write_file.Tie as tie
@@ -29,9 +28,7 @@ returns c = rw (top (c .before .before) .pops) (c .with-part .ensures)
 returns-2 : tie.Need-returns-2
 returns-2 c =
     let k = c .before .before in
-    let p = k .before .before in
-    let st = start p .args .stack .now in
-    rw (no-value AnyValue st (p .top-value .ensures) (k .fault .given .1)) (last-means st (c .last-step .ensures))
+    value-faults AnyValue _ (k .before .before .top-value .ensures) (k .fault .given .1) _ (c .last-step .ensures) _
 
 pub write-file-spec : {M : Type 1} → statement M
 write-file-spec =

@@ -10,8 +10,8 @@ use Rattle.number.specs.declared.instruction.Types.the-variants.{AnyValue}
 use Rattle.machine.specs.Effect.{newline, printed}
 use Rattle.machine.specs.Limits.{stackSize}
 use Rattle.machine.proofs.Instructions.Settling.{settle-goes}
-use Rattle.stack.proofs.Popping.{OnTop, no-value, value-on-top, value-small}
-use Rattle.stack.proofs.Steps.{last-means, step-means}
+use Rattle.stack.proofs.Popping.{OnTop, value-faults, value-on-top, value-small}
+use Rattle.stack.proofs.Steps.{step-means}
 use borrow.Author.Needs.{needs}
 use Rattle.instruction.proofs.values.print.Statement.{statement}
 use Rattle.instruction.proofs.values.print.Tie as tie
@@ -69,9 +69,7 @@ returns c =
 returns-2 : tie.Need-returns-2
 returns-2 c =
     let k = c .before .before in
-    let p = k .before .before in
-    let st = start p .args .stack .now in
-    rw (no-value AnyValue st (p .top-value .ensures) (k .fault .given .1)) (last-means st (c .last-step .ensures))
+    value-faults AnyValue _ (k .before .before .top-value .ensures) (k .fault .given .1) _ (c .last-step .ensures) _
 
 pub print-spec : {M : Type 1} → statement M
 print-spec =

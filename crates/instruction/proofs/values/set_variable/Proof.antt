@@ -4,7 +4,7 @@ use lib.ListN.{length}
 use native.Mathlib.Omega.{arith}
 use borrow.Author.Tests.{le-leb, lt-leb}
 use Rattle.number.specs.declared.instruction.Types.the-variants.{AnyValue}
-use Rattle.stack.proofs.Popping.{OnTop, no-value, value-on-top}
+use Rattle.stack.proofs.Popping.{OnTop, value-faults, value-on-top}
 use Rattle.stack.proofs.Steps.{last-means}
 use borrow.Author.Needs.{needs}
 use Rattle.instruction.proofs.values.set_variable.Statement.{statement}
@@ -48,9 +48,7 @@ returns-3 : tie.Need-returns-3
 returns-3 c =
     let k = c .before .before in
     let p = k .before .before in
-    let st = start (p .before) .args .stack .now in
-    rw (le-leb _ _ (fits (p .before)), no-value AnyValue st (p .top-value .ensures) (k .fault .given .1))
-    (last-means st (c .last-step2 .ensures))
+    rw (le-leb _ _ (fits (p .before))) (value-faults AnyValue _ (p .top-value .ensures) (k .fault .given .1) _ (c .last-step2 .ensures) _)
 
 pub set-variable-spec : {M : Type 1} → statement M
 set-variable-spec =

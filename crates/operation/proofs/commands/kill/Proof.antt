@@ -1,27 +1,10 @@
 -- Behind the tests, the process is ended.
-use mathlib.Core.Path.{sym, _∙_}
 use borrow.Author.Needs.{needs}
-use Rattle.machine.specs.Answer.{answer}
-use Rattle.machine.specs.Refusals.{Passes}
-use Rattle.machine.proofs.Demands.GoodCalls.{on-good}
-use Rattle.operation.proofs.FirstTests.{first-passed, first-refused}
+use Rattle.machine.specs.Operations.{kill}
+use Rattle.operation.proofs.Commanding.{command-done, command-refused}
+use Rattle.operation.proofs.FirstTests.{first-passed}
 use Rattle.operation.proofs.commands.kill.Statement.{statement}
 use Rattle.operation.proofs.commands.kill.Tie as tie
-
--- the start, from where the buffers are tested
-abbrev start : tie.After-check → tie.Start
-start c = let lent = c .before .before in lent .before .before
-
-passes : (c : tie.After-enum-told) → let a = start (c .before .before) .args in Passes (a .disc .now) (a .area .now)
-passes c = first-passed _ _ (sym (c .before .before .check .ensures) ∙ c .enum-told .given .1)
-
-returns : tie.Need-returns
-unfolding answer
-returns c out = first-refused _ _ (sym (c .before .before .before .check .ensures) ∙ c .before .refusal .given .1) out _
-
-returns-2 : tie.Need-returns-2
-unfolding answer
-returns-2 c out = let done = c .before .before in done .end-by-id .ensures out ∙ sym (on-good _ _ (passes (done .before .before)))
 
 pub kill-spec : {M : Type 1} → statement M
 kill-spec =
@@ -30,8 +13,9 @@ kill-spec =
     (λ c κs. search needs)
     (λ c. search needs)
     (λ c. search needs)
-    returns
+    (λ c out. let u = c .before in command-refused _ _ (u .before .before .check .ensures) kill _ out (u .refusal .given .1))
     (λ c. search needs)
-    (λ c κs. passes (c .before))
+    (λ c κs. let u = c .before in first-passed _ _ (u .before .before .check .ensures) (u .enum-told .given .1))
     (λ c. search needs)
-    returns-2)
+    (λ c out. let d = c .before .before in let u = d .before .before in
+    command-done _ _ (u .before .before .check .ensures) kill _ out (u .enum-told .given .1) (d .end-by-id .ensures out)))

@@ -1,37 +1,10 @@
--- Behind the tests, the process is turned to that state.
-use mathlib.Core.Path.{sym, ap, _∙_}
+-- Behind the tests, the process is turned to the state paused.
 use borrow.Author.Needs.{needs}
-use Rattle.machine.specs.Answer.{answer, commandAnswer}
-use Rattle.machine.specs.Area.{kernelOf}
-use Rattle.machine.specs.Operations.{Commanded}
-use Rattle.machine.specs.Refusals.{Passes}
-use Rattle.machine.proofs.Demands.GoodCalls.{on-good}
-use Rattle.operation.specs.Answers.{lent}
-use Rattle.operation.proofs.Commanding.{turned-paused}
-use Rattle.operation.proofs.FirstTests.{first-passed, first-refused}
+use Rattle.machine.specs.Operations.{suspend}
+use Rattle.operation.proofs.Commanding.{command-refused, command-turned, pauses}
+use Rattle.operation.proofs.FirstTests.{first-passed}
 use Rattle.operation.proofs.commands.suspend.Statement.{statement}
 use Rattle.operation.proofs.commands.suspend.Tie as tie
-
--- the start, from where the buffers are tested
-abbrev start : tie.After-check → tie.Start
-start c = let lent = c .before .before in lent .before .before
-
-passes : (c : tie.After-enum-told) → let a = start (c .before .before) .args in Passes (a .disc .now) (a .area .now)
-passes c = first-passed _ _ (sym (c .before .before .check .ensures) ∙ c .enum-told .given .1)
-
-returns : tie.Need-returns
-unfolding answer
-returns c out = first-refused _ _ (sym (c .before .before .before .check .ensures) ∙ c .before .refusal .given .1) out _
-
-returns-2 : tie.Need-returns-2
-unfolding answer
-returns-2 c out =
-    let done = c .before .before in
-    let u = done .before .before in
-    let a = start (u .before .before) .args in
-    done .change-state .ensures out
-    ∙ ap (λ (x : Commanded). commandAnswer x (lent (a .disc .now) (a .area .now) out)) (turned-paused (a .id) (kernelOf (a .area .now)))
-    ∙ sym (on-good _ _ (passes u))
 
 pub suspend-spec : {M : Type 1} → statement M
 suspend-spec =
@@ -40,8 +13,9 @@ suspend-spec =
     (λ c κs. search needs)
     (λ c. search needs)
     (λ c. search needs)
-    returns
+    (λ c out. let u = c .before in command-refused _ _ (u .before .before .check .ensures) suspend _ out (u .refusal .given .1))
     (λ c. search needs)
-    (λ c κs. passes (c .before))
+    (λ c κs. let u = c .before in first-passed _ _ (u .before .before .check .ensures) (u .enum-told .given .1))
     (λ c. search needs)
-    returns-2)
+    (λ c out. let d = c .before .before in let u = d .before .before in
+    command-turned _ _ (u .before .before .check .ensures) suspend _ out pauses (u .enum-told .given .1) (d .change-state .ensures out)))

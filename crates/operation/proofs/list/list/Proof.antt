@@ -9,19 +9,18 @@ use Rattle.buffer.specs.Buffer.{overwrite}
 use Rattle.buffer.specs.Text.{textSize, written}
 use Rattle.buffer.specs.declared.text.Text.{Text}
 use Rattle.buffer.proofs.Texts.{only-written}
-use Rattle.machine.specs.Answer.{Buffers, answer, otherAnswer}
+use Rattle.machine.specs.Answer.{answer, otherAnswer}
 use Rattle.machine.specs.Area.{kernelOf}
 use Rattle.machine.specs.Operations.{listText}
 use Rattle.machine.specs.Refusals.{Passes}
-use Rattle.machine.proofs.Demands.GoodCalls.{on-good}
-use Rattle.operation.specs.Answers.{answered, lent}
+use Rattle.operation.specs.Answers.{answered}
 use Rattle.operation.specs.declared.Answer.the-variants.{Done}
 use Rattle.turn.proofs.Passing.{area-size}
-use Rattle.operation.proofs.FirstTests.{first-passed, first-refused, room-passed, room-refused}
+use Rattle.operation.proofs.FirstTests.{first-passed, first-refused, first-roomy, first-short}
 use Rattle.operation.proofs.list.list.Statement.{statement}
 use Rattle.operation.proofs.list.list.Tie as tie
 
--- the states: the start, the buffers found usable, the text put together, and written; what was lent
+-- the states: the start, the buffers found usable, the text put together, and written
 abbrev start : tie.After-check → tie.Start
 start c = let known = c .before in known .before .before .before
 
@@ -34,11 +33,8 @@ whole c = c .before .before .before
 abbrev filled : tie.After-slice-known2 → tie.After-bytes2
 filled c = c .before .before .before
 
-abbrev buffers : tie.After-enum-told → Buffers
-buffers c = let a = tested c .args in lent (a .disc .now) (a .area .now) (a .out .now)
-
 passes : (c : tie.After-enum-told) → let a = tested c .args in Passes (a .disc .now) (a .area .now)
-passes c = first-passed _ _ (sym (c .before .before .check .ensures) ∙ c .enum-told .given .1)
+passes c = first-passed _ _ (c .before .before .check .ensures) (c .enum-told .given .1)
 
 -- the text put together is that of the live processes
 abbrev lines : tie.After-list-text → List ℕ
@@ -55,15 +51,14 @@ text-is c = only-written _ (lines c) (c .list-text .ensures .0) (omega (arith, l
 
 returns : tie.Need-returns
 unfolding answer otherAnswer
-returns c = first-refused _ _ (sym (c .before .before .before .check .ensures) ∙ c .before .refusal .given .1) _ _
+returns c = let u = c .before in first-refused _ _ (u .before .before .check .ensures) (u .refusal .given .1) _ _
 
 returns-2 : tie.Need-returns-2
 unfolding answer otherAnswer
 returns-2 c =
     let w = c .before in
-    let a = tested (w .before) .args in
-    room-refused (a .disc .now) (a .area .now) (a .out .now) (length (lines w)) _ (omega (arith, len-is w))
-    ∙ sym (on-good (buffers (w .before)) _ (passes (w .before)))
+    let u = w .before in
+    first-short _ _ (u .before .before .check .ensures) (u .enum-told .given .1) _ (length (lines w)) _ (omega (arith, len-is w))
 
 array-share-prefix-bytes : tie.Need-array-share-prefix-bytes
 array-share-prefix-bytes c =
@@ -83,11 +78,12 @@ unfolding answer otherAnswer
 returns-3 c =
     let short = filled c .before .before .before in
     let w = short .before in
-    let a = tested (w .before) .args in
-    ap₂ (λ (n : ℕ) (l : List ℕ). answered (Done n) (a .disc .now) (a .area .now) l) (sym (len-is w))
-    (c .before .before .overwrite-at .ensures ∙ ap (overwrite (a .out .now) 0) (text-is w))
-    ∙ sym (room-passed (a .disc .now) (a .area .now) (a .out .now) (length (lines w)) _ (omega (arith, len-is w, short .if1 .left)))
-    ∙ sym (on-good (buffers (w .before)) _ (passes (w .before)))
+    let u = w .before in
+    let a = tested u .args in
+    first-roomy _ _ (u .before .before .check .ensures) (u .enum-told .given .1) (a .out .now) (length (lines w)) _
+    (omega (arith, len-is w, short .if1 .left))
+    (ap₂ (λ (n : ℕ) (l : List ℕ). answered (Done n) (a .disc .now) (a .area .now) l) (sym (len-is w))
+    (c .before .before .overwrite-at .ensures ∙ ap (overwrite (a .out .now) 0) (text-is w)))
 
 pub list-spec : {M : Type 1} → statement M
 list-spec =

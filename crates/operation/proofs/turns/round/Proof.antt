@@ -1,16 +1,12 @@
 -- Behind the tests, the turns of all slots, if the output has room for them.
-use Prim.Native.Nat.{ℕ}
-use mathlib.Core.Path.{_≡_, sym, _∙_}
 use native.Mathlib.Omega.{arith}
 use borrow.Author.Needs.{needs}
-use lib.ListN.{length}
 use Rattle.machine.specs.Answer.{answer}
 use Rattle.machine.specs.Limits.{roundRoom}
 use Rattle.machine.specs.Refusals.{Passes}
-use Rattle.machine.proofs.Demands.GoodCalls.{on-good}
 use Rattle.operation.specs.Answers.{answered}
 use Rattle.operation.specs.declared.Answer.the-variants.{Done}
-use Rattle.operation.proofs.FirstTests.{first-passed, first-refused, room-passed, room-refused}
+use Rattle.operation.proofs.FirstTests.{first-passed, first-refused, first-roomy, first-short}
 use Rattle.operation.proofs.turns.round.Statement.{statement}
 use Rattle.operation.proofs.turns.round.Tie as tie
 
@@ -25,31 +21,30 @@ abbrev taken : tie.After-slice-known6 → tie.After-take-turns
 taken c = let lent = c .before .before .before in lent .before .before .before
 
 abbrev roomy : tie.After-take-turns → tie.Else1
-roomy c = c .before .before .before .before
+roomy c = let lent = c .before .before in lent .before .before
 
 passes : (c : tie.After-enum-told) → let a = tested c .args in Passes (a .disc .now) (a .area .now)
-passes c = first-passed _ _ (sym (c .before .before .check .ensures) ∙ c .enum-told .given .1)
+passes c = first-passed _ _ (c .before .before .check .ensures) (c .enum-told .given .1)
 
 returns : tie.Need-returns
 unfolding answer
-returns c = first-refused _ _ (sym (c .before .before .before .check .ensures) ∙ c .before .refusal .given .1) _ _
+returns c = let u = c .before in first-refused _ _ (u .before .before .check .ensures) (u .refusal .given .1) _ _
 
 returns-2 : tie.Need-returns-2
 unfolding answer
 returns-2 c =
-    let a = tested (c .before) .args in
-    room-refused (a .disc .now) (a .area .now) (a .out .now) roundRoom _ (c .if1 .taken) ∙ sym (on-good _ _ (passes (c .before)))
+    let u = c .before in
+    first-short _ _ (u .before .before .check .ensures) (u .enum-told .given .1) _ roundRoom _ (c .if1 .taken)
 
 returns-3 : tie.Need-returns-3
 unfolding answer
 returns-3 c =
     let t = taken c in
     let r = roomy t in
-    let a = tested (r .before) .args in
+    let u = r .before in
     let left = t .take-turns .ensures .0 in
+    first-roomy _ _ (u .before .before .check .ensures) (u .enum-told .given .1) _ roundRoom _ (omega (arith, r .if1 .left))
     (λ i. answered (Done (left i .count)) (left i .disc) (left i .area) (left i .out))
-    ∙ sym (room-passed (a .disc .now) (a .area .now) (a .out .now) roundRoom _ (omega (arith, r .if1 .left)))
-    ∙ sym (on-good _ _ (passes (r .before)))
 
 pub round-spec : {M : Type 1} → statement M
 round-spec =

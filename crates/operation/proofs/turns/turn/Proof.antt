@@ -1,8 +1,6 @@
 -- Behind the tests, the turn of a slot that runs, if the output has room for it.
-use Prim.Native.Nat.{ℕ, _<_, _≤_}
 use mathlib.Core.Path.{_≡_, sym, ap, _∙_}
-use mathlib.Core.Bool.{true, false, _&&_}
-use mathlib.Core.List.{List}
+use mathlib.Core.Bool.{true}
 use native.Mathlib.Omega.{arith}
 use borrow.Author.Needs.{needs}
 use borrow.Author.Tests.{le-leb, le-ltb, leb-true, lt-ltb, ltb-true, not-false, not-true}
@@ -13,15 +11,13 @@ use Rattle.machine.specs.Area.{kernelOf}
 use Rattle.machine.specs.Limits.{slotCount, turnRoom}
 use Rattle.machine.specs.Refusals.{MayTurn, Passes}
 use Rattle.machine.specs.State.{isRunning, processAt}
-use Rattle.machine.specs.Turn.{turned}
-use Rattle.machine.proofs.Demands.GoodCalls.{on-good}
 use Rattle.machine.proofs.Demands.Rounds.{turn-not-running, turn-running}
 use Rattle.machine.proofs.Demands.TurnCalls.{prints-little}
 use Rattle.turn.specs.Turns.{TurnLeft}
 use Rattle.turn.proofs.Passing.{area-size}
 use Rattle.operation.specs.Answers.{answered, lent}
 use Rattle.operation.specs.declared.Answer.the-variants.{Done}
-use Rattle.operation.proofs.FirstTests.{first-passed, first-refused, room-passed, room-refused}
+use Rattle.operation.proofs.FirstTests.{first-passed, first-refused, first-short}
 use Rattle.operation.proofs.turns.turn.Statement.{statement}
 use Rattle.operation.proofs.turns.turn.Tie as tie
 
@@ -42,10 +38,10 @@ abbrev taken : tie.After-slice-known6 → tie.After-turn-slot
 taken c = let lent = c .before .before .before in lent .before .before .before
 
 abbrev runs : tie.After-turn-slot → tie.Else3
-runs c = c .before .before .before .before
+runs c = let lent = c .before .before in lent .before .before
 
 passes : (c : tie.After-enum-told) → let a = tested c .args in Passes (a .disc .now) (a .area .now)
-passes c = first-passed _ _ (sym (c .before .before .check .ensures) ∙ c .enum-told .given .1)
+passes c = first-passed _ _ (c .before .before .check .ensures) (c .enum-told .given .1)
 
 room : (c : tie.Else1) → leb turnRoom (length (tested (c .before) .args .out .now)) ≡ true
 room c = le-leb turnRoom (length (tested (c .before) .args .out .now)) (omega (arith, c .if1 .left))
@@ -64,13 +60,13 @@ may-turn c =
 
 returns : tie.Need-returns
 unfolding answer
-returns c = first-refused _ _ (sym (c .before .before .before .check .ensures) ∙ c .before .refusal .given .1) _ _
+returns c = let u = c .before in first-refused _ _ (u .before .before .check .ensures) (u .refusal .given .1) _ _
 
 returns-2 : tie.Need-returns-2
 unfolding answer
 returns-2 c =
-    let a = tested (c .before) .args in
-    room-refused (a .disc .now) (a .area .now) (a .out .now) turnRoom _ (c .if1 .taken) ∙ sym (on-good _ _ (passes (c .before)))
+    let u = c .before in
+    first-short _ _ (u .before .before .check .ensures) (u .enum-told .given .1) _ turnRoom _ (c .if1 .taken)
 
 returns-3 : tie.Need-returns-3
 unfolding answer

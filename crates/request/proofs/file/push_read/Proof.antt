@@ -89,7 +89,8 @@ slice-aggregate-go-on c =
 
 go-on-requires : tie.Need-go-on-requires
 go-on-requires c κs =
-    let r = c .before .before .before .before in
+    let lent = c .before .before in
+    let r = lent .before .before in
     let s = begun r in
     let n = ap length (filled-is r) ∙ bytes-length r in
     (s .pre .0 .size, s .pre .0 .low, record { sp = s .pre .0 .sp; kept = s .pre .0 .kept; fits = omega arith })

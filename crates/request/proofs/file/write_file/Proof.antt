@@ -65,7 +65,8 @@ write-at-requires c κs =
 
 advanced-requires : tie.Need-advanced-requires
 advanced-requires c κs =
-    let written = c .before .before .before .before .before in
+    let read = c .before .before in
+    let written = read .before .before .before in
     inside (told (lent written)) .within
 
 returns : tie.Need-returns
@@ -89,9 +90,7 @@ returns-2 c =
     let t = ended .before .before in
     let o = t .before .before in
     let s = start o in
-    let disc = s .args .disc .now in
-    breaks-off (s .pre .0) disc (write-granted (s .pre .0) disc (size s) (sym (o .access .ensures) ∙ t .enum-told2 .given .1))
-    (ended .finish .ensures)
+    breaks-off (s .pre .0) _ (write-granted (s .pre .0) _ (size s) (sym (o .access .ensures) ∙ t .enum-told2 .given .1)) (ended .finish .ensures)
 
 returns-3 : tie.Need-returns-3
 returns-3 c =
@@ -99,9 +98,7 @@ returns-3 c =
     let t = ended .before .before in
     let o = t .before .before in
     let s = start o in
-    let disc = s .args .disc .now in
-    breaks-off (s .pre .0) disc (write-granted (s .pre .0) disc (size s) (sym (o .access .ensures) ∙ t .enum-told3 .given .1))
-    (ended .finish2 .ensures)
+    breaks-off (s .pre .0) _ (write-granted (s .pre .0) _ (size s) (sym (o .access .ensures) ∙ t .enum-told3 .given .1)) (ended .finish2 .ensures)
 
 pub write-file-spec : {M : Type 1} → statement M
 write-file-spec =

@@ -67,9 +67,7 @@ returns-2 c =
     let pushed = c .before .before in
     let t = pushed .before .before in
     let o = t .before .before in
-    let s = sought o in
-    let disc = s .args .disc .now in
-    answers (s .pre .0) disc (pushed .push-zero .ensures disc 12) (ap (answer o) (found o (t .enum-told .given .1)))
+    answers (sought o .pre .0) _ (pushed .push-zero .ensures _ 12) (ap (answer o) (found o (t .enum-told .given .1)))
 
 returns-3 : tie.Need-returns-3
 unfolding answered
@@ -77,9 +75,7 @@ returns-3 c =
     let pushed = c .before .before in
     let t = pushed .before .before in
     let o = t .before .before in
-    let s = sought o in
-    let disc = s .args .disc .now in
-    answers (s .pre .0) disc (pushed .push-zero2 .ensures disc 10) (ap (answer o) (found o (t .enum-told2 .given .1)))
+    answers (sought o .pre .0) _ (pushed .push-zero2 .ensures _ 10) (ap (answer o) (found o (t .enum-told2 .given .1)))
 
 returns-4 : tie.Need-returns-4
 unfolding answered
@@ -87,9 +83,7 @@ returns-4 c =
     let pushed = c .before .before in
     let t = pushed .before .before in
     let o = t .before .before in
-    let s = sought o in
-    let disc = s .args .disc .now in
-    answers (s .pre .0) disc (pushed .push-zero3 .ensures disc 13) (ap (answer o) (found o (t .enum-told3 .given .1)))
+    answers (sought o .pre .0) _ (pushed .push-zero3 .ensures _ 13) (ap (answer o) (found o (t .enum-told3 .given .1)))
 
 pub fork-spec : {M : Type 1} → statement M
 fork-spec =

@@ -1,12 +1,11 @@
 -- The loop: whether the number is the ID of a live process in a slot passed.
-use Prim.Native.Nat.{_≤_, _-_}
-use mathlib.Core.Path.{_≡_, refl, ap, ap₂, _∙_}
-use mathlib.Core.Bool.{_||_}
+use Prim.Native.Nat.{_-_}
+use mathlib.Core.Path.{ap, _∙_}
 use native.Mathlib.Omega.{arith}
 use borrow.Author.Needs.{needs}
-use Rattle.area.proofs.Reading.{process-read, processIn}
-use Rattle.buffer.specs.Lists.{any, tab}
-use Rattle.buffer.proofs.Equivalence.{any-tab-more}
+use Rattle.area.specs.Columns.{processIn}
+use Rattle.area.proofs.Reading.{process-read}
+use Rattle.buffer.proofs.Equivalence.{Asked, asked-all, asked-next, asked-none}
 use Rattle.machine.specs.Area.{kernelOf}
 use Rattle.machine.specs.Limits.{slotCount}
 use Rattle.request.specs.Answers.{isAwaitedBy}
@@ -14,37 +13,21 @@ use Rattle.request.proofs.wait.is_awaited.Statement.{statement}
 use Rattle.request.proofs.wait.is_awaited.Tie as tie
 
 abbrev Inv-loop : tie.InvT-loop
-Inv-loop area id awaited₀ slot₀ awaited slot = (slot ≤ slotCount) × (awaited ≡ any (isAwaitedBy id) (tab (processIn area) slot))
+Inv-loop area id awaited₀ slot₀ awaited slot = Asked (isAwaitedBy id) (processIn area) slotCount awaited slot
 
 abbrev μ-loop : tie.MeasureT-loop
 μ-loop area id awaited₀ slot₀ awaited slot = slotCount - slot
 
-abbrev start : tie.At-loop Inv-loop μ-loop → tie.Start Inv-loop μ-loop
-start c = c .before .before
-
-abbrev head : tie.After-is-awaited-in Inv-loop μ-loop → tie.At-loop Inv-loop μ-loop
-head c = c .before .before .before
-
-loop-holds : tie.Need-loop-holds Inv-loop μ-loop
-unfolding any tab
-loop-holds c = (omega arith, refl)
-
 loop-again : tie.Need-loop-again Inv-loop μ-loop
 loop-again c =
-    let l = head c in
-    let a = start l .args in
-    let f = processIn (a .area .now) in
-    let i = l .loop .slot in
-    let tested = c .is-awaited-in .ensures
-    ∙ ap (isAwaitedBy (a .id)) (c .before .process-at .ensures ∙ process-read (a .area .now) i (omega arith)) in
-    (omega arith, rw (any-tab-more (isAwaitedBy (a .id)) f i) (ap₂ _||_ (l .loop .inv .1) tested))
+    let l = c .before .before .before in
+    let a = l .before .before .args in
+    let read = c .before .process-at .ensures ∙ process-read (a .area .now) (l .loop .slot) (omega arith) in
+    asked-next _ _ _ (l .loop .inv) (omega arith) (c .is-awaited-in .ensures ∙ ap (isAwaitedBy (a .id)) read)
 
 returns : tie.Need-returns Inv-loop μ-loop
 unfolding kernelOf
-returns c =
-    let l = c .before in
-    let q : l .loop .slot ≡ slotCount = omega arith in
-    rw q at (l .loop .inv .1)
+returns c = asked-all _ _ _ (c .before .loop .inv) (omega arith)
 
 pub is-awaited-spec : {M : Type 1} → statement M
 is-awaited-spec =
@@ -52,7 +35,7 @@ is-awaited-spec =
     (tie.spec
     Inv-loop
     μ-loop
-    loop-holds
+    (λ c. asked-none _ _ _)
     (λ c κs. search needs)
     (λ c κs. search needs)
     (λ c. omega arith)

@@ -7,7 +7,8 @@ use Rattle.request.proofs.wait.is_awaited_in.Tie as tie
 
 returns : tie.Need-returns
 returns c =
-    let id = c .before .before .before .before .args .p .id in
+    let live = c .before .before in
+    let id = live .before .before .args .p .id in
     rw (c .equals-whole .ensures, toZ-pos w32 {n = id} (search needs))
 
 pub is-awaited-in-spec : {M : Type 1} → statement M

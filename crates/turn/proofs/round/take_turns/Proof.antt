@@ -1,8 +1,7 @@
 -- The loop: the turns of the slots passed are taken, and those of the slots that are left make up the round.
 use Prim.Native.Nat.{ℕ, _+_, _-_, _<_, _≤_}
-use mathlib.Core.Path.{_≡_, sym, ap, _∙_}
+use mathlib.Core.Path.{sym, ap, _∙_}
 use native.Mathlib.Omega.{arith}
-use borrow.Author.Needs.{needs}
 use lib.ListN.{length, drop, drop-of-length-le, take, length-drop, length-take}
 use lib.Seq.{take-all}
 use borrow.Rule.Slice.PartMut.{post-is}

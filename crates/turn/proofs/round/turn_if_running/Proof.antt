@@ -45,7 +45,8 @@ unfolding turnIfRunning
 returns c =
     let lent = c .before .before .before in
     let taken = lent .before .before .before in
-    let then = taken .before .before .before .before in
+    let asked = taken .before .before in
+    let then = asked .before .before in
     rw (sym (ap isRunning (then .before .before .process-at .ensures)) ∙ running then) (taken .take-turn .ensures)
 
 returns-2 : tie.Need-returns-2

@@ -1,6 +1,6 @@
 -- Each action is the effect that its step stands for: what is done of it leaves disc and area as that effect does.
-use Prim.Native.Nat.{ℕ, _+_, _≤_}
-use mathlib.Core.Path.{_≡_, refl, sym, ap, subst, _∙_}
+use Prim.Native.Nat.{ℕ}
+use mathlib.Core.Path.{_≡_, sym, ap, subst, _∙_}
 use mathlib.Core.List.{List, [], _++_, append-nil}
 use native.Mathlib.Omega.{arith}
 use borrow.Author.Needs.{needs}
@@ -17,7 +17,7 @@ use Rattle.machine.specs.declared.Process.{Process}
 use Rattle.process.specs.Stepping.{Left, left, leftBy, pushing, stackOf}
 use Rattle.stack.specs.Steps.{about, effectBy, effectOf, keeping}
 use Rattle.stack.specs.declared.Action.{Action}
-use Rattle.stack.specs.declared.Action.the-variants.{Push, Print, Assign, Stop, Fault, Open, Close, Write, Read, ReadString, Fork, Await}
+use Rattle.stack.specs.declared.Action.the-variants.{Await}
 use Rattle.turn.specs.Turns.{Bounds}
 use Rattle.turn.proofs.take.carry_out.Statement.{statement}
 use Rattle.turn.proofs.take.carry_out.Tie as tie
@@ -113,7 +113,8 @@ returns : tie.Need-returns
 unfolding carriedOut
 returns c =
     let put = c .before .before in
-    let told = put .before .before .before .before in
+    let lent = put .before .before in
+    let told = lent .before .before in
     let s = start (told .before .before) in
     done-as s (told .enum-told .given .1) (put-back s (put .go-on .ensures) (pushes s))
 
@@ -121,7 +122,8 @@ returns-2 : tie.Need-returns-2
 unfolding carriedOut
 returns-2 c =
     let put = c .before .before in
-    let told = put .before .before .before .before in
+    let lent = put .before .before in
+    let told = lent .before .before in
     let s = start (told .before .before) in
     done-as s (told .enum-told2 .given .1) (put-back s (put .go-on2 .ensures) (kept-alone s))
 
@@ -161,8 +163,10 @@ returns-5 c =
 returns-6 : tie.Need-returns-6
 unfolding carriedOut
 returns-6 c =
-    let put = c .before .before .before .before in
-    let told = put .before .before .before .before in
+    let gone = c .before .before in
+    let put = gone .before .before in
+    let lent = put .before .before in
+    let told = lent .before .before in
     let s = start (told .before .before) in
     done-as s (told .action3 .given .1) (put .open-file .ensures)
 
@@ -170,14 +174,16 @@ returns-7 : tie.Need-returns-7
 unfolding carriedOut answered
 returns-7 c =
     let put = c .before .before in
-    let told = put .before .before .before .before in
+    let lent = put .before .before in
+    let told = lent .before .before in
     let s = start (told .before .before) in
     done-as s (told .enum-told4 .given .1) (put-back s (put .go-on3 .ensures) (kept-alone s))
 
 returns-8 : tie.Need-returns-8
 unfolding carriedOut
 returns-8 c =
-    let put = c .before .before .before .before in
+    let gone = c .before .before in
+    let put = gone .before .before in
     let told = put .before .before .before in
     let s = start (told .before .before) in
     done-as s (told .enum-told5 .given .1) (put .write-file .ensures)
@@ -186,7 +192,8 @@ returns-9 : tie.Need-returns-9
 unfolding carriedOut
 returns-9 c =
     let put = c .before .before in
-    let told = put .before .before .before .before in
+    let lent = put .before .before in
+    let told = lent .before .before in
     let s = start (told .before .before) in
     done-as s (told .action4 .given .1) (put .read-number .ensures)
 

@@ -1,12 +1,12 @@
 -- A step that prints lays its bytes at the front of the output; every other leaves the output as it is.
-use Prim.Native.Nat.{ℕ, _≤_}
+use Prim.Native.Nat.{ℕ}
 use mathlib.Core.Path.{_≡_, refl, sym, ap, _∙_}
 use mathlib.Core.List.{List, [], _∷_}
 use native.Mathlib.Omega.{arith}
 use borrow.Author.Needs.{needs}
 use denote.Enum.Declared.{tagOf}
-use lib.ListN.{length, take}
-use lib.Seq.{length-take-le, paste-zero}
+use lib.ListN.{length}
+use lib.Seq.{length-take-le}
 use types.Run.{OneOf, miss}
 use Rattle.stack.proofs.Action.{the-type}
 use Rattle.stack.specs.declared.Action.{Action}

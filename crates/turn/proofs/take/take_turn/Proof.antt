@@ -1,5 +1,4 @@
 -- The step of the process is its instruction's effect, and what is carried out and printed is that effect.
-use native.Mathlib.Omega.{arith}
 use mathlib.Core.Path.{_≡_, sym, ap, _∙_}
 use mathlib.Core.Bool.{true}
 use borrow.Author.Needs.{needs}

@@ -1,53 +1,28 @@
 -- The loop: the first i places are filled.
-use Prim.Native.Nat.{ℕ, _+_, _*_, _≤_, _-_}
-use mathlib.Core.Path.{_≡_, refl}
+use Prim.Native.Nat.{ℕ, _+_, _*_, _-_}
+use mathlib.Core.List.{List}
 use native.Mathlib.Omega.{arith}
 use borrow.Author.Needs.{needs}
 use lib.ListN.{getD}
-use lib.Seq.{paste, paste-zero}
 use Rattle.machine.specs.Limits.{entriesAt, entrySize}
-use Rattle.area.specs.Columns.{bytesOf}
-use Rattle.area.proofs.Columns.{column-filled, column-next}
+use Rattle.area.proofs.Columns.{Column, column-filled, column-next, column-none}
 use Rattle.area.proofs.good.columns.fill_bytes.Statement.{statement}
 use Rattle.area.proofs.good.columns.fill_bytes.Tie as tie
 
+abbrev byte : List ℕ → ℕ → ℕ → ℕ
+byte area field i = getD area (entriesAt + i * entrySize + field) 0
+
 abbrev Inv-loop : tie.InvT-loop
-Inv-loop column₀ area field count i₀ column i = (i ≤ count) × (column ≡ paste column₀ 0 (bytesOf area field count) i)
+Inv-loop column₀ area field count i₀ column i = Column column₀ (byte area field) count column i
 
 abbrev μ-loop : tie.MeasureT-loop
 μ-loop column₀ area field count i₀ column i = count - i
 
--- the states: the start, and in a turn its head
-abbrev start : tie.At-loop Inv-loop μ-loop → tie.Start Inv-loop μ-loop
-start c = c .before .before
-
-abbrev turn : tie.After-wide Inv-loop μ-loop → tie.At-loop Inv-loop μ-loop
-turn c = c .before .before .before
-
-abbrev byte : tie.Start Inv-loop μ-loop → ℕ → ℕ
-byte s i = getD (s .args .area .now) (entriesAt + i * entrySize + s .args .field) 0
-
-loop-holds : tie.Need-loop-holds Inv-loop μ-loop
-loop-holds c = let a = c .before .args in (omega arith, paste-zero (a .column .now) 0 (bytesOf (a .area .now) (a .field) (a .count)))
-
 loop-again : tie.Need-loop-again Inv-loop μ-loop
 loop-again c =
-    let l = turn c in
-    let s = start l in
-    let p = s .pre in (
-      omega arith,
-      column-next (s .args .column .now) (byte s) (s .args .count) (omega arith) (l .loop .column) (l .loop .i) (c .wide .result)
-          (omega arith)
-          (l .loop .inv .1) (c .wide .ensures .0),
-    )
-
-returns : tie.Need-returns Inv-loop μ-loop
-returns c =
-    let l = c .before in
-    let s = start l in
-    let p = s .pre in
-    column-filled (s .args .column .now) (byte s) (s .args .count) (omega arith) (l .loop .column) (l .loop .i) (omega arith)
-    (l .loop .inv .1)
+    let l = c .before .before .before in
+    let p = l .before .before .pre in
+    column-next _ _ _ (l .loop .inv) (omega arith) (omega arith) (c .wide .ensures .0)
 
 pub fill-bytes-spec : {M : Type 1} → statement M
 fill-bytes-spec =
@@ -55,7 +30,7 @@ fill-bytes-spec =
     (tie.spec
     Inv-loop
     μ-loop
-    loop-holds
+    (λ c. column-none _ _ _)
     (λ c. omega arith)
     (λ c. omega arith)
     (λ c. omega arith)
@@ -66,4 +41,4 @@ fill-bytes-spec =
     (λ c. omega arith)
     (λ c. omega arith)
     loop-again
-    returns)
+    (λ c. column-filled _ _ _ (c .before .loop .inv) (omega arith)))

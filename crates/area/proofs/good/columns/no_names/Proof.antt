@@ -22,12 +22,7 @@ unfolding tab
 loop-holds c = record { few = omega arith; size = refl; first = refl }
 
 loop-again : tie.Need-loop-again Inv-loop μ-loop
-loop-again c =
-    let l = c .before in
-    filled-next noName places (l .loop .names) (l .loop .i) (256 + l .loop .i) (l .loop .inv) (omega arith) refl
-
-returns : tie.Need-returns Inv-loop μ-loop
-returns c = let l = c .before in filled-all noName places (l .loop .names) (l .loop .i) (l .loop .inv) (omega arith)
+loop-again c = filled-next _ _ (c .before .loop .inv) (omega arith) refl
 
 pub no-names-spec : {M : Type 1} → statement M
 no-names-spec =
@@ -43,4 +38,4 @@ no-names-spec =
     (λ c. omega arith)
     (λ c. omega arith)
     loop-again
-    returns)
+    (λ c. filled-all _ _ (c .before .loop .inv) (omega arith)))

@@ -1,13 +1,13 @@
 -- The loop: the first i slots have distinct IDs.
-use Prim.Native.Nat.{ℕ, _≤_, _-_}
+use Prim.Native.Nat.{_≤_, _-_}
 use mathlib.Core.Path.{_≡_, refl, sym, ap, _∙_}
 use mathlib.Core.Bool.{true}
 use native.Mathlib.Omega.{arith}
 use borrow.Author.Needs.{needs}
 use borrow.Author.Tests.{not-true, not-false}
-use lib.ListN.{length, getD, take}
+use lib.ListN.{take}
 use lib.Seq.{take-all}
-use Rattle.buffer.specs.Lists.{all, pairs}
+use Rattle.buffer.specs.Lists.{pairs}
 use Rattle.machine.specs.Limits.{slotCount}
 use Rattle.area.specs.Columns.{differs}
 use Rattle.area.proofs.Slots.{pairs-take-next, pairs-take-stop}

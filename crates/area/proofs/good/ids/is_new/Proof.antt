@@ -4,7 +4,7 @@ use mathlib.Core.Path.{_≡_, refl, sym, ap, _∙_}
 use mathlib.Core.Bool.{Bool, _&&_, _||_, not}
 use native.Mathlib.Omega.{arith}
 use lib.Dec.{eqb}
-use lib.ListN.{getD, length, take}
+use lib.ListN.{getD, take}
 use Rattle.buffer.specs.Lists.{all}
 use Rattle.buffer.proofs.Equivalence.{all-take-more}
 use Rattle.area.proofs.Slots.{or-all}

@@ -21,27 +21,15 @@ Inv-loop area ids₀ i₀ ids i = Filled (idIn area) slotCount ids i
 abbrev μ-loop : tie.MeasureT-loop
 μ-loop area ids₀ i₀ ids i = slotCount - i
 
--- the states: the start, and in a turn its head
-abbrev start : tie.At-loop Inv-loop μ-loop → tie.Start Inv-loop μ-loop
-start c = c .before .before
-
-abbrev turn : tie.After-live-id Inv-loop μ-loop → tie.At-loop Inv-loop μ-loop
-turn c = c .before .before .before
-
 loop-holds : tie.Need-loop-holds Inv-loop μ-loop
 unfolding tab
 loop-holds c = record { few = omega arith; size = refl; first = refl }
 
 loop-again : tie.Need-loop-again Inv-loop μ-loop
 loop-again c =
-    let l = turn c in
-    filled-next (idIn (start l .args .area .now)) slotCount (l .loop .ids) (l .loop .i) (c .live-id .result) (l .loop .inv) (omega arith)
+    let l = c .before .before .before in
+    filled-next _ _ (l .loop .inv) (omega arith)
     (c .live-id .ensures ∙ ap (λ (b : List ℕ). slotId (processOf b)) (c .before .record-at .ensures .0))
-
-returns : tie.Need-returns Inv-loop μ-loop
-returns c =
-    let l = c .before in
-    filled-all (idIn (start l .args .area .now)) slotCount (l .loop .ids) (l .loop .i) (l .loop .inv) (omega arith)
 
 pub live-ids-spec : {M : Type 1} → statement M
 live-ids-spec =
@@ -57,4 +45,4 @@ live-ids-spec =
     (λ c. omega arith)
     (λ c. omega arith)
     loop-again
-    returns)
+    (λ c. filled-all _ _ (c .before .loop .inv) (omega arith)))

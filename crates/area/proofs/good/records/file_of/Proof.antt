@@ -5,7 +5,6 @@ use native.Mathlib.Omega.{arith}
 use borrow.Author.Count.{below-more}
 use lib.ListN.{getD}
 use Rattle.store.specs.Layout.{maxFiles}
-use Rattle.area.specs.Columns.{FileOf}
 use Rattle.area.proofs.good.records.file_of.Statement.{statement}
 use Rattle.area.proofs.good.records.file_of.Tie as tie
 

@@ -5,8 +5,7 @@ use native.Mathlib.Omega.{arith}
 use borrow.Author.Needs.{needs}
 use borrow.Author.Tests.{eq-eqb, le-leb, lt-leb, ne-eqb}
 use lib.Dec.{eqb}
-use Rattle.buffer.specs.Buffer.{fourAt, wordAt}
-use Rattle.buffer.proofs.Fours.{Bytes}
+use Rattle.buffer.specs.Buffer.{wordAt}
 use Rattle.machine.specs.GoodArea.{goodFile}
 use Rattle.area.specs.Columns.{FileOf}
 use Rattle.area.proofs.Files.{open-listed}

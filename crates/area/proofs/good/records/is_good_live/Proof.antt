@@ -1,14 +1,12 @@
 -- Its tests are those of `goodLive`, in their order.
 use Prim.Native.Nat.{ℕ, _<_, _≤_}
 use mathlib.Core.Path.{_≡_, sym, subst, _∙_}
-use mathlib.Core.Bool.{true, _&&_}
+use mathlib.Core.Bool.{true}
 use borrow.Author.Needs.{needs}
 use borrow.Author.Tests.{le-leb, le-ltb, lt-leb, lt-ltb, not-true, not-false}
-use Rattle.buffer.specs.Lists.{any}
 use Rattle.buffer.proofs.Bools.{and-both}
-use Rattle.store.specs.Directory.{files}
 use Rattle.machine.specs.Area.{processOf}
-use Rattle.machine.specs.GoodArea.{goodId, goodLive, goodRegisters, isProgram}
+use Rattle.machine.specs.GoodArea.{goodId, goodLive, goodRegisters}
 use Rattle.machine.specs.declared.Process.{Process}
 use Rattle.area.proofs.good.records.is_good_live.Statement.{statement}
 use Rattle.area.proofs.good.records.is_good_live.Tie as tie

@@ -1,5 +1,5 @@
 -- Its tests are those of `goodProcess`: the state, and a live record.
-use mathlib.Core.Path.{_≡_, sym, _∙_}
+use mathlib.Core.Path.{sym, _∙_}
 use borrow.Author.Needs.{needs}
 use borrow.Author.Tests.{eq-eqb, ne-eqb, not-true, not-false}
 use Rattle.machine.specs.GoodArea.{goodProcess}

@@ -1,13 +1,11 @@
 -- The count, then the parts of the test one after the other.
-use Prim.Native.Nat.{ℕ, _≤_}
-use mathlib.Core.Path.{_≡_, sym, ap, _∙_}
-use mathlib.Core.Bool.{Bool, true, false, _&&_, and-false}
-use mathlib.Core.List.{List}
+use mathlib.Core.Path.{_≡_, sym, _∙_}
+use mathlib.Core.Bool.{true}
 use native.Mathlib.Omega.{arith}
 use borrow.Author.Needs.{needs}
 use borrow.Author.Tests.{not-true, not-false}
 use lib.ListN.{take}
-use Rattle.buffer.specs.Lists.{all, keep, pairs, tab}
+use Rattle.buffer.specs.Lists.{all, keep, tab}
 use Rattle.machine.specs.Limits.{countAt}
 use Rattle.area.specs.Columns.{isId, sized, variableIn}
 use Rattle.area.proofs.Clashes.{owner-column-length, ownerColumn}

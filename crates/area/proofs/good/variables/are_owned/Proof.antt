@@ -6,7 +6,7 @@ use mathlib.Core.List.{List}
 use native.Mathlib.Omega.{arith}
 use borrow.Author.Needs.{needs}
 use lib.Dec.{eqb}
-use lib.ListN.{length, take}
+use lib.ListN.{take}
 use Rattle.buffer.specs.Lists.{all, any, keep}
 use Rattle.buffer.proofs.Equivalence.{all-take-more}
 use Rattle.area.specs.Columns.{isId}

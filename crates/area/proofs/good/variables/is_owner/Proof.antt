@@ -1,10 +1,10 @@
 -- The loop: whether one of the first i is the owner.
-use Prim.Native.Nat.{ℕ, _≤_, _-_}
+use Prim.Native.Nat.{_≤_, _-_}
 use mathlib.Core.Path.{_≡_, refl, sym, ap, _∙_}
 use mathlib.Core.Bool.{Bool, _&&_, _||_, not}
 use native.Mathlib.Omega.{arith}
 use lib.Dec.{eqb}
-use lib.ListN.{getD, length, take}
+use lib.ListN.{getD, take}
 use lib.Seq.{take-all}
 use Rattle.buffer.specs.Lists.{any}
 use Rattle.buffer.proofs.Equivalence.{any-take-more}
