@@ -10,7 +10,7 @@ use stack::ends::with_part;
 use stack::ends::with_stack;
 use stack::tops::top_number;
 use stack::tops::top_value;
-ghost use Rattle.machine.specs.Exec.{reaches};
+ghost use Rattle.machine.specs.Asking.{reaches};
 ghost use Rattle.stack.specs.Steps.{Means, Ready};
 
 // Document 01: "OPEN pops the size, then the name (as for FORK, the string less its zero)"

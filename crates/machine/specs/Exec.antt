@@ -1,5 +1,4 @@
--- One instruction, as a function of the process alone: its program bytes, the clock, its own state and its own
--- variables. The order of faults is the order of the lines.
+-- One instruction, as a function of the process alone. The order of faults is the order of the lines.
 use Prim.Native.Nat.{ℕ, _+_, _-_, _/_, _%_}
 use mathlib.Core.Bool.{Bool, Bool·beq, cond}
 use mathlib.Core.List.{List, [], _∷_, _++_}
@@ -10,12 +9,12 @@ use Rattle.buffer.specs.Lists.{index}
 use Rattle.buffer.specs.declared.Found.the-variants.{At}
 use Rattle.number.specs.Compare.{exceeds}
 use Rattle.number.specs.Value.{isZero}
-use Rattle.number.specs.declared.instruction.Types.the-variants.{AnyNumber, AnyString, AnyValue}
+use Rattle.number.specs.declared.instruction.Types.the-variants.{AnyNumber, AnyValue}
 use Rattle.store.specs.Name.{trimmed}
 use Rattle.variable.specs.Table.{Cell}
-use Rattle.machine.specs.Effect.{opens, closes, writes, reads, readsString, forks, awaits, Effect, goes, assigns}
-use Rattle.machine.specs.Effect.{stops, faults, asks, unlessFaults, settle, withPopped, withNumber, operates}
-use Rattle.machine.specs.Effect.{printed, newline, clockInt, withVariable, back, loopTarget}
+use Rattle.machine.specs.Asking.{reaches}
+use Rattle.machine.specs.Effect.{Effect, goes, assigns, stops, faults, unlessFaults, settle, withPopped}
+use Rattle.machine.specs.Effect.{withNumber, operates, printed, newline, clockInt, withVariable, back, loopTarget}
 use Rattle.machine.specs.Instruction.{instructionOf}
 use Rattle.machine.specs.Stack.{pop, push, pushItem, pushString}
 use Rattle.machine.specs.State.{Local, noLoop}
@@ -24,9 +23,6 @@ use Rattle.machine.specs.declared.instruction.Instruction.the-variants.{
 use Rattle.machine.specs.declared.instruction.Instruction.the-variants.{GetVariable, Operate, DelayUntil, Millis}
 use Rattle.machine.specs.declared.instruction.Instruction.the-variants.{Print, JumpIf, EndIf, While, EndWhile}
 use Rattle.machine.specs.declared.instruction.Instruction.the-variants.{Loop, EndLoop, Stop, Beyond, Unknown}
-use Rattle.machine.specs.declared.instruction.Reach.{Reach}
-use Rattle.machine.specs.declared.instruction.Reach.the-variants.{OpenFile, CloseFile, WriteFile, ReadNumber}
-use Rattle.machine.specs.declared.instruction.Reach.the-variants.{ReadString, Fork, WaitUntilDone}
 
 -- the program's bytes, the stack below SP, the loop's start, and the place of the instruction byte
 module _ (prog stack : List ℕ) (loopstart at : ℕ) where
@@ -83,8 +79,7 @@ module _ (prog stack : List ℕ) (loopstart at : ℕ) where
       withNumber (pop AnyNumber stack) λ x rest.
       cond (exceeds x (clockInt clock)) (goes (here at stack) []) (onward behind rest [])
 
-  -- MILLIS pushes the milliseconds counter as an INT (guide 9.5) of 16 bits (A.4): document 01's "the clock's low 16
-  -- bits taken as INT"
+  -- MILLIS (guide 9.5, A.4): document 01's "the clock's low 16 bits taken as INT"
   abbrev pub pushClock : ℕ → Effect
   pushClock clock = onward behind (push stack 2 (clock % 65536 / 256 ∷ clock % 256 ∷ [])) []
 
@@ -92,8 +87,7 @@ module _ (prog stack : List ℕ) (loopstart at : ℕ) where
   abbrev pub prints : Bool → Effect
   prints ends = withPopped (pop AnyValue stack) λ x rest. onward behind rest (printed x ++ newline ends)
 
-  -- ---- flow. Jumps count from past the arguments.
-  -- IF and ELSE look at a number and leave it as it lies.
+  -- ---- flow. Jumps count from past the arguments. IF and ELSE leave the number as it lies.
   abbrev pub jumpsIf : Bool → Effect
   jumpsIf zero =
       withArguments 1
@@ -129,21 +123,6 @@ module _ (prog stack : List ℕ) (loopstart at : ℕ) where
   abbrev pub loopsBack : Effect
   loopsBack = settle prog (loopTarget (eqb loopstart noLoop) loopstart) stack loopstart []
 
-  -- ---- beyond the process: the operands are popped here, the answer comes from disc and process table
-  -- Document 01: "OPEN pops the size, then the name (as for FORK, the string less its zero)"
-  abbrev pub reaches : Reach → Effect
-  reaches OpenFile =
-      withNumber (pop AnyNumber stack) λ size rest.
-      withPopped (pop AnyString rest) λ name rest.
-      asks (opens (trimmed (name .bytes)) size (here behind rest))
-  reaches CloseFile = asks (closes (here behind stack))
-  reaches WriteFile = withPopped (pop AnyValue stack) λ x rest. asks (writes (x .bytes) (here behind rest))
-  reaches (ReadNumber kind) = asks (reads kind (here behind stack))
-  reaches ReadString = asks (readsString (here behind stack))
-  reaches Fork = withPopped (pop AnyString stack) λ name rest. asks (forks (trimmed (name .bytes)) (here behind rest))
-  reaches WaitUntilDone =
-      withNumber (pop AnyNumber stack) λ x rest. asks (awaits x (here at stack) (here behind rest))
-
   unfoldable pub performs : ℕ → Instruction → List Cell → Effect
   performs clock (Literal kind) own = pushLiteral kind
   performs clock StringLiteral own = pushText
@@ -160,7 +139,7 @@ module _ (prog stack : List ℕ) (loopstart at : ℕ) where
   performs clock Loop own = marksLoop
   performs clock EndLoop own = loopsBack
   performs clock Stop own = stops
-  performs clock (Beyond r) own = reaches r
+  performs clock (Beyond r) own = reaches prog stack loopstart at r
   performs clock Unknown own = faults 1
 
 -- Document 01: "1 no such instruction; 2 code ended": past the last byte there is no instruction byte to judge

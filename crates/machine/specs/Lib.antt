@@ -8,6 +8,7 @@ pub mod GoodArea
 pub mod Stack
 pub mod Instruction
 pub mod Effect
+pub mod Asking
 pub mod Exec
 -- one turn: what the instruction does to disc and state
 pub mod Start

@@ -17,7 +17,8 @@ use Rattle.number.specs.declared.instruction.Types.the-variants.{AnyNumber, Any
 use Rattle.store.specs.Name.{trimmed}
 use Rattle.variable.specs.Table.{Cell}
 use Rattle.machine.specs.Effect.{clockInt, newline, printed, settle}
-use Rattle.machine.specs.Exec.{behind, exec, firstArgument, performs, reaches, secondArgument}
+use Rattle.machine.specs.Asking.{reaches}
+use Rattle.machine.specs.Exec.{behind, exec, firstArgument, performs, secondArgument}
 use Rattle.machine.specs.Instruction.{instructionOf}
 use Rattle.machine.specs.Stack.{pushItem, pushString}
 use Rattle.machine.specs.State.{Local}

@@ -17,7 +17,8 @@ use Rattle.number.specs.Value.{isZero}
 use Rattle.number.specs.declared.instruction.Types.the-variants.{AnyNumber, AnyString, AnyValue}
 use Rattle.variable.specs.Table.{Cell}
 use Rattle.machine.specs.Effect.{Effect, goes, assigns, stops, faults, asks, Request, printed, newline, clockInt}
-use Rattle.machine.specs.Exec.{behind, exec, firstArgument, here, performs, reaches, secondArgument, withArguments}
+use Rattle.machine.specs.Asking.{reaches}
+use Rattle.machine.specs.Exec.{behind, exec, firstArgument, here, performs, secondArgument, withArguments}
 use Rattle.machine.specs.Instruction.{instructionOf}
 use Rattle.machine.specs.Stack.{stringText}
 use Rattle.machine.specs.State.{Local}
