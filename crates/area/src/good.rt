@@ -1,4 +1,4 @@
-// Whether a work area is good, tested on its bytes. These tests run at every call: docs/DECISIONS.md has their speed.
+// Whether a work area is good, tested on its bytes. These tests run at every call: docs/COSTS.md has their speed.
 mod columns;
 mod ids;
 mod records;
