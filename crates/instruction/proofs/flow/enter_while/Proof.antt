@@ -53,7 +53,7 @@ returns-3 : tie.Need-returns-3
 returns-3 c =
     let k = c .before .before in
     let p = k .before .before in
-    rw (le-leb _ _ (fits (p .before))) (number-faults AnyNumber _ (p .top-number .ensures) (k .fault .given .1) _ (c .last-step2 .ensures) _)
+    rw (le-leb _ _ (fits (p .before))) (number-faults _ _ (p .top-number .ensures) (k .fault .given .1) _ (c .last-step2 .ensures) _)
 
 pub enter-while-spec : {M : Type 1} → statement M
 enter-while-spec =

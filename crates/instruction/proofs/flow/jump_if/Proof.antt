@@ -68,7 +68,7 @@ returns-4 : tie.Need-returns-4
 returns-4 c =
     let k = c .before .before in
     let p = k .before .before in
-    rw (le-leb _ _ (fits (p .before))) (number-faults AnyNumber _ (p .top-number .ensures) (k .fault .given .1) _ (c .last-step2 .ensures) _)
+    rw (le-leb _ _ (fits (p .before))) (number-faults _ _ (p .top-number .ensures) (k .fault .given .1) _ (c .last-step2 .ensures) _)
 
 pub jump-if-spec : {M : Type 1} → statement M
 jump-if-spec =

@@ -40,7 +40,8 @@ returns-2 c =
     let t = ended .before .before in
     let o = t .before .before in
     let s = start o in
-    breaks-off (s .pre .0) _ (read-granted (s .pre .0) _ (s .args .kind) (sym (o .access .ensures) ∙ t .enum-told2 .given .1)) (ended .finish .ensures)
+    breaks-off (s .pre .0) _ (read-granted (s .pre .0) _ (s .args .kind) (sym (o .access .ensures) ∙ t .enum-told2 .given .1))
+    (ended .finish .ensures)
 
 returns-3 : tie.Need-returns-3
 returns-3 c =
@@ -48,7 +49,8 @@ returns-3 c =
     let t = ended .before .before in
     let o = t .before .before in
     let s = start o in
-    breaks-off (s .pre .0) _ (read-granted (s .pre .0) _ (s .args .kind) (sym (o .access .ensures) ∙ t .enum-told3 .given .1)) (ended .finish2 .ensures)
+    breaks-off (s .pre .0) _ (read-granted (s .pre .0) _ (s .args .kind) (sym (o .access .ensures) ∙ t .enum-told3 .given .1))
+    (ended .finish2 .ensures)
 
 pub read-number-spec : {M : Type 1} → statement M
 read-number-spec =
