@@ -1,5 +1,5 @@
--- What an instruction asks of the world beyond its process: the operands are popped here, the answer comes from disc and
--- process table (Beyond).
+-- What an instruction asks of the world beyond its process: the operands are popped here, the answer comes from disc
+-- and process table (Beyond).
 use Prim.Native.Nat.{ℕ, _+_}
 use mathlib.Core.List.{List}
 use Rattle.number.specs.declared.instruction.Types.the-variants.{AnyNumber, AnyString, AnyValue}
@@ -30,4 +30,5 @@ module _ (prog stack : List ℕ) (loopstart at : ℕ) where
   reaches ReadString = asks (readsString (past stack))
   reaches Fork = withPopped (pop AnyString stack) λ name rest. asks (forks (trimmed (name .bytes)) (past rest))
   reaches WaitUntilDone =
-      withNumber (pop AnyNumber stack) λ x rest. asks (awaits x (record { stack = stack; pc = at; loopstart = loopstart }) (past rest))
+      withNumber (pop AnyNumber stack) λ x rest.
+      asks (awaits x (record { stack = stack; pc = at; loopstart = loopstart }) (past rest))
