@@ -97,11 +97,12 @@ divides Times = false
 divides DividedBy = true
 divides Modulus = true
 
--- an answer at either width, k the type: what the call for the operator p ensures, of the operands themselves
-module _ {w : Width} (k : ℤ → Number) {x y : ℤ} (fx : SFits w x) (fy : SFits w y) where
-  pub not-zero : (ofZ w y ≡ 0 → ⊥) → toZ w (ofZ w y) ≡ pos 0 → ⊥
-  not-zero h e = h (ap (ofZ w) (sym (toZ-ofZ fy) ∙ e))
+-- a divisor that the test has let through
+pub not-zero : {w : Width} {y : ℤ} → SFits w y → (ofZ w y ≡ 0 → ⊥) → toZ w (ofZ w y) ≡ pos 0 → ⊥
+not-zero {w} f h e = h (ap (ofZ w) (sym (toZ-ofZ f) ∙ e))
 
+-- an answer at either width, k the type: what the call for the operator p ensures, of the operands themselves
+module _ (w : Width) (k : ℤ → Number) {x y : ℤ} (fx : SFits w x) (fy : SFits w y) where
   -- what a call gives, as the machine reads it
   abbrev Gives : Arithmetic → ℤ → Type 0
   Gives p r = r ≡ wrapped w (exact p (toZ w (ofZ w x)) (toZ w (ofZ w y)))

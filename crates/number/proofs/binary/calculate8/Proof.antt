@@ -1,9 +1,8 @@
 -- The laws of Operands at 8 bits, by the operator.
-use mathlib.Core.Path.{refl}
+use mir.Syntax.{w8}
 use borrow.Author.Needs.{needs}
 use Rattle.number.specs.declared.Number.the-variants.{Char}
-use Rattle.number.specs.declared.operators.Arithmetic.the-variants.{Plus, Minus, Times, DividedBy, Modulus}
-use Rattle.number.proofs.Operands.{calculated, not-zero, divided, divided-by-zero}
+use Rattle.number.proofs.Operands.{not-zero, calculated, divided, divided-by-zero}
 use Rattle.number.proofs.binary.calculate8.Statement.{statement}
 use Rattle.number.proofs.binary.calculate8.Tie as tie
 
@@ -18,34 +17,13 @@ calculate8-spec =
     (λ c. search needs)
     (λ c κs. search needs)
     (λ c. search needs)
-    (λ c κs. let s = c .before .before .before in not-zero Char (s .fits .x) (s .fits .y) (c .if1 .left))
+    (λ c κs. search (needs, not-zero))
     (λ c. search needs)
-    (λ c κs. let s = c .before .before .before in not-zero Char (s .fits .x) (s .fits .y) (c .if2 .left))
-    (λ c.
-    let told = c .before in
-    let f = told .before .before .fits in
-    calculated Char (f .x) (f .y) Plus refl (told .enum-told .given .1) (c .add8 .ensures))
-    (λ c.
-    let told = c .before in
-    let f = told .before .before .fits in
-    calculated Char (f .x) (f .y) Minus refl (told .enum-told2 .given .1) (c .subtract8 .ensures))
-    (λ c.
-    let told = c .before in
-    let f = told .before .before .fits in
-    calculated Char (f .x) (f .y) Times refl (told .enum-told3 .given .1) (c .multiply8 .ensures))
-    (λ c.
-    let told = c .before in
-    let f = told .before .before .fits in
-    divided-by-zero Char (f .x) (f .y) DividedBy refl (told .enum-told4 .given .1) (c .if1 .taken))
-    (λ c.
-    let told = c .before .before in
-    let f = told .before .before .fits in
-    divided Char (f .x) (f .y) DividedBy (c .before .if1 .left) (told .enum-told4 .given .1) (c .quotient8 .ensures))
-    (λ c.
-    let told = c .before in
-    let f = told .before .before .fits in
-    divided-by-zero Char (f .x) (f .y) Modulus refl (told .enum-told5 .given .1) (c .if2 .taken))
-    (λ c.
-    let told = c .before .before in
-    let f = told .before .before .fits in
-    divided Char (f .x) (f .y) Modulus (c .before .if2 .left) (told .enum-told5 .given .1) (c .remainder8 .ensures)))
+    (λ c κs. search (needs, not-zero))
+    (λ c. search (needs, calculated w8 Char))
+    (λ c. search (needs, calculated w8 Char))
+    (λ c. search (needs, calculated w8 Char))
+    (λ c. search (needs, divided-by-zero w8 Char))
+    (λ c. search (needs, divided w8 Char))
+    (λ c. search (needs, divided-by-zero w8 Char))
+    (λ c. search (needs, divided w8 Char)))
