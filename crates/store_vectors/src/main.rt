@@ -62,15 +62,19 @@ fn run_next(fd: i32) -> bool {
 }
 
 // A proved loop ends; this one at the latest after so many vectors.
+fn run_all(fd: i32) {
+    let mut left: u64 = 100000;
+    while left > 0 && run_next(fd) {
+        left -= 1;
+    }
+}
+
 fn main() {
     let fd = os::open_read(b"vectors");
     if fd < 0 {
         os::fail(b"vectors");
         return;
     }
-    let mut left: u64 = 100000;
-    while left > 0 && run_next(fd) {
-        left -= 1;
-    }
+    run_all(fd);
     libc::close(fd);
 }
