@@ -144,12 +144,7 @@ fn run_next(
 }
 
 // A proved loop ends; this one at the latest after so many vectors.
-fn main() {
-    let fd = os::open_read(b"vectors");
-    if fd < 0 {
-        os::fail(b"vectors");
-        return;
-    }
+fn run_all(fd: i32) {
     let mut disc = [0u8; LONGEST];
     let mut area = [0u8; LONGEST];
     let mut out = [0u8; LONGEST];
@@ -157,5 +152,14 @@ fn main() {
     while left > 0 && run_next(fd, &mut disc, &mut area, &mut out) {
         left -= 1;
     }
+}
+
+fn main() {
+    let fd = os::open_read(b"vectors");
+    if fd < 0 {
+        os::fail(b"vectors");
+        return;
+    }
+    run_all(fd);
     libc::close(fd);
 }
