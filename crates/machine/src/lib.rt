@@ -86,7 +86,7 @@ pub fn reaches_exactly()
     ensures { λ _. ⌜ ReachesExactly ⌝ }
 {}
 
-// What a done call answers and leaves, byte by byte.
+// What a done call answers, and what it leaves of disc, output and the processes it concerns.
 pub fn done_exactly()
     ensures { λ _. ⌜ DoneExactly ⌝ }
 {}
