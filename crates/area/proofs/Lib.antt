@@ -1,15 +1,7 @@
--- The laws of the work area in code, by topic.
--- reading and writing parts of it
+-- The laws of reading and writing the parts of the work area, by topic.
 pub mod Reading
 pub mod Runs
 pub mod Tables
 pub mod Owned
 pub mod Lengths
 pub mod Writing
--- the tests of a good area on its bytes
-pub mod Slots
-pub mod Columns
-pub mod Clashes
-pub mod Files
-pub mod VariableTests
-pub mod Goodness

@@ -6,7 +6,7 @@ use Rattle.buffer.proofs.Lists.{tab-at}
 use Rattle.machine.specs.Area.{kernelOf}
 use Rattle.machine.specs.Limits.{slotCount}
 use Rattle.machine.specs.State.{noProcess, processAt}
-use Rattle.area.specs.Columns.{processIn}
+use Rattle.area.specs.Parts.{processIn}
 
 pub process-read : (area : List ℕ) (slot : ℕ) → slot < slotCount → processAt (kernelOf area) slot ≡ processIn area slot
 unfolding kernelOf

@@ -1,38 +1,6 @@
-// The work area in code: the tests of disc and area, and the state out of its bytes and back.
+// The work area in code: the state out of its bytes and back, and the searches among its records.
 pub mod ending;
-pub mod good;
 pub mod kernel;
 pub mod processes;
 pub mod records;
 pub mod variables;
-
-use machine::limits::AREA_LENGTH;
-ghost use mathlib.Core.Path.{_≡_};
-ghost use Rattle.area.specs.Tests.{tested};
-
-// Document 01: "1: a buffer has the wrong length. 2: disc not good. 3: work area not good."
-pub enum Tested {
-    Pass,
-    WrongLength,
-    BadDisc,
-    BadArea,
-}
-
-// What every operation on both buffers tries first.
-pub fn check(disc: &[u8], area: &[u8]) -> Tested
-    ensures { λ r. ⌜ r ≡ tested (now (disc .entry)) (now (area .entry)) ⌝ }
-{
-    if !store::good::is_disc_length(disc.len()) {
-        return Tested::WrongLength;
-    }
-    if area.len() != AREA_LENGTH {
-        return Tested::WrongLength;
-    }
-    if !store::good::is_good_disc(disc) {
-        return Tested::BadDisc;
-    }
-    if !good::is_good_area(disc, area) {
-        return Tested::BadArea;
-    }
-    Tested::Pass
-}

@@ -18,8 +18,8 @@ use Rattle.machine.specs.State.{slotOf}
 use Rattle.machine.proofs.Bytes.Sizes.{decoded-sized}
 use Rattle.machine.proofs.Changes.Slots.{slot-at}
 use Rattle.machine.proofs.Demands.GoodCalls.{on-good}
-use Rattle.area.specs.Tests.{tested}
-use Rattle.area.specs.declared.Tested.the-variants as tests
+use Rattle.validation.specs.Tests.{tested}
+use Rattle.validation.specs.declared.Tested.the-variants as tests
 use Rattle.operation.specs.Answers.{answered, checked, lent, usable}
 use Rattle.operation.specs.declared.Answer.the-variants.{Refused}
 use Rattle.operation.specs.declared.Checked.{Checked}

@@ -2,9 +2,9 @@
 use Prim.Native.Nat.{ℕ}
 use mathlib.Core.List.{List}
 use lib.IntN.{ℤ, pos, negℤ}
-use Rattle.area.specs.Tests.{tested}
-use Rattle.area.specs.declared.Tested.{Tested}
-use Rattle.area.specs.declared.Tested.the-variants as tests
+use Rattle.validation.specs.Tests.{tested}
+use Rattle.validation.specs.declared.Tested.{Tested}
+use Rattle.validation.specs.declared.Tested.the-variants as tests
 use Rattle.machine.specs.Answer.{Buffers}
 use Rattle.machine.specs.Answer.{Answer as Expected}
 use Rattle.operation.specs.declared.Answer.{Answer}

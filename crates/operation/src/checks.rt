@@ -1,7 +1,7 @@
 // What every operation on both buffers tries first.
 use crate::Checked;
 use crate::Refusal;
-use area::Tested;
+use validation::Tested;
 ghost use mathlib.Core.Path.{_≡_};
 ghost use Rattle.operation.specs.Answers.{checked};
 
@@ -9,7 +9,7 @@ ghost use Rattle.operation.specs.Answers.{checked};
 pub fn check(disc: &[u8], area: &[u8]) -> Checked
     ensures { λ r. ⌜ r ≡ checked (now (disc .entry)) (now (area .entry)) ⌝ }
 {
-    match area::check(disc, area) {
+    match validation::check(disc, area) {
         Tested::Pass => Checked::Usable,
         Tested::WrongLength => Checked::Unusable(Refusal::WrongLength),
         Tested::BadDisc => Checked::Unusable(Refusal::BadDisc),

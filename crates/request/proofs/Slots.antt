@@ -4,7 +4,7 @@ use mathlib.Core.Path.{_≡_}
 use mathlib.Core.Bool.{Bool, not}
 use mathlib.Core.List.{List}
 use lib.Dec.{eqb}
-use Rattle.area.specs.Columns.{processIn}
+use Rattle.area.specs.Parts.{processIn}
 use Rattle.buffer.specs.declared.Found.{Found}
 use Rattle.buffer.specs.declared.Found.the-variants.{At}
 use Rattle.buffer.proofs.Tables.{index-tab-at}

@@ -8,7 +8,7 @@ use Rattle.buffer.proofs.Equivalence.{Asked, asked-all, asked-next, asked-none}
 use Rattle.machine.specs.Area.{kernelOf, processOf}
 use Rattle.machine.specs.Limits.{slotCount}
 use Rattle.machine.specs.Operations.{inUse, uses}
-use Rattle.area.specs.Columns.{processIn}
+use Rattle.area.specs.Parts.{processIn}
 use Rattle.area.proofs.processes.is_in_use.Statement.{statement}
 use Rattle.area.proofs.processes.is_in_use.Tie as tie
 

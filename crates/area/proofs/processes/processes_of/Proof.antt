@@ -8,7 +8,7 @@ use Rattle.buffer.specs.Lists.{tab}
 use Rattle.machine.specs.Area.{kernelOf}
 use Rattle.machine.specs.Limits.{slotCount}
 use Rattle.machine.specs.declared.Process.{Process}
-use Rattle.area.specs.Columns.{processIn}
+use Rattle.area.specs.Parts.{processIn}
 use Rattle.area.proofs.Reading.{process-read}
 use Rattle.area.proofs.Tables.{Filled, filled-all, filled-next}
 use Rattle.area.proofs.processes.processes_of.Statement.{statement}

@@ -8,7 +8,7 @@ use Rattle.buffer.specs.Lists.{tab}
 use Rattle.variable.specs.Limits.{maxVariables}
 use Rattle.variable.specs.declared.Variable.{Variable}
 use Rattle.machine.specs.Area.{variablesOf}
-use Rattle.area.specs.Columns.{variableIn}
+use Rattle.area.specs.Parts.{variableIn}
 use Rattle.area.proofs.Tables.{Filled, filled-all, filled-next}
 use Rattle.area.proofs.variables.entries_of.Statement.{statement}
 use Rattle.area.proofs.variables.entries_of.Tie as tie

@@ -1,7 +1,7 @@
--- The area's answer, by its cases.
+-- The answer of validation, by its cases.
 use mathlib.Core.Path.{_≡_, sym, ap, _∙_}
 use borrow.Author.Needs.{needs}
-use Rattle.area.specs.declared.Tested.{Tested}
+use Rattle.validation.specs.declared.Tested.{Tested}
 use Rattle.operation.specs.Answers.{usable}
 use Rattle.operation.proofs.checks.check.Statement.{statement}
 use Rattle.operation.proofs.checks.check.Tie as tie

@@ -11,7 +11,7 @@ use Rattle.buffer.proofs.Lists.{flat-tab-next}
 use Rattle.buffer.proofs.Texts.{appended-joined}
 use Rattle.machine.specs.Area.{kernelOf}
 use Rattle.machine.specs.Limits.{slotCount}
-use Rattle.area.specs.Columns.{processIn}
+use Rattle.area.specs.Parts.{processIn}
 use Rattle.area.proofs.Reading.{process-read}
 use Rattle.operation.specs.Lines.{lineOf, lineSize}
 use Rattle.operation.proofs.Lines.{live-lines}

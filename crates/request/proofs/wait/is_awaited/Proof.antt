@@ -3,7 +3,7 @@ use Prim.Native.Nat.{_-_}
 use mathlib.Core.Path.{ap, _∙_}
 use native.Mathlib.Omega.{arith}
 use borrow.Author.Needs.{needs}
-use Rattle.area.specs.Columns.{processIn}
+use Rattle.area.specs.Parts.{processIn}
 use Rattle.area.proofs.Reading.{process-read}
 use Rattle.buffer.proofs.Equivalence.{Asked, asked-all, asked-next, asked-none}
 use Rattle.machine.specs.Area.{kernelOf}

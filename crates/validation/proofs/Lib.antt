@@ -1,0 +1,7 @@
+-- The laws of the tests of a good area on its bytes, by topic.
+pub mod Slots
+pub mod Columns
+pub mod Clashes
+pub mod Files
+pub mod VariableTests
+pub mod Goodness
