@@ -1,6 +1,6 @@
 // Instructions that look at the clock.
 use number::compare::exceeds_whole;
-use number::instruction::Types;
+use operator::instruction::Types;
 use stack::Action;
 use stack::Step;
 use stack::TopNumber;

@@ -1,7 +1,7 @@
 // Which byte is which instruction.
 use machine::instruction::Instruction;
 use machine::instruction::Reach;
-use number::operators::Operator;
+use operator::operators::Operator;
 ghost use mathlib.Core.Path.{_≡_};
 ghost use Rattle.machine.specs.Instruction.{find, instructionOf, others};
 
@@ -44,7 +44,7 @@ fn other(n: u8) -> Instruction
 pub fn instruction(n: u8) -> Instruction
     ensures { λ r. ⌜ r ≡ instructionOf n ⌝ }
 {
-    match number::instruction::operator(n) {
+    match operator::instruction::operator(n) {
         Operator::OfOne(o) => Instruction::Operate(Operator::OfOne(o)),
         Operator::OfTwo(o) => Instruction::Operate(Operator::OfTwo(o)),
         Operator::NotAnOperator => other(n),

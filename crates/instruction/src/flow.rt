@@ -1,6 +1,6 @@
 // Jumps and loops. Jumps count from past the arguments.
-use number::instruction::Types;
 use number::value::is_zero;
+use operator::instruction::Types;
 use stack::Action;
 use stack::Step;
 use stack::TopNumber;

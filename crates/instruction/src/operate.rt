@@ -1,8 +1,8 @@
 // Operators: the guide's arithmetic, comparisons, logic and conversions.
-use number::instruction::types_of;
-use number::operators::Binary;
-use number::operators::Operator;
-use number::operators::Unary;
+use operator::instruction::types_of;
+use operator::operators::Binary;
+use operator::operators::Operator;
+use operator::operators::Unary;
 use stack::Action;
 use stack::Step;
 use stack::TopNumber;
@@ -22,7 +22,7 @@ fn operate_one(code: &[u8], stack: &[u8], at: usize, loopstart: u16, operator: U
 {
     match top_number(stack, types_of(Operator::OfOne(operator))) {
         TopNumber::Is(x, below) => {
-            let outcome = number::unary::apply(operator, x);
+            let outcome = operator::unary::apply(operator, x);
             push_outcome(code, stack, below, outcome, at + 1, loopstart)
         }
         TopNumber::NoNumber(fault) => last_step(Action::Fault(fault)),
@@ -39,7 +39,7 @@ fn operate_two(code: &[u8], stack: &[u8], at: usize, loopstart: u16, operator: B
     match top_number(stack, types) {
         TopNumber::Is(y, middle) => match top_number(&stack[..middle], types) {
             TopNumber::Is(x, below) => {
-                let outcome = number::binary::apply(operator, x, y);
+                let outcome = operator::binary::apply(operator, x, y);
                 push_outcome(code, stack, below, outcome, at + 1, loopstart)
             }
             TopNumber::NoNumber(fault) => last_step(Action::Fault(fault)),

@@ -1,6 +1,6 @@
 // Instructions that reach beyond the process: their operands come off the stack here.
 use machine::instruction::Reach;
-use number::instruction::Types;
+use operator::instruction::Types;
 use stack::Action;
 use stack::Step;
 use stack::TopNumber;

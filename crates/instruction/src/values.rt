@@ -1,6 +1,6 @@
 // Literals, variables and output.
 use buffer::Found;
-use number::instruction::Types;
+use operator::instruction::Types;
 use stack::Action;
 use stack::STRING_KIND;
 use stack::Step;

@@ -2,7 +2,7 @@
 -- and process table (Beyond).
 use Prim.Native.Nat.{ℕ, _+_}
 use mathlib.Core.List.{List}
-use Rattle.number.specs.declared.instruction.Types.the-variants.{AnyNumber, AnyString, AnyValue}
+use Rattle.operator.specs.declared.instruction.Types.the-variants.{AnyNumber, AnyString, AnyValue}
 use Rattle.store.specs.Name.{trimmed}
 use Rattle.machine.specs.Effect.{opens, closes, writes, reads, readsString, forks, awaits, Effect, asks}
 use Rattle.machine.specs.Effect.{withNumber, withPopped}

@@ -9,7 +9,7 @@ use Rattle.buffer.specs.Lists.{index}
 use Rattle.buffer.specs.declared.Found.the-variants.{At}
 use Rattle.number.specs.Compare.{exceeds}
 use Rattle.number.specs.Value.{isZero}
-use Rattle.number.specs.declared.instruction.Types.the-variants.{AnyNumber, AnyValue}
+use Rattle.operator.specs.declared.instruction.Types.the-variants.{AnyNumber, AnyValue}
 use Rattle.store.specs.Name.{trimmed}
 use Rattle.variable.specs.Table.{Cell}
 use Rattle.machine.specs.Asking.{reaches}

@@ -3,9 +3,9 @@ use Prim.Native.Nat.{ℕ}
 use mathlib.Core.Bool.{true, false, cond}
 use mathlib.Core.List.{List, [], _∷_}
 use lib.Dec.{eqb}
-use Rattle.number.specs.Instruction.{operatorOf}
-use Rattle.number.specs.declared.operators.Operator.{Operator}
-use Rattle.number.specs.declared.operators.Operator.the-variants.{OfOne, OfTwo, NotAnOperator}
+use Rattle.operator.specs.Instruction.{operatorOf}
+use Rattle.operator.specs.declared.operators.Operator.{Operator}
+use Rattle.operator.specs.declared.operators.Operator.the-variants.{OfOne, OfTwo, NotAnOperator}
 use Rattle.machine.specs.declared.instruction.Instruction.{Instruction}
 use Rattle.machine.specs.declared.instruction.Instruction.the-variants.{Literal, StringLiteral, SetVariable}
 use Rattle.machine.specs.declared.instruction.Instruction.the-variants.{GetVariable, Operate, DelayUntil, Millis}

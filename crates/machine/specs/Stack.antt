@@ -6,9 +6,9 @@ use lib.Dec.{eqb, leb}
 use lib.ListN.{length, getD, take}
 use Rattle.buffer.specs.Buffer.{part}
 use Rattle.buffer.specs.Lists.{same}
-use Rattle.number.specs.Instruction.{includes}
-use Rattle.number.specs.declared.instruction.Types.{Types}
-use Rattle.number.specs.declared.instruction.Types.the-variants.{AnyString}
+use Rattle.operator.specs.Instruction.{includes}
+use Rattle.operator.specs.declared.instruction.Types.{Types}
+use Rattle.operator.specs.declared.instruction.Types.the-variants.{AnyString}
 use Rattle.store.specs.Name.{trimmed}
 
 -- a value as it lies: its type, and its bytes without length and type

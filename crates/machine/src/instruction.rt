@@ -1,5 +1,5 @@
 // The instructions. Document 01: "Numbered 1 to 69 by place in appendix C"; specs/Instruction.antt has the numbers.
-use number::operators::Operator;
+use operator::operators::Operator;
 
 // Those that reach beyond the process: files and other processes.
 pub enum Reach {

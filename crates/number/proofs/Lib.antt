@@ -1,9 +1,6 @@
 -- The laws of crate number, by topic.
 pub mod Encoding
-pub mod Magnitude
-pub mod OneOperand
 pub mod Operands
+pub mod Signs
 pub mod Sizes
-pub mod Table
 pub mod Texts
-pub mod Zeros

@@ -1,11 +1,5 @@
-pub mod Outcome
 pub mod Whole
 pub mod Value
 pub mod Promotion
-pub mod Arithmetic
-pub mod Binary
-pub mod Conversion
-pub mod Unary
-pub mod Instruction
 pub mod Compare
 pub mod Text

@@ -12,11 +12,11 @@ use crate::tally::empty;
 use crate::tally::write_field;
 use crate::tally::write_tally;
 use number::Number;
-use number::binary::apply;
-use number::instruction::takes;
-use number::instruction::types_of;
-use number::operators::Binary;
-use number::operators::Operator;
+use operator::binary::apply;
+use operator::instruction::takes;
+use operator::instruction::types_of;
+use operator::operators::Binary;
+use operator::operators::Operator;
 
 fn over_seconds(start: Tally, o: Binary, a: Number, second: u8, grid: &Grid) -> Tally {
     let mut t = start;

@@ -7,8 +7,8 @@ mod types;
 mod unary;
 
 use crate::operands::Grid;
-use number::instruction::operator;
-use number::operators::Operator;
+use operator::instruction::operator;
+use operator::operators::Operator;
 
 fn write_operator(instruction: u8, grid: &Grid) {
     match operator(instruction) {

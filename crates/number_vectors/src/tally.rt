@@ -1,7 +1,7 @@
 // A checksum over outcomes, with the number of faults.
 use number::Number;
-use number::Outcome;
 use number::value::encode;
+use operator::Outcome;
 
 // The greatest prime below 2^32.
 const MODULUS: u64 = 4294967291;

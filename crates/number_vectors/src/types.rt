@@ -1,8 +1,8 @@
 // Which operand types each instruction takes.
 use crate::tally::write_field;
-use number::instruction::operator;
-use number::instruction::takes;
-use number::instruction::types_of;
+use operator::instruction::operator;
+use operator::instruction::takes;
+use operator::instruction::types_of;
 
 fn write_line(instruction: u8) {
     io::print_decimal(1, instruction as u64);

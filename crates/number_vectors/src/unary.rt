@@ -13,11 +13,11 @@ use crate::tally::count;
 use crate::tally::empty;
 use crate::tally::write_field;
 use crate::tally::write_tally;
-use number::instruction::takes;
-use number::instruction::types_of;
-use number::operators::Operator;
-use number::operators::Unary;
-use number::unary::apply;
+use operator::instruction::takes;
+use operator::instruction::types_of;
+use operator::operators::Operator;
+use operator::operators::Unary;
+use operator::unary::apply;
 
 fn over_wholes(o: Unary, kind: u8) -> Tally {
     let end = values(kind);

@@ -13,20 +13,20 @@ use Rattle.buffer.specs.Buffer.{part}
 use Rattle.buffer.proofs.Bools.{true-not-false}
 use Rattle.buffer.proofs.Disjunctions.{or-cases}
 use Rattle.buffer.proofs.Parts.{part-length}
-use Rattle.number.specs.Instruction.{arithmeticTypes, binaryTypes, conversionTypes, includes, unaryTypes}
+use Rattle.operator.specs.Instruction.{arithmeticTypes, binaryTypes, conversionTypes, includes, unaryTypes}
 use Rattle.number.specs.declared.Number.{Number}
-use Rattle.number.specs.declared.instruction.Types.{Types}
-use Rattle.number.specs.declared.instruction.Types.the-variants.{AnyNumber, CharOrInt, IntOrFloat, CharOrFloat, AnyString, AnyValue}
-use Rattle.number.specs.declared.instruction.Types.the-variants.{Nothing}
-use Rattle.number.specs.declared.operators.Arithmetic.{Arithmetic}
-use Rattle.number.specs.declared.operators.Arithmetic.the-variants.{Plus, Minus, Times, DividedBy, Modulus}
-use Rattle.number.specs.declared.operators.Binary.{Binary}
-use Rattle.number.specs.declared.operators.Binary.the-variants.{Arithmetic as Calculates, Comparison, Logical, Bitwise, Extremum}
-use Rattle.number.specs.declared.operators.Conversion.{Conversion}
-use Rattle.number.specs.declared.operators.Conversion.the-variants.{ToChar, ToInt, ToFloat, Round, Floor, Ceil}
-use Rattle.number.specs.declared.operators.Unary.{Unary}
-use Rattle.number.specs.declared.operators.Unary.the-variants.{Increment, Decrement, UnaryMinus, LogicalNot, BitwiseNot, Convert}
-use Rattle.number.specs.declared.operators.Unary.the-variants.{Abs, Sq, Sqrt}
+use Rattle.operator.specs.declared.instruction.Types.{Types}
+use Rattle.operator.specs.declared.instruction.Types.the-variants.{AnyNumber, CharOrInt, IntOrFloat, CharOrFloat, AnyString, AnyValue}
+use Rattle.operator.specs.declared.instruction.Types.the-variants.{Nothing}
+use Rattle.operator.specs.declared.operators.Arithmetic.{Arithmetic}
+use Rattle.operator.specs.declared.operators.Arithmetic.the-variants.{Plus, Minus, Times, DividedBy, Modulus}
+use Rattle.operator.specs.declared.operators.Binary.{Binary}
+use Rattle.operator.specs.declared.operators.Binary.the-variants.{Arithmetic as Calculates, Comparison, Logical, Bitwise, Extremum}
+use Rattle.operator.specs.declared.operators.Conversion.{Conversion}
+use Rattle.operator.specs.declared.operators.Conversion.the-variants.{ToChar, ToInt, ToFloat, Round, Floor, Ceil}
+use Rattle.operator.specs.declared.operators.Unary.{Unary}
+use Rattle.operator.specs.declared.operators.Unary.the-variants.{Increment, Decrement, UnaryMinus, LogicalNot, BitwiseNot, Convert}
+use Rattle.operator.specs.declared.operators.Unary.the-variants.{Abs, Sq, Sqrt}
 use Rattle.store.specs.Name.{trimmed}
 use Rattle.machine.specs.Effect.{Effect, number, withNumber, withPopped}
 use Rattle.machine.specs.Stack.{Item, Popped, popped, cannot, pop, stringKind}

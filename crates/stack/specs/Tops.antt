@@ -7,9 +7,9 @@ use Rattle.buffer.specs.Buffer.{part}
 use Rattle.machine.specs.Effect.{number}
 use Rattle.machine.specs.Stack.{Popped, popped, cannot}
 use Rattle.number.specs.declared.Number.{Number}
-use Rattle.number.specs.declared.instruction.Types.{Types}
-use Rattle.number.specs.declared.instruction.Types.the-variants.{AnyNumber, CharOrInt, IntOrFloat, CharOrFloat}
-use Rattle.number.specs.declared.instruction.Types.the-variants.{AnyString, AnyValue, Nothing}
+use Rattle.operator.specs.declared.instruction.Types.{Types}
+use Rattle.operator.specs.declared.instruction.Types.the-variants.{AnyNumber, CharOrInt, IntOrFloat, CharOrFloat}
+use Rattle.operator.specs.declared.instruction.Types.the-variants.{AnyString, AnyValue, Nothing}
 use Rattle.stack.specs.declared.TopNumber.{TopNumber}
 use Rattle.stack.specs.declared.TopNumber.the-variants.{Is, NoNumber}
 use Rattle.stack.specs.declared.TopValue.{TopValue}

@@ -5,7 +5,7 @@ use crate::Step;
 use crate::tops::wide;
 use machine::limits::STACK_SIZE;
 use number::Number;
-use number::Outcome;
+use operator::Outcome;
 ghost use mathlib.Core.List.{[], _++_};
 ghost use mathlib.Core.Path.{_≡_};
 ghost use Prim.Native.Nat.{_+_, _≤_};

@@ -9,17 +9,17 @@ use lib.ListN.{length}
 use borrow.Author.Tests.{leb-true}
 use Rattle.buffer.specs.declared.Found.{Found}
 use Rattle.buffer.specs.declared.Found.the-variants.{At, Nowhere}
-use Rattle.number.specs.Binary.{binary}
-use Rattle.number.specs.Instruction.{typesOf}
-use Rattle.number.specs.Unary.{unary}
+use Rattle.operator.specs.Binary.{binary}
+use Rattle.operator.specs.Instruction.{typesOf}
+use Rattle.operator.specs.Unary.{unary}
 use Rattle.number.specs.Value.{typeOf, valueBytes}
 use Rattle.number.specs.declared.Number.{Number}
 use Rattle.number.specs.declared.Number.the-variants.{Char, Int, Float}
-use Rattle.number.specs.declared.instruction.Types.{Types}
-use Rattle.number.specs.declared.Outcome.{Outcome}
-use Rattle.number.specs.declared.Outcome.the-variants.{Value, DivisionByZero, OutOfRange}
-use Rattle.number.specs.declared.operators.Operator.{Operator}
-use Rattle.number.specs.declared.operators.Operator.the-variants.{OfOne, OfTwo, NotAnOperator}
+use Rattle.operator.specs.declared.instruction.Types.{Types}
+use Rattle.operator.specs.declared.Outcome.{Outcome}
+use Rattle.operator.specs.declared.Outcome.the-variants.{Value, DivisionByZero, OutOfRange}
+use Rattle.operator.specs.declared.operators.Operator.{Operator}
+use Rattle.operator.specs.declared.operators.Operator.the-variants.{OfOne, OfTwo, NotAnOperator}
 use Rattle.number.proofs.Encoding.{Fits}
 use Rattle.variable.specs.Table.{Cell}
 use Rattle.machine.specs.Effect.{Effect, goes, assigns, stops, faults, asks, Request, opens, closes, writes, reads, readsString}

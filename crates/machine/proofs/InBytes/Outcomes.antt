@@ -22,29 +22,29 @@ use Rattle.float.specs.declared.whole.Rounding.the-variants.{TowardZero, HalfAw
 use Rattle.float.specs.declared.whole.Whole.{Whole}
 use Rattle.float.specs.declared.whole.Whole.the-variants.{Is, OutOfRange as Beyond}
 use Rattle.float.proofs.Sizes.{whole-fits}
-use Rattle.number.specs.Arithmetic.{arithmetic, divisible, real, whole}
-use Rattle.number.specs.Binary.{binary, bitwise, compared, connected, extremum, replaces, wholeBits}
-use Rattle.number.specs.Conversion.{converted, convertedFloat, convertedWhole, valueOr}
-use Rattle.number.specs.Outcome.{flag}
+use Rattle.operator.specs.Arithmetic.{arithmetic, divisible, real, whole}
+use Rattle.operator.specs.Binary.{binary, bitwise, compared, connected, extremum, replaces, wholeBits}
+use Rattle.operator.specs.Conversion.{converted, convertedFloat, convertedWhole, valueOr}
+use Rattle.operator.specs.Outcome.{flag}
 use Rattle.number.specs.Promotion.{first, promoted, second}
-use Rattle.number.specs.Unary.{absolute, magnitude, negated, squareRoot, unary, wholeSquareRoot}
+use Rattle.operator.specs.Unary.{absolute, magnitude, negated, squareRoot, unary, wholeSquareRoot}
 use Rattle.number.specs.Value.{isZero}
 use Rattle.number.specs.declared.Number.{Number}
 use Rattle.number.specs.declared.Number.the-variants.{Char, Int, Float}
-use Rattle.number.specs.declared.Outcome.{Outcome}
-use Rattle.number.specs.declared.Outcome.the-variants.{Value, DivisionByZero, OutOfRange}
-use Rattle.number.specs.declared.operators.Arithmetic.{Arithmetic}
-use Rattle.number.specs.declared.operators.Arithmetic.the-variants.{Plus, Minus, Times, DividedBy, Modulus}
-use Rattle.number.specs.declared.operators.Binary.{Binary}
-use Rattle.number.specs.declared.operators.Binary.the-variants.{Arithmetic as Calculates, Comparison, Logical, Bitwise, Extremum as Chooses}
-use Rattle.number.specs.declared.operators.Connective.{Connective}
-use Rattle.number.specs.declared.operators.Connective.the-variants.{And, Or, Xor}
-use Rattle.number.specs.declared.operators.Conversion.{Conversion}
-use Rattle.number.specs.declared.operators.Conversion.the-variants.{ToChar, ToInt, ToFloat, Round, Floor, Ceil}
-use Rattle.number.specs.declared.operators.Extremum.{Extremum}
-use Rattle.number.specs.declared.operators.Unary.{Unary}
-use Rattle.number.specs.declared.operators.Unary.the-variants.{Increment, Decrement, UnaryMinus, LogicalNot, BitwiseNot, Convert, Abs, Sq}
-use Rattle.number.specs.declared.operators.Unary.the-variants.{Sqrt}
+use Rattle.operator.specs.declared.Outcome.{Outcome}
+use Rattle.operator.specs.declared.Outcome.the-variants.{Value, DivisionByZero, OutOfRange}
+use Rattle.operator.specs.declared.operators.Arithmetic.{Arithmetic}
+use Rattle.operator.specs.declared.operators.Arithmetic.the-variants.{Plus, Minus, Times, DividedBy, Modulus}
+use Rattle.operator.specs.declared.operators.Binary.{Binary}
+use Rattle.operator.specs.declared.operators.Binary.the-variants.{Arithmetic as Calculates, Comparison, Logical, Bitwise, Extremum as Chooses}
+use Rattle.operator.specs.declared.operators.Connective.{Connective}
+use Rattle.operator.specs.declared.operators.Connective.the-variants.{And, Or, Xor}
+use Rattle.operator.specs.declared.operators.Conversion.{Conversion}
+use Rattle.operator.specs.declared.operators.Conversion.the-variants.{ToChar, ToInt, ToFloat, Round, Floor, Ceil}
+use Rattle.operator.specs.declared.operators.Extremum.{Extremum}
+use Rattle.operator.specs.declared.operators.Unary.{Unary}
+use Rattle.operator.specs.declared.operators.Unary.the-variants.{Increment, Decrement, UnaryMinus, LogicalNot, BitwiseNot, Convert, Abs, Sq}
+use Rattle.operator.specs.declared.operators.Unary.the-variants.{Sqrt}
 use Rattle.number.specs.declared.promotion.Pair.{Pair}
 use Rattle.number.specs.declared.promotion.Pair.the-variants.{Chars, Ints, Floats}
 use Rattle.number.proofs.Encoding.{Fits}

@@ -7,9 +7,9 @@ use native.Mathlib.Omega.{arith}
 use lib.Dec.{eqb, leb}
 use lib.ListN.{getD, length, take, length-append}
 use Rattle.buffer.specs.Buffer.{part}
-use Rattle.number.specs.Instruction.{includes}
+use Rattle.operator.specs.Instruction.{includes}
 use Rattle.number.specs.Text.{textOf}
-use Rattle.number.specs.declared.instruction.Types.{Types}
+use Rattle.operator.specs.declared.instruction.Types.{Types}
 use Rattle.store.specs.Name.{trimmed}
 use Rattle.machine.specs.Effect.{newline, number, printed}
 use Rattle.machine.specs.Limits.{stackSize}

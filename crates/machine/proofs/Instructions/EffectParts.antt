@@ -10,15 +10,15 @@ use lib.ListN.{length, getD}
 use borrow.Author.Tests.{leb-true}
 use Rattle.buffer.specs.declared.Found.{Found}
 use Rattle.buffer.specs.declared.Found.the-variants.{At, Nowhere}
-use Rattle.number.specs.Binary.{binary}
-use Rattle.number.specs.Instruction.{typesOf}
-use Rattle.number.specs.Unary.{unary}
+use Rattle.operator.specs.Binary.{binary}
+use Rattle.operator.specs.Instruction.{typesOf}
+use Rattle.operator.specs.Unary.{unary}
 use Rattle.number.specs.declared.Number.{Number}
-use Rattle.number.specs.declared.instruction.Types.{Types}
-use Rattle.number.specs.declared.Outcome.{Outcome}
-use Rattle.number.specs.declared.Outcome.the-variants.{Value, DivisionByZero, OutOfRange}
-use Rattle.number.specs.declared.operators.Operator.{Operator}
-use Rattle.number.specs.declared.operators.Operator.the-variants.{OfOne, OfTwo, NotAnOperator}
+use Rattle.operator.specs.declared.instruction.Types.{Types}
+use Rattle.operator.specs.declared.Outcome.{Outcome}
+use Rattle.operator.specs.declared.Outcome.the-variants.{Value, DivisionByZero, OutOfRange}
+use Rattle.operator.specs.declared.operators.Operator.{Operator}
+use Rattle.operator.specs.declared.operators.Operator.the-variants.{OfOne, OfTwo, NotAnOperator}
 use Rattle.variable.specs.Good.{goodSize}
 use Rattle.variable.specs.Table.{Cell}
 use Rattle.machine.specs.Effect.{Effect, goes, assigns, stops, faults, asks, unlessFaults, land, settle, withPopped, withNumber}

@@ -14,7 +14,7 @@ use Rattle.buffer.specs.Lists.{index}
 use Rattle.buffer.proofs.Bools.{and-left, and-right, true-not-false}
 use Rattle.number.specs.Compare.{exceeds}
 use Rattle.number.specs.Value.{isZero}
-use Rattle.number.specs.declared.instruction.Types.the-variants.{AnyNumber, AnyString, AnyValue}
+use Rattle.operator.specs.declared.instruction.Types.the-variants.{AnyNumber, AnyString, AnyValue}
 use Rattle.variable.specs.Table.{Cell}
 use Rattle.machine.specs.Effect.{Effect, goes, assigns, stops, faults, asks, Request, printed, newline, clockInt}
 use Rattle.machine.specs.Asking.{reaches}

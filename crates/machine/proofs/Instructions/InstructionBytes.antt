@@ -8,9 +8,9 @@ use lib.Dec.{eqb}
 use borrow.Author.Tests.{eqb-true}
 use Rattle.buffer.specs.Lists.{all}
 use Rattle.buffer.proofs.Bools.{and-left, and-right}
-use Rattle.number.specs.Instruction.{operatorOf}
-use Rattle.number.specs.declared.operators.Operator.{Operator}
-use Rattle.number.specs.declared.operators.Operator.the-variants.{OfOne, OfTwo, NotAnOperator}
+use Rattle.operator.specs.Instruction.{operatorOf}
+use Rattle.operator.specs.declared.operators.Operator.{Operator}
+use Rattle.operator.specs.declared.operators.Operator.the-variants.{OfOne, OfTwo, NotAnOperator}
 use Rattle.machine.specs.Instruction.{find, instructionOf, operatorOr, others}
 use Rattle.machine.specs.Suppositions.{isBarred}
 use Rattle.machine.specs.declared.instruction.Instruction.{Instruction}

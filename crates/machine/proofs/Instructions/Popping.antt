@@ -14,10 +14,10 @@ use Rattle.buffer.specs.Lists.{same}
 use Rattle.buffer.proofs.Bools.{and-both, true-not-false}
 use Rattle.buffer.proofs.Lists.{same-differ, same-eq, same-refl}
 use Rattle.buffer.proofs.Parts.{part-length}
-use Rattle.number.specs.Instruction.{includes}
+use Rattle.operator.specs.Instruction.{includes}
 use Rattle.number.specs.Text.{textOf}
-use Rattle.number.specs.declared.instruction.Types.{Types}
-use Rattle.number.specs.declared.instruction.Types.the-variants.{AnyNumber, AnyString, AnyValue}
+use Rattle.operator.specs.declared.instruction.Types.{Types}
+use Rattle.operator.specs.declared.instruction.Types.the-variants.{AnyNumber, AnyString, AnyValue}
 use Rattle.number.proofs.Texts.{text-short}
 use Rattle.store.specs.Name.{trimmed}
 use Rattle.store.proofs.Names.{text-with-zero, trimmed-short}

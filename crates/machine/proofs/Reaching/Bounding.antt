@@ -11,10 +11,10 @@ use borrow.Author.Tests.{eq-eqb, eqb-false, eqb-true}
 use Rattle.buffer.specs.Lists.{any, tab}
 use Rattle.buffer.proofs.Kept.{any-at}
 use Rattle.buffer.proofs.Lists.{tab-at}
-use Rattle.number.specs.Instruction.{lookup, operatorOf}
+use Rattle.operator.specs.Instruction.{lookup, operatorOf}
 use Rattle.number.specs.declared.Number.{Number}
-use Rattle.number.specs.declared.instruction.Types.{Types}
-use Rattle.number.specs.declared.instruction.Types.the-variants.{AnyNumber, AnyString, AnyValue}
+use Rattle.operator.specs.declared.instruction.Types.{Types}
+use Rattle.operator.specs.declared.instruction.Types.the-variants.{AnyNumber, AnyString, AnyValue}
 use Rattle.variable.specs.Table.{owned}
 use Rattle.machine.specs.Answer.{Buffers}
 use Rattle.machine.specs.AtPc.{AtPc, processIn, stackIn}

@@ -6,7 +6,7 @@ use native.Mathlib.Omega.{arith}
 use lib.ListN.{length, getD}
 use borrow.Author.Tests.{le-leb, lt-ltb}
 use Rattle.buffer.proofs.Parts.{part-byte}
-use Rattle.number.specs.Instruction.{lookup, operatorOf}
+use Rattle.operator.specs.Instruction.{lookup, operatorOf}
 use Rattle.number.specs.Value.{numberOf}
 use Rattle.variable.specs.Table.{Cell, owned}
 use Rattle.machine.specs.Answer.{Buffers}

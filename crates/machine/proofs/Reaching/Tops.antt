@@ -11,9 +11,9 @@ use lib.Seq.{drop-at, getD-append-add, getD-at, take-at}
 use borrow.Author.Tests.{le-leb, ne-eqb}
 use Rattle.buffer.specs.Buffer.{part}
 use Rattle.buffer.proofs.Disjunctions.{or-second}
-use Rattle.number.specs.Instruction.{includes}
-use Rattle.number.specs.declared.instruction.Types.{Types}
-use Rattle.number.specs.declared.instruction.Types.the-variants.{AnyNumber, AnyString, AnyValue}
+use Rattle.operator.specs.Instruction.{includes}
+use Rattle.operator.specs.declared.instruction.Types.{Types}
+use Rattle.operator.specs.declared.instruction.Types.the-variants.{AnyNumber, AnyString, AnyValue}
 use Rattle.store.specs.Name.{trimmed}
 use Rattle.store.proofs.Names.{trimmed-at}
 use Rattle.machine.specs.AtPc.{NumberOnTop, StringOnTop, ValueOnTop}

@@ -1,6 +1,6 @@
 -- The number goes, and what lies below it stays.
 use native.Mathlib.Omega.{arith}
-use Rattle.number.specs.declared.instruction.Types.the-variants.{AnyNumber}
+use Rattle.operator.specs.declared.instruction.Types.the-variants.{AnyNumber}
 use Rattle.stack.proofs.Popping.{NumberOnTop, number-faults, number-on-top}
 use borrow.Author.Needs.{needs}
 use Rattle.instruction.proofs.flow.drop_number.Statement.{statement}

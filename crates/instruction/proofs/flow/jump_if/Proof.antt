@@ -6,7 +6,7 @@ use lib.ListN.{length}
 use native.Mathlib.Omega.{arith}
 use borrow.Author.Tests.{le-leb, lt-leb}
 use Rattle.number.specs.Value.{isZero}
-use Rattle.number.specs.declared.instruction.Types.the-variants.{AnyNumber}
+use Rattle.operator.specs.declared.instruction.Types.the-variants.{AnyNumber}
 use Rattle.stack.proofs.Popping.{NumberOnTop, number-faults, number-on-top}
 use Rattle.stack.proofs.Steps.{last-means}
 use borrow.Author.Needs.{needs}

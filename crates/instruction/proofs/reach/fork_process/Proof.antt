@@ -3,7 +3,7 @@ use mathlib.Core.Path.{_≡_}
 use Prim.Native.Nat.{_-_, _≤_}
 use native.Mathlib.Omega.{arith}
 use Rattle.buffer.specs.Buffer.{part}
-use Rattle.number.specs.declared.instruction.Types.the-variants.{AnyString}
+use Rattle.operator.specs.declared.instruction.Types.the-variants.{AnyString}
 use Rattle.store.specs.Name.{trimmed}
 use Rattle.stack.proofs.Popping.{OnTop, string-text, value-faults, value-on-top}
 use borrow.Author.Needs.{needs}

@@ -7,7 +7,7 @@ use lib.Seq.{length-take-le, take-take}
 use native.Mathlib.Omega.{arith}
 use Rattle.buffer.specs.Buffer.{part}
 use Rattle.buffer.proofs.Parts.{part-of-take}
-use Rattle.number.specs.declared.instruction.Types.the-variants.{AnyNumber, AnyString}
+use Rattle.operator.specs.declared.instruction.Types.the-variants.{AnyNumber, AnyString}
 use Rattle.store.specs.Name.{trimmed}
 use Rattle.stack.proofs.Popping.{NumberOnTop, OnTop, number-faults, number-on-top, string-text, value-faults, value-on-top}
 use borrow.Author.Needs.{needs}

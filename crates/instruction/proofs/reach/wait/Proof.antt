@@ -2,7 +2,7 @@
 use mathlib.Core.Path.{_≡_}
 use Prim.Native.Nat.{_+_, _-_}
 use native.Mathlib.Omega.{arith}
-use Rattle.number.specs.declared.instruction.Types.the-variants.{AnyNumber}
+use Rattle.operator.specs.declared.instruction.Types.the-variants.{AnyNumber}
 use Rattle.stack.proofs.Popping.{NumberOnTop, number-faults, number-on-top}
 use borrow.Author.Needs.{needs}
 use Rattle.instruction.proofs.reach.wait.Statement.{statement}

@@ -1,6 +1,6 @@
 -- The value's bytes are copied as they lie.
 use native.Mathlib.Omega.{arith}
-use Rattle.number.specs.declared.instruction.Types.the-variants.{AnyValue}
+use Rattle.operator.specs.declared.instruction.Types.the-variants.{AnyValue}
 use Rattle.stack.proofs.Popping.{OnTop, value-faults, value-on-top}
 use borrow.Author.Needs.{needs}
 use Rattle.instruction.proofs.reach.write_file.Statement.{statement}

@@ -6,7 +6,7 @@ use lib.Seq.{length-take-le}
 use native.Mathlib.Omega.{arith}
 use Rattle.buffer.specs.Buffer.{part}
 use Rattle.buffer.proofs.Parts.{part-to}
-use Rattle.number.specs.declared.instruction.Types.the-variants.{AnyValue}
+use Rattle.operator.specs.declared.instruction.Types.the-variants.{AnyValue}
 use Rattle.machine.specs.Effect.{newline, printed}
 use Rattle.machine.specs.Limits.{stackSize}
 use Rattle.machine.proofs.Instructions.Settling.{settle-goes}

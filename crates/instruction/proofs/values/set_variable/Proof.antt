@@ -3,7 +3,7 @@ use Prim.Native.Nat.{_+_, _≤_}
 use lib.ListN.{length}
 use native.Mathlib.Omega.{arith}
 use borrow.Author.Tests.{le-leb, lt-leb}
-use Rattle.number.specs.declared.instruction.Types.the-variants.{AnyValue}
+use Rattle.operator.specs.declared.instruction.Types.the-variants.{AnyValue}
 use Rattle.stack.proofs.Popping.{OnTop, value-faults, value-on-top}
 use Rattle.stack.proofs.Steps.{last-means}
 use borrow.Author.Needs.{needs}

@@ -1,8 +1,7 @@
 -- By the sign.
 use borrow.Author.Needs.{needs}
 use mir.Syntax.{w16}
-use Rattle.number.specs.declared.Number.the-variants.{Int}
-use Rattle.number.proofs.OneOperand.{size-of-negative, size-of-nonnegative}
+use Rattle.number.proofs.Signs.{size-of-negative, size-of-nonnegative}
 use Rattle.number.proofs.text.magnitude.Statement.{statement}
 use Rattle.number.proofs.text.magnitude.Tie as tie
 
@@ -15,6 +14,6 @@ magnitude-spec =
     (λ c. search needs)
     (λ c κs. search needs)
     (λ c. search needs)
-    (λ c. size-of-negative w16 Int (c .before .before .args .x) (c .before .before .fits .x) (c .bits16 .ensures) (c .before .if1 .taken))
-    (λ c. size-of-nonnegative w16 Int (c .before .before .args .x) (c .before .before .fits .x) (c .bits162 .ensures)
+    (λ c. size-of-negative w16 (c .before .before .args .x) (c .before .before .fits .x) (c .bits16 .ensures) (c .before .if1 .taken))
+    (λ c. size-of-nonnegative w16 (c .before .before .args .x) (c .before .before .fits .x) (c .bits162 .ensures)
     (c .before .if1 .left)))

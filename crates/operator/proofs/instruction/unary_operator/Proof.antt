@@ -1,0 +1,28 @@
+-- Each arm is its entry; the last one has none.
+use Prim.{Unit}
+use Rattle.operator.specs.Instruction.{lookup, unaryTable}
+use Rattle.operator.specs.declared.operators.Operator.the-variants.{NotAnOperator}
+use Rattle.operator.proofs.Table.{absent}
+use Rattle.operator.proofs.instruction.unary_operator.Statement.{statement}
+use Rattle.operator.proofs.instruction.unary_operator.Tie as tie
+
+pub unary-operator-spec : {M : Type 1} → statement M
+unfolding lookup
+unary-operator-spec =
+    tie.close
+    (tie.spec
+    (λ c. rw (c .match .keys1))
+    (λ c. rw (c .match .keys2))
+    (λ c. rw (c .match .keys3))
+    (λ c. rw (c .match .keys4))
+    (λ c. rw (c .match .keys5))
+    (λ c. rw (c .match .keys6))
+    (λ c. rw (c .match .keys7))
+    (λ c. rw (c .match .keys8))
+    (λ c. rw (c .match .keys9))
+    (λ c. rw (c .match .keys10))
+    (λ c. rw (c .match .keys11))
+    (λ c. rw (c .match .keys12))
+    (λ c. rw (c .match .keys13))
+    (λ c. rw (c .match .keys14))
+    (λ c. absent (c .before .args .instruction) unaryTable NotAnOperator Unit (c .match .rest)))

@@ -1,0 +1,6 @@
+pub mod Outcome
+pub mod Arithmetic
+pub mod Binary
+pub mod Conversion
+pub mod Unary
+pub mod Instruction
