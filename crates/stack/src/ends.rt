@@ -2,7 +2,6 @@
 use crate::Action;
 use crate::STRING_KIND;
 use crate::Step;
-use crate::tops::wide;
 use machine::limits::STACK_SIZE;
 use number::Number;
 use operator::Outcome;

@@ -1,5 +1,5 @@
 -- The fault that a turn leaves in a record tells what ended the process: 10 is a SET without a place, 13 an OPEN whose new file is refused.
-use Prim.Native.Nat.{ℕ, _-_}
+use Prim.Native.Nat.{ℕ}
 use mathlib.Core.Path.{_≡_, refl, sym, ap, subst, _∙_}
 use mathlib.Core.Bool.{true, false}
 use mathlib.Core.List.{List}
