@@ -151,11 +151,20 @@ static const char *fault_name(uint8_t fault)
     }
 }
 
+/* The process whose end was reported last, of each slot. Booting begins IDs at 1 again, so it is forgotten then. */
+static unsigned reported[ARDUINOS_MAX_PROCESSES];
+
+static int32_t boot_area(void)
+{
+    memset(reported, 0, sizeof reported);
+    return arduinos_boot(area, sizeof area);
+}
+
 /* The image may be damaged where the EEPROM is not, so that comes first; formatting loses all files. */
 static void recover_disc(void)
 {
     memcpy(disc, eeprom, sizeof disc);
-    arduinos_boot(area, sizeof area);
+    boot_area();
     if (arduinos_free_space(disc, sizeof disc) >= 0) {
         puts("box: disc read again");
         return;
@@ -181,7 +190,7 @@ static bool done(const char *call, int32_t number)
         break;
     case ARDUINOS_BAD_AREA:
         puts("box: all processes ended");
-        arduinos_boot(area, sizeof area);
+        boot_area();
         break;
     case ARDUINOS_FILE_IN_USE:
         puts("box: to be tried again later");
@@ -249,7 +258,6 @@ static bool list(bool print)
 /* Reports each ended process once. Why it ended is in its record, until the slot is taken again. */
 static void report_ends(uint32_t now)
 {
-    static unsigned reported[ARDUINOS_MAX_PROCESSES];
     for (int slot = 0; slot < ARDUINOS_MAX_PROCESSES; slot++) {
         const uint8_t *record = area + ARDUINOS_RECORD(slot);
         unsigned id = record[ARDUINOS_RECORD_ID] + 256u * record[ARDUINOS_RECORD_ID + 1];
@@ -273,7 +281,7 @@ static void power_up(void)
 {
     memset(eeprom, 0xFF, sizeof eeprom);
     memcpy(disc, eeprom, sizeof disc);
-    done("boot", arduinos_boot(area, sizeof area));
+    done("boot", boot_area());
     done("free space", arduinos_free_space(disc, sizeof disc));
 }
 

@@ -99,19 +99,20 @@ extern "C" {
  *      or count of files                while it was written                     which loses all files
  *  -3  work area not good, or not of    boot left out; another disc put under    boot, which ends all processes
  *      this disc                        it; a stray write
- *  -4  output shorter than needed       a buffer not of the size above           lend ARDUINOS_.._OUTPUT bytes
- *  -5  bad name                         its zero counted (sizeof of a literal);  correct the name
- *                                       a space; more than 11 bytes
+ *  -4  output shorter than needed       a buffer not of the size above           lend ARDUINOS_.._OUTPUT bytes, and
+ *                                                                                ARDUINOS_MAX_DATA to retrieve
+ *  -5  bad name (store alone:           its zero counted (sizeof of a literal);  correct the name
+ *      elsewhere it is -10)             a space; no byte, or more than 11
  *  -6  data length 0 or above 863       an empty or an over-long program         correct the length
- *  -7  name exists                      a new version of a file                  erase the old one first
+ *  -7  name exists                      a new version of a file                  kill what runs it, erase it first
  *  -8  ten files already                logs that programs made (OPEN)           erase one
- *  -9  no free run long enough          space is there, but in pieces            see free_space; erase neighbours, or
- *                                                                                retrieve all, format, store again
- * -10  no such file                     a misspelt or an erased name             see files
+ *  -9  no free run long enough          the disc is full, or its free space      see free_space; erase neighbours, or
+ *                                       is in pieces                             retrieve all, format, store again
+ * -10  no such file                     a misspelt, an erased or a bad name      see files
  * -11  file in use                      a live process runs it or has it open    kill that process or wait for its end
  * -12  no ended slot                    ten processes live                       wait for an end, or kill one
- * -13  IDs used up                      32,767 starts since boot                 boot at a quiet moment
- * -14  no live process of that ID       it has ended by itself                   take it as ended
+ * -13  IDs used up                      32,767 starts since boot                 boot at a quiet moment: it ends all
+ * -14  no live process of that ID       it has ended; no start gave that ID      take it as ended
  * -15  already in that state            suspend or resume given twice            take it as done
  * -16  slot above 9, or its process     turn of a slot that is paused or ended   pass it over
  *      is not running
@@ -143,27 +144,30 @@ enum arduinos_refusal {
  *
  *      meaning                          usual cause                              what to do in the program
  *   1  no such instruction              DELAY, pins, POW, MAP, CONSTRAIN are     leave them out; count jump lengths
- *                                       not built; a jump into an argument
- *   2  code ended                       no STOP at the end; the file is shorter  end with STOP; store the whole of it
- *                                       than the program
- *   3  jump outside the program, or     a wrong length after IF, ELSE, WHILE     count from past the argument bytes
- *      ENDLOOP with no LOOP
+ *                                       not built; a jump into an argument; a
+ *                                       file that is no program was started
+ *   2  code ended                       no STOP at the end; an argument or a     end with STOP; store the whole of it
+ *                                       STRING's zero is missing
+ *   3  jump outside the program, or     a wrong length after IF, ELSE, WHILE; a  count from past the argument bytes;
+ *      ENDLOOP with no LOOP             LOOP left out or jumped over             LOOP before ENDLOOP
  *   4  stack above 32 bytes             values left there in a loop; a string    ENDIF takes a value off; print long
  *                                       above 29 letters                         texts in parts
  *   5  too few bytes on the stack       an operand is missing                    push it first
- *   6  a type not taken here, or a      STRING for a number; FLOAT in MODULUS    convert first (TOINT); push a string
- *      malformed string                 or a bitwise instruction                 with its zero
+ *   6  a type not taken here, or a      STRING for a number; FLOAT in MODULUS    convert first, or leave TOINT out; a
+ *      malformed string                 or a bitwise instruction; TOINT of an    body of WHILE leaves the stack as it
+ *                                       INT; ENDWHILE took a byte of a value     was
  *   7  whole divisor zero               an unset measure                         test it, or divide as FLOAT
- *   8  out of range: a conversion, a    a FLOAT above 32,767 made INT; a WHILE   MIN and MAX before converting; a
- *      negative whole root, WHILE       over more than 251 bytes                 shorter loop
+ *   8  out of range: a conversion, a    a FLOAT above 32,767 made INT; NaN; a    MIN and MAX before converting; a
+ *      negative whole root, WHILE       WHILE over more than 251 bytes           shorter loop
  *   9  no such variable                 GET ahead of the first SET; a            SET it first: variables are each
  *                                       neighbour's variable                     process's own
- *  10  no variable entry or memory      25 variables or 256 bytes are in use,    fewer and shorter variables, or fewer
- *                                       those of all processes counted           processes at once
+ *  10  no variable entry, or no free    25 variables or 256 bytes are in use,    fewer and shorter variables, or fewer
+ *      memory in a row for the value    those of all processes counted; free     processes at once
+ *                                       memory is in pieces
  *  11  no open file                     WRITE or READ ahead of OPEN              OPEN first
  *  12  past the file's end              a log is full; READSTRING met no zero    a longer file; OPEN again for offset 0
- *  13  OPEN's new file refused          a bad name, a size outside 1 to 863,     erase files; store the file beforehand
- *                                       ten files, no free run
+ *  13  OPEN's new file refused          a misspelt or bad name, a size outside   correct name or size; erase files;
+ *                                       1 to 863, ten files, no free run         store the file beforehand
  */
 enum arduinos_fault {
     ARDUINOS_FAULT_NO_INSTRUCTION = 1,
@@ -198,7 +202,7 @@ int32_t arduinos_boot(uint8_t *area, size_t area_len);
 int32_t arduinos_store(uint8_t *disc, size_t disc_len, const uint8_t *name, size_t name_len, const uint8_t *data,
                        size_t data_len);
 
-/* Writes a file's bytes to out. Returns their number.
+/* Writes a file's bytes to out, which needs as many. Returns their number.
    Refused: WRONG_LENGTH, BAD_DISC, NO_SUCH_FILE, SHORT_OUTPUT. */
 int32_t arduinos_retrieve(const uint8_t *disc, size_t disc_len, const uint8_t *name, size_t name_len, uint8_t *out,
                           size_t out_len);
@@ -208,7 +212,8 @@ int32_t arduinos_retrieve(const uint8_t *disc, size_t disc_len, const uint8_t *n
 int32_t arduinos_erase(uint8_t *disc, size_t disc_len, const uint8_t *area, size_t area_len, const uint8_t *name,
                        size_t name_len);
 
-/* Writes a line for each file to out, in order of storing: name, space, length, newline. Returns the bytes written.
+/* Writes a line for each file to out, in order of storing: name, space, length, newline. Needs no more than this text,
+   at most ARDUINOS_FILES_OUTPUT bytes. Returns the bytes written, so 0 if there are no files.
    Refused: WRONG_LENGTH, BAD_DISC, SHORT_OUTPUT. */
 int32_t arduinos_files(const uint8_t *disc, size_t disc_len, uint8_t *out, size_t out_len);
 
@@ -233,21 +238,23 @@ int32_t arduinos_resume(const uint8_t *disc, size_t disc_len, uint8_t *area, siz
    Refused: WRONG_LENGTH, BAD_DISC, BAD_AREA, NO_SUCH_PROCESS. */
 int32_t arduinos_kill(const uint8_t *disc, size_t disc_len, uint8_t *area, size_t area_len, uint32_t id);
 
-/* Writes a line for each live process to out, by slot: ID, space, r or p, space, name, newline. Returns the bytes
-   written, so 0 if no process lives.
+/* Writes a line for each live process to out, by slot: ID, space, r or p, space, name, newline. Needs no more than this
+   text, at most ARDUINOS_LIST_OUTPUT bytes. Returns the bytes written, so 0 if no process lives.
    Refused: WRONG_LENGTH, BAD_DISC, BAD_AREA, SHORT_OUTPUT. */
 int32_t arduinos_list(const uint8_t *disc, size_t disc_len, const uint8_t *area, size_t area_len, uint8_t *out,
                       size_t out_len);
 
-/* Executes one instruction of the process in a slot, 0 to 9. Returns the bytes it printed to out, 0 if it ended.
-   The clock counts milliseconds from any beginning. Programs see its low 16 bits as a signed number, -32,768 to 32,767;
-   a program that waits (DELAYUNTIL) for a moment beyond 32,767 does not wait.
+/* Executes one instruction of the process in a slot, 0 to 9. Needs ARDUINOS_TURN_OUTPUT bytes of out, whatever is
+   printed. Returns the bytes it printed to out, 0 if it ended.
+   The clock counts milliseconds from any beginning. Programs see its low 16 bits as a signed number, -32,768 to 32,767:
+   a wait across its end (DELAYUNTIL) is cut short, or lasts about 65 s longer (docs/GUIDE.md, part 5).
    Refused: WRONG_LENGTH, BAD_DISC, BAD_AREA, SHORT_OUTPUT, NOT_RUNNING. */
 int32_t arduinos_turn(uint8_t *disc, size_t disc_len, uint8_t *area, size_t area_len, uint32_t slot, uint32_t clock,
                       uint8_t *out, size_t out_len);
 
 /* A turn for each slot from 0 to 9 that runs when it is reached, all under one clock; what they print is joined in out.
-   Returns the bytes printed by all of them, so 0 also if nothing runs.
+   Needs ARDUINOS_ROUND_OUTPUT bytes of out, whatever is printed. Returns the bytes printed by all of them, so 0 also if
+   nothing runs.
    Refused: WRONG_LENGTH, BAD_DISC, BAD_AREA, SHORT_OUTPUT. */
 int32_t arduinos_round(uint8_t *disc, size_t disc_len, uint8_t *area, size_t area_len, uint32_t clock, uint8_t *out,
                        size_t out_len);
