@@ -14,7 +14,7 @@ pub record IsFinite (x : Float) (s : Bool) (t k : ℕ) : Type 0 where
   pub near : k < 254
   pub full : 0 < k → 8388608 ≤ t
 
--- One answer fits (proofs/Decoding.antt).
+-- What an answer says of x: all that callers use of it.
 abbrev pub IsDecoded : Float → Decoded → Type 0
 IsDecoded x NotANumber = x ≡ nan
 IsDecoded x (Infinite s) = x ≡ inf s

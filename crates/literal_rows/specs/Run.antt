@@ -1,5 +1,5 @@
 -- A run from format to turns, suspend and kill, against bytes written out at their offsets; no two fields of the first
--- record are alike.
+-- record are alike but fault and spare, both 0.
 use Prim.Native.Nat.{ℕ}
 use mathlib.Core.Path.{_≡_}
 use mathlib.Core.List.{List, [], _∷_, _++_}
