@@ -1,98 +1,144 @@
 -- The two's complement of a signed number and back, over the width: what `signed8`, `signed16`, `bits8` and `bits16` ask.
 -- A signed argument stands in a function's needs as `toZ w (ofZ w z)`, the reading of its bits. Assumes nothing.
-use mathlib.Core.Path.{_≡_, refl, sym, _∙_, ap, subst, subst⁻¹}
+use mathlib.Core.Path.{_≡_, refl, sym, _∙_, ap, ap₂, subst, subst⁻¹}
 use mathlib.Core.Bool.{Bool, true, false}
-use Prim.Native.Nat.{ℕ, zero, suc, _-_, _≤_, _<_, _^_}
+use Prim.Native.Nat.{ℕ, suc, _+_, _-_, _*_, _/_, _%_, _≤_, _<_, _^_}
 use native.Mathlib.Omega.{arith}
-use borrow.Author.Tests.{le-ltb}
-use lib.Dec.{T, leb·zero}
-use lib.IntN.{ℤ, pos, negsuc, _-ℤ_, natAbs, subℕ}
-use lib.Signed.{mag, leZ, nonNeg}
-use mir.Syntax.{Width}
+use native.Mathlib.Nat.{add-mod-right, add-zero, div-eq-of-lt, div-eq-of-lt-le, mod-eq-of-lt, mod-eq-sub-mod, mul-one, mul-zero}
+use borrow.Author.Needs.{needs}
+use borrow.Author.Tests.{le-ltb, lt-ltb, ltb-false, ltb-true}
+use lib.Dec.{T, leb, ltb}
+use lib.IntN.{ℤ, pos, negsuc, negℤ, _+ℤ_, _*ℤ_, natAbs, subℕ}
+use lib.Pow.{pow-pos}
+use lib.Signed.{nonNeg}
+use mir.Syntax.{Width, w8, w16, w32, w64, w128}
 use mir.Val.{toZ, ofZ, Fits, SFits, bits, hbits}
-use mir.Facts.{toZ-ofZ, toZ-pos, fits-ofZ, fits-lt-pow}
-use mir.ValLaws.{pow-bits}
+use mir.Facts.{toZ-ofZ, toZ-pos, toZ-neg, fits-lt-pow, fits-ofZ, sfits-toZ, sfits-widen}
+use mir.ValLaws.{half-full, pow-bits}
 
 pub true-not-false : {X : Type 0} {b : Bool} → b ≡ true → b ≡ false → X
 true-not-false p q = absurd (subst T (sym p ∙ q) tt)
 
+-- a number of the width w as one of the width v
+module _ (w v : Width) (h : T (leb (hbits w) (hbits v))) (z : ℤ) (f : SFits w z) where
+  pub widens : SFits v (toZ w (ofZ w z))
+  widens = subst⁻¹ (SFits v) (toZ-ofZ f) (sfits-widen h f)
+
+  pub widened : toZ v (ofZ v (toZ w (ofZ w z))) ≡ z
+  widened = ap (λ (y : ℤ). toZ v (ofZ v y)) (toZ-ofZ f) ∙ toZ-ofZ (sfits-widen h f)
+
+-- ---- bits n read as a number: the top bit counts −(2 ^ hbits w), the bits below it as they stand
+abbrev topWeight : Width → ℕ → ℤ
+topWeight w n = negsuc (2 ^ hbits w - 1) *ℤ toZ w (n / 2 ^ hbits w)
+
+record Weighed (w : Width) (n : ℕ) : Type 0 where
+  small : SFits w (topWeight w n)
+  sum : toZ w (n % 2 ^ hbits w) +ℤ topWeight w n ≡ toZ w n
+
+times-zero : (k : ℕ) → negsuc k *ℤ pos 0 ≡ pos 0
+times-zero k = ap (λ (n : ℕ). negℤ (pos n)) (mul-zero (suc k))
+
+times-one : (k : ℕ) → negsuc k *ℤ pos 1 ≡ negsuc k
+times-one k = ap (λ (n : ℕ). negℤ (pos n)) (mul-one (suc k))
+
+add-negsuc : (a k : ℕ) → a ≤ k → pos a +ℤ negsuc k ≡ negsuc (k - a)
+add-negsuc a k h = rw (lt-ltb a (suc k) (omega arith)) (ap negsuc (omega arith))
+
+one-below : (w : Width) → 1 < 2 ^ hbits w
+one-below w8 = search needs
+one-below w16 = search needs
+one-below w32 = search needs
+one-below w64 = search needs
+one-below w128 = search needs
+
+-- the weight of a top bit that the division gives as q
+weight-of : (w : Width) (n q : ℕ) → n / 2 ^ hbits w ≡ q → q < 2 ^ hbits w → topWeight w n ≡ negsuc (2 ^ hbits w - 1) *ℤ pos q
+weight-of w n q e h = ap (λ (z : ℤ). negsuc (2 ^ hbits w - 1) *ℤ z) (ap (toZ w) e ∙ toZ-pos w h)
+
+module _ (w : Width) (n : ℕ) (f : Fits w n) where
+  clear : n < 2 ^ hbits w → Weighed w n
+  clear h =
+      let weight : topWeight w n ≡ pos 0 = weight-of w n 0 (div-eq-of-lt h) (pow-pos (hbits w)) ∙ times-zero (2 ^ hbits w - 1) in
+      record {
+        small = subst⁻¹ (SFits w) weight (record { sfits = pow-pos (hbits w) });
+        sum = ap₂ (λ (x y : ℤ). x +ℤ y) (ap (toZ w) (mod-eq-of-lt h) ∙ toZ-pos w h) weight ∙ ap pos (add-zero n) ∙ sym (toZ-pos w h);
+      }
+
+  set : 2 ^ hbits w ≤ n → Weighed w n
+  set h =
+      let p : 0 < 2 ^ hbits w = pow-pos (hbits w) in
+      let m : 2 ^ bits w ≡ 2 ^ hbits w * 2 = pow-bits w in
+      let full : n < 2 ^ bits w = fits-lt-pow f in
+      let rest : n - 2 ^ hbits w < 2 ^ hbits w = omega arith in
+      let quotient : n / 2 ^ hbits w ≡ 1 = div-eq-of-lt-le {k = 1} (2 ^ hbits w) {m = n} (omega arith) (omega arith) in
+      let remainder : n % 2 ^ hbits w ≡ n - 2 ^ hbits w = mod-eq-sub-mod h ∙ mod-eq-of-lt rest in
+      let weight : topWeight w n ≡ negsuc (2 ^ hbits w - 1) = weight-of w n 1 quotient (one-below w) ∙ times-one (2 ^ hbits w - 1) in
+      record {
+        small = subst⁻¹ (SFits w) weight (record { sfits = omega arith });
+        sum = ap₂ (λ (x y : ℤ). x +ℤ y) (ap (toZ w) remainder ∙ toZ-pos w rest) weight
+            ∙ add-negsuc (n - 2 ^ hbits w) (2 ^ hbits w - 1) (omega arith) ∙ ap negsuc (omega arith)
+            ∙ sym (toZ-neg w (2 ^ bits w - suc n) (omega arith)) ∙ ap (toZ w) (omega arith);
+      }
+
+  weighed : Weighed w n
+  weighed = by (ltb n (2 ^ hbits w)) refl
+    where
+      by : (t : Bool) → ltb n (2 ^ hbits w) ≡ t → Weighed w n
+      by true e = clear (ltb-true n (2 ^ hbits w) e)
+      by false e = set (ltb-false n (2 ^ hbits w) e)
+
+  pub weight-fits : SFits w (topWeight w n)
+  weight-fits = weighed .small
+
+  -- the code adds the weight as the product's bits give it
+  sum-is : toZ w (n % 2 ^ hbits w) +ℤ toZ w (ofZ w (topWeight w n)) ≡ toZ w n
+  sum-is = ap (λ (z : ℤ). toZ w (n % 2 ^ hbits w) +ℤ z) (toZ-ofZ weight-fits) ∙ weighed .sum
+
+  pub sum-fits : SFits w (toZ w (n % 2 ^ hbits w) +ℤ toZ w (ofZ w (topWeight w n)))
+  sum-fits = subst⁻¹ (SFits w) sum-is (sfits-toZ f)
+
+  pub sum-reads : toZ w (ofZ w (toZ w (n % 2 ^ hbits w) +ℤ toZ w (ofZ w (topWeight w n)))) ≡ toZ w n
+  sum-reads = toZ-ofZ sum-fits ∙ sum-is
+
+-- ---- the bits of a number z: z + 2 ^ bits w is not negative, and modulo 2 ^ bits w it is those bits
 sub-ge : (a b : ℕ) → b ≤ a → subℕ a b ≡ pos (a - b)
 sub-ge a b h = simp (le-ltb a b h)
 
--- −1 − z, of a z below zero and of one that is not
-minus-one-sub-negative : (z : ℤ) → leZ (pos 0) z ≡ false → negsuc 0 -ℤ z ≡ pos (mag z)
-minus-one-sub-negative (pos n) h = true-not-false (leb·zero n) h
-minus-one-sub-negative (negsuc n) h = sub-ge (suc n) 1 (omega arith) ∙ ap pos (omega arith)
+abbrev lifted : Width → ℤ → ℕ
+lifted w (pos n) = n + 2 ^ bits w
+lifted w (negsuc n) = 2 ^ bits w - suc n
 
-minus-one-sub-pos : (n : ℕ) → negsuc 0 -ℤ pos n ≡ negsuc n
-minus-one-sub-pos zero = refl
-minus-one-sub-pos (suc n) = ap negsuc (omega arith)
+lifted-is : (w : Width) (z : ℤ) → SFits w z → z +ℤ pos (2 ^ bits w) ≡ pos (lifted w z)
+lifted-is w (pos n) f = refl
+lifted-is w (negsuc n) f = sub-ge (2 ^ bits w) (suc n) (half-full w (f .sfits))
 
-not-below : (z : ℤ) → leZ (pos 0) z ≡ true → T (nonNeg z)
-not-below (pos n) h = tt
-not-below (negsuc n) h = true-not-false h refl
+lifted-below : (w : Width) (z : ℤ) → SFits w z → lifted w z < 2 ^ hbits w + 2 ^ bits w
+lifted-below w (pos n) f = let h : n < 2 ^ hbits w = f .sfits in omega arith
+lifted-below w (negsuc n) f = let p : 0 < 2 ^ hbits w = pow-pos (hbits w) in omega arith
 
-bits-nonnegative : (w : Width) (z : ℤ) → leZ (pos 0) z ≡ true → natAbs z ≡ ofZ w z
-bits-nonnegative w (pos n) h = refl
-bits-nonnegative w (negsuc n) h = true-not-false h refl
+lifted-bits : (w : Width) (z : ℤ) → SFits w z → lifted w z % 2 ^ bits w ≡ ofZ w z
+lifted-bits w (pos n) f = add-mod-right n (2 ^ bits w) ∙ mod-eq-of-lt (half-full w (f .sfits))
+lifted-bits w (negsuc n) f = let p : 0 < 2 ^ bits w = pow-pos (bits w) in mod-eq-of-lt (omega arith)
 
-bits-negative : (w : Width) (z : ℤ) → leZ (pos 0) z ≡ false → 2 ^ bits w - 1 - mag z ≡ ofZ w z
-bits-negative w (pos n) h = true-not-false (leb·zero n) h
-bits-negative w (negsuc n) h = omega arith
+-- the sum is taken in v, a wider width
+module _ (w v : Width) (h : T (leb (hbits w) (hbits v))) (room : 2 ^ hbits w + 2 ^ bits w ≤ 2 ^ hbits v) (z : ℤ) (f : SFits w z) where
+  abbrev lift : ℤ
+  lift = toZ v (ofZ v (toZ w (ofZ w z))) +ℤ pos (2 ^ bits w)
 
--- the bits of a z from 0 up are z
-module _ (w : Width) (z : ℤ) (f : SFits w z) (h : leZ (pos 0) (toZ w (ofZ w z)) ≡ true) where
-  nonnegative : leZ (pos 0) z ≡ true
-  nonnegative = subst (λ (y : ℤ). leZ (pos 0) y ≡ true) (toZ-ofZ f) h
+  lift-is : lift ≡ pos (lifted w z)
+  lift-is = ap (λ (y : ℤ). y +ℤ pos (2 ^ bits w)) (widened w v h z f) ∙ lifted-is w z f
 
-  pub nonnegative-casts : T (nonNeg (toZ w (ofZ w z))) × Fits w (natAbs (toZ w (ofZ w z)))
-  nonnegative-casts =
-      subst⁻¹ (λ (y : ℤ). T (nonNeg y) × Fits w (natAbs y)) (toZ-ofZ f)
-      (not-below z nonnegative, subst⁻¹ (Fits w) (bits-nonnegative w z nonnegative) (fits-ofZ f))
+  lifted-fits : SFits v (pos (lifted w z))
+  lifted-fits = record { sfits = let k : lifted w z < 2 ^ hbits w + 2 ^ bits w = lifted-below w z f in omega arith }
 
-  pub nonnegative-bits : natAbs (toZ w (ofZ w z)) ≡ ofZ w z
-  nonnegative-bits = ap natAbs (toZ-ofZ f) ∙ bits-nonnegative w z nonnegative
+  pub lift-fits : SFits v lift
+  lift-fits = subst⁻¹ (SFits v) lift-is lifted-fits
 
--- the bits of a z below 0 are all ones less −1 − z
-module _ (w : Width) (z : ℤ) (f : SFits w z) (h : leZ (pos 0) (toZ w (ofZ w z)) ≡ false) where
-  negative : leZ (pos 0) z ≡ false
-  negative = subst (λ (y : ℤ). leZ (pos 0) y ≡ false) (toZ-ofZ f) h
+  lift-read : toZ v (ofZ v lift) ≡ pos (lifted w z)
+  lift-read = toZ-ofZ lift-fits ∙ lift-is
 
-  difference : negsuc 0 -ℤ toZ w (ofZ w z) ≡ pos (mag z)
-  difference = ap (λ (y : ℤ). negsuc 0 -ℤ y) (toZ-ofZ f) ∙ minus-one-sub-negative z negative
+  pub lift-casts : T (nonNeg (toZ v (ofZ v lift))) × Fits v (natAbs (toZ v (ofZ v lift)))
+  lift-casts = subst⁻¹ (λ (y : ℤ). T (nonNeg y) × Fits v (natAbs y)) lift-read (tt, fits-ofZ lifted-fits)
 
-  mag-fits : SFits w (pos (mag z))
-  mag-fits = record { sfits = f .sfits }
-
-  difference-read : toZ w (ofZ w (negsuc 0 -ℤ toZ w (ofZ w z))) ≡ pos (mag z)
-  difference-read = ap (λ (y : ℤ). toZ w (ofZ w y)) difference ∙ toZ-ofZ mag-fits
-
-  difference-is : natAbs (toZ w (ofZ w (negsuc 0 -ℤ toZ w (ofZ w z)))) ≡ mag z
-  difference-is = ap natAbs difference-read
-
-  pub negative-difference : SFits w (negsuc 0 -ℤ toZ w (ofZ w z))
-  negative-difference = subst⁻¹ (SFits w) difference mag-fits
-
-  pub negative-casts : T (nonNeg (toZ w (ofZ w (negsuc 0 -ℤ toZ w (ofZ w z)))))
-      × Fits w (natAbs (toZ w (ofZ w (negsuc 0 -ℤ toZ w (ofZ w z)))))
-  negative-casts = subst⁻¹ (λ (y : ℤ). T (nonNeg y) × Fits w (natAbs y)) difference-read (tt, fits-ofZ mag-fits)
-
-  pub negative-at-most : natAbs (toZ w (ofZ w (negsuc 0 -ℤ toZ w (ofZ w z)))) ≤ 2 ^ bits w - 1
-  negative-at-most = let k : mag z < 2 ^ bits w = fits-lt-pow (fits-ofZ mag-fits) in omega (arith, difference-is)
-
-  pub negative-bits : 2 ^ bits w - 1 - natAbs (toZ w (ofZ w (negsuc 0 -ℤ toZ w (ofZ w z)))) ≡ ofZ w z
-  negative-bits = ap (λ (n : ℕ). 2 ^ bits w - 1 - n) difference-is ∙ bits-negative w z negative
-
--- bits n of the upper half read as −1 − (all ones less n)
-module _ (w : Width) (n : ℕ) (f : Fits w n) (h : 2 ^ hbits w ≤ n) where
-  rest-below : 2 ^ bits w - 1 - n < 2 ^ hbits w
-  rest-below = omega (arith, pow-bits w, fits-lt-pow f)
-
-  upper-half : negsuc 0 -ℤ toZ w (2 ^ bits w - 1 - n) ≡ negsuc (2 ^ bits w - 1 - n)
-  upper-half = ap (λ (y : ℤ). negsuc 0 -ℤ y) (toZ-pos w rest-below) ∙ minus-one-sub-pos (2 ^ bits w - 1 - n)
-
-  pub upper-half-fits : SFits w (negsuc 0 -ℤ toZ w (2 ^ bits w - 1 - n))
-  upper-half-fits = subst⁻¹ (SFits w) upper-half (record { sfits = rest-below })
-
-  pub upper-half-reads : toZ w (ofZ w (negsuc 0 -ℤ toZ w (2 ^ bits w - 1 - n))) ≡ toZ w n
-  upper-half-reads = ap (λ (y : ℤ). toZ w (ofZ w y)) upper-half ∙ ap (toZ w) (omega (arith, pow-bits w, fits-lt-pow f))
+  pub lift-bits : natAbs (toZ v (ofZ v lift)) % 2 ^ bits w ≡ ofZ w z
+  lift-bits = ap (λ (y : ℤ). natAbs y % 2 ^ bits w) lift-read ∙ lifted-bits w z f

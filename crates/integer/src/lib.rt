@@ -9,46 +9,31 @@ ghost use lib.IntN.{pos, negℤ, _+ℤ_, _-ℤ_, _*ℤ_};
 ghost use lib.Signed.{quotZ, remZ};
 ghost use Rattle.integer.specs.Modular.{wrapped};
 
-// The number whose two's complement is `bits`.
+// The number whose two's complement is `bits`: the top bit counts −128, the others as they stand. Document 02, Q-5: the
+// sign comes by arithmetic alone, here and in the six functions that follow.
 pub fn signed8(bits: u8) -> i8
     ensures { λ r. ⌜ r ≡ toZ w8 bits ⌝ }
 {
-    if bits < 128 {
-        bits as i8
-    } else {
-        -1 - ((255 - bits) as i8)
-    }
+    (bits % 128) as i8 + -128 * ((bits / 128) as i8)
 }
 
 pub fn signed16(bits: u16) -> i16
     ensures { λ r. ⌜ r ≡ toZ w16 bits ⌝ }
 {
-    if bits < 32768 {
-        bits as i16
-    } else {
-        -1 - ((65535 - bits) as i16)
-    }
+    (bits % 32768) as i16 + -32768 * ((bits / 32768) as i16)
 }
 
-// The two's complement of `x`.
+// The two's complement of `x`: x modulo 256, after a sum that is never negative.
 pub fn bits8(x: i8) -> u8
     ensures { λ r. ⌜ r ≡ ofZ w8 x ⌝ }
 {
-    if x >= 0 {
-        x as u8
-    } else {
-        255 - ((-1 - x) as u8)
-    }
+    ((x as i16 + 256) as u16 % 256) as u8
 }
 
 pub fn bits16(x: i16) -> u16
     ensures { λ r. ⌜ r ≡ ofZ w16 x ⌝ }
 {
-    if x >= 0 {
-        x as u16
-    } else {
-        65535 - ((-1 - x) as u16)
-    }
+    ((x as i32 + 65536) as u32 % 65536) as u16
 }
 
 // Document 01: "A value lies as its bytes, high byte first".

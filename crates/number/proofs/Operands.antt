@@ -1,6 +1,6 @@
 -- Whole operands as the machine reads them, over the width: `toZ w (ofZ w x)` stands for x wherever a call or an operation takes it.
 -- Assumes nothing.
-use mathlib.Core.Path.{_≡_, refl, sym, _∙_, ap, ap₂, subst⁻¹}
+use mathlib.Core.Path.{_≡_, refl, sym, _∙_, ap, ap₂}
 use mathlib.Core.Bool.{Bool, true, false}
 use Prim.Native.Nat.{ℕ, suc, _-_, _<_, _^_}
 use native.Mathlib.Omega.{arith}
@@ -13,15 +13,8 @@ use mir.Syntax.{Width}
 use mir.Val.{toZ, ofZ, SFits, bits, hbits}
 use mir.Facts.{toZ-ofZ, sfits-widen}
 use mir.ValLaws.{pow-bits}
+use Rattle.integer.proofs.Representation.{widened}
 use Rattle.number.specs.Whole.{equal}
-
--- a number of the width w as one of the width v
-module _ (w v : Width) (h : T (leb (hbits w) (hbits v))) (z : ℤ) (f : SFits w z) where
-  pub widens : SFits v (toZ w (ofZ w z))
-  widens = subst⁻¹ (SFits v) (toZ-ofZ f) (sfits-widen h f)
-
-  pub widened : toZ v (ofZ v (toZ w (ofZ w z))) ≡ z
-  widened = ap (λ (y : ℤ). toZ v (ofZ v y)) (toZ-ofZ f) ∙ toZ-ofZ (sfits-widen h f)
 
 -- equal numbers of a width have equal bits
 same-test : (a b c d : ℕ) → (a ≡ b → c ≡ d) → (c ≡ d → a ≡ b) → eqb c d ≡ eqb a b

@@ -1,6 +1,6 @@
 -- The laws of Representation at 16 bits.
 use mir.Syntax.{w16}
-use Rattle.integer.proofs.Representation.{upper-half-fits, upper-half-reads}
+use Rattle.integer.proofs.Representation.{sum-fits, sum-reads, weight-fits}
 use borrow.Author.Needs.{needs}
 use Rattle.integer.proofs.signed16.Statement.{statement}
 use Rattle.integer.proofs.signed16.Tie as tie
@@ -11,7 +11,6 @@ signed16-spec =
     (tie.spec
     (λ c. search needs)
     (λ c. search needs)
-    (λ c. search needs)
-    (λ c. upper-half-fits w16 (c .before .args .bits) (c .before .fits .bits) (c .if1 .left))
-    (λ c. search needs)
-    (λ c. upper-half-reads w16 (c .before .args .bits) (c .before .fits .bits) (c .if1 .left)))
+    (λ c. weight-fits w16 (c .args .bits) (c .fits .bits))
+    (λ c. sum-fits w16 (c .args .bits) (c .fits .bits))
+    (λ c. sum-reads w16 (c .args .bits) (c .fits .bits)))

@@ -1,6 +1,6 @@
 -- The laws of Representation at 8 bits.
 use mir.Syntax.{w8}
-use Rattle.integer.proofs.Representation.{upper-half-fits, upper-half-reads}
+use Rattle.integer.proofs.Representation.{sum-fits, sum-reads, weight-fits}
 use borrow.Author.Needs.{needs}
 use Rattle.integer.proofs.signed8.Statement.{statement}
 use Rattle.integer.proofs.signed8.Tie as tie
@@ -11,7 +11,6 @@ signed8-spec =
     (tie.spec
     (λ c. search needs)
     (λ c. search needs)
-    (λ c. search needs)
-    (λ c. upper-half-fits w8 (c .before .args .bits) (c .before .fits .bits) (c .if1 .left))
-    (λ c. search needs)
-    (λ c. upper-half-reads w8 (c .before .args .bits) (c .before .fits .bits) (c .if1 .left)))
+    (λ c. weight-fits w8 (c .args .bits) (c .fits .bits))
+    (λ c. sum-fits w8 (c .args .bits) (c .fits .bits))
+    (λ c. sum-reads w8 (c .args .bits) (c .fits .bits)))

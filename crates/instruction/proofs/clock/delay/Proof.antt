@@ -4,7 +4,7 @@ use mathlib.Core.Path.{_≡_, sym, ap, _∙_}
 use mir.Syntax.{w16, w32}
 use Rattle.number.specs.Compare.{exceeds}
 use Rattle.operator.specs.declared.instruction.Types.the-variants.{AnyNumber}
-use Rattle.number.proofs.Operands.{widened, widens}
+use Rattle.integer.proofs.Representation.{widened, widens}
 use Rattle.machine.specs.Effect.{clockInt}
 use Rattle.stack.proofs.Popping.{NumberOnTop, number-faults, number-on-top}
 use borrow.Author.Needs.{needs}

@@ -2,7 +2,8 @@
 use borrow.Author.Needs.{needs}
 use mir.Syntax.{w8, w16, w32}
 use mir.Facts.{toZ-ofZ}
-use Rattle.number.proofs.Operands.{widens, equal-widened}
+use Rattle.integer.proofs.Representation.{widens}
+use Rattle.number.proofs.Operands.{equal-widened}
 use Rattle.number.proofs.compare.equals_whole.Statement.{statement}
 use Rattle.number.proofs.compare.equals_whole.Tie as tie
 

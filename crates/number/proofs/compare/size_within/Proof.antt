@@ -4,7 +4,7 @@ use borrow.Author.Needs.{needs}
 use lib.IntN.{ℤ}
 use mir.Syntax.{w8, w16, w32}
 use Rattle.float.specs.Whole.{within, sized}
-use Rattle.number.proofs.Operands.{widens, widened}
+use Rattle.integer.proofs.Representation.{widened, widens}
 use Rattle.number.proofs.compare.size_within.Statement.{statement}
 use Rattle.number.proofs.compare.size_within.Tie as tie
 

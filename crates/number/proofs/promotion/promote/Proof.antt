@@ -4,7 +4,7 @@ use borrow.Author.Needs.{needs}
 use lib.Ieee.{binary32, ofInt}
 use mir.Syntax.{w8, w16}
 use Rattle.number.specs.declared.promotion.Pair.the-variants.{Chars, Ints, Floats}
-use Rattle.number.proofs.Operands.{widens, widened}
+use Rattle.integer.proofs.Representation.{widened, widens}
 use Rattle.number.proofs.promotion.promote.Statement.{statement}
 use Rattle.number.proofs.promotion.promote.Tie as tie
 

@@ -4,7 +4,7 @@ use borrow.Author.Needs.{needs}
 use mir.Syntax.{w8, w16}
 use Rattle.integer.proofs.Division.{on-operands}
 use Rattle.operator.specs.Binary.{ordered}
-use Rattle.number.proofs.Operands.{widens, widened}
+use Rattle.integer.proofs.Representation.{widened, widens}
 use Rattle.operator.proofs.binary.compare.Statement.{statement}
 use Rattle.operator.proofs.binary.compare.Tie as tie
 

@@ -4,7 +4,7 @@ use borrow.Author.Needs.{needs}
 use mir.Syntax.{w8, w16}
 use mir.Facts.{toZ-ofZ}
 use Rattle.operator.specs.Conversion.{convertedWhole}
-use Rattle.number.proofs.Operands.{widens, widened}
+use Rattle.integer.proofs.Representation.{widened, widens}
 use Rattle.operator.proofs.unary.convert.Statement.{statement}
 use Rattle.operator.proofs.unary.convert.Tie as tie
 
