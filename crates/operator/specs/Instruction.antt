@@ -9,7 +9,8 @@ use Rattle.operator.specs.declared.instruction.Types.the-variants.{AnySt
 use Rattle.operator.specs.declared.operators.Arithmetic.{Arithmetic}
 use Rattle.operator.specs.declared.operators.Arithmetic.the-variants.{Plus, Minus, Times, DividedBy, Modulus}
 use Rattle.operator.specs.declared.operators.Binary.{Binary}
-use Rattle.operator.specs.declared.operators.Binary.the-variants.{Arithmetic as Calculates, Comparison as Compares}
+use Rattle.operator.specs.declared.operators.Binary.the-variants.{Arithmetic as Calculates}
+use Rattle.operator.specs.declared.operators.Binary.the-variants.{Comparison as Compares}
 use Rattle.operator.specs.declared.operators.Binary.the-variants.{Logical, Bitwise, Extremum as Chooses}
 use Rattle.operator.specs.declared.operators.Comparison.the-variants.{Equals, NotEquals, LessThan, LessOrEqual}
 use Rattle.operator.specs.declared.operators.Comparison.the-variants.{GreaterThan, GreaterOrEqual}

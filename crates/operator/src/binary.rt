@@ -2,8 +2,8 @@
 ghost use mathlib.Core.Path.{_≡_};
 ghost use mir.Syntax.{w8, w16};
 ghost use Rattle.operator.specs.Arithmetic.{whole, real, arithmetic};
-ghost use Rattle.operator.specs.Binary.{ordered, orderedFloats, compared, connected, wholeBits, bitwise, replaces};
-ghost use Rattle.operator.specs.Binary.{extremum, binary};
+ghost use Rattle.operator.specs.Binary.{ordered, orderedFloats, compared, connected, wholeBits, bitwise};
+ghost use Rattle.operator.specs.Binary.{replaces, extremum, binary};
 ghost use Rattle.operator.specs.Outcome.{flag};
 use crate::Outcome;
 use crate::operators::Arithmetic;

@@ -36,7 +36,8 @@ use Rattle.operator.specs.declared.Outcome.the-variants.{Value, DivisionByZero,
 use Rattle.operator.specs.declared.operators.Arithmetic.{Arithmetic}
 use Rattle.operator.specs.declared.operators.Arithmetic.the-variants.{Plus, Minus, Times, DividedBy, Modulus}
 use Rattle.operator.specs.declared.operators.Binary.{Binary}
-use Rattle.operator.specs.declared.operators.Binary.the-variants.{Arithmetic as Calculates, Comparison, Logical, Bitwise, Extremum as Chooses}
+use Rattle.operator.specs.declared.operators.Binary.the-variants.{Arithmetic as Calculates, Comparison, Logical, Bitwise}
+use Rattle.operator.specs.declared.operators.Binary.the-variants.{Extremum as Chooses}
 use Rattle.operator.specs.declared.operators.Connective.{Connective}
 use Rattle.operator.specs.declared.operators.Connective.the-variants.{And, Or, Xor}
 use Rattle.operator.specs.declared.operators.Conversion.{Conversion}

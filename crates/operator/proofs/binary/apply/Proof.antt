@@ -42,7 +42,8 @@ apply-spec =
     let told = joined .before .before .before .before .operator3 .given in
     rw (told .1)
     (c .flagged2 .ensures ∙ ap flag (joined .connect .ensures
-    ∙ ap₂ (λ (x y : Bool). connected (told .0 .0) (not x) (not y)) (joined .before .before .is-zero .ensures) (joined .before .is-zero2 .ensures))))
+    ∙ ap₂ (λ (x y : Bool). connected (told .0 .0) (not x) (not y))
+    (joined .before .before .is-zero .ensures) (joined .before .is-zero2 .ensures))))
     (λ c. rw (c .before .before .before .operator4 .given .1) (c .combine .ensures ∙ ap (bitwise _) (c .before .promote3 .ensures)))
     (λ c.
     let told = c .before .before .before .operator5 .given in
