@@ -153,9 +153,10 @@ enum arduinos_refusal {
  *   4  stack above 32 bytes             values left there in a loop; a string    ENDIF takes a value off; print long
  *                                       above 29 letters                         texts in parts
  *   5  too few bytes on the stack       an operand is missing                    push it first
- *   6  a type not taken here, or a      STRING for a number; FLOAT in MODULUS    convert first, or leave TOINT out; a
- *      malformed string                 or a bitwise instruction; TOINT of an    body of WHILE leaves the stack as it
- *                                       INT; ENDWHILE took a byte of a value     was
+ *   6  a type not taken here, or a      STRING for a number; FLOAT in MODULUS,   convert first, or leave TOINT out; a
+ *      malformed string                 DELAYUNTIL or a bitwise instruction;     body of WHILE leaves the stack as it
+ *                                       TOINT of an INT; ENDWHILE took a byte    was
+ *                                       of a value
  *   7  whole divisor zero               an unset measure                         test it, or divide as FLOAT
  *   8  out of range: a conversion, a    a FLOAT above 32,767 made INT; NaN; a    MIN and MAX before converting; a
  *      negative whole root, WHILE       WHILE over more than 251 bytes           shorter loop
@@ -246,8 +247,9 @@ int32_t arduinos_list(const uint8_t *disc, size_t disc_len, const uint8_t *area,
 
 /* Executes one instruction of the process in a slot, 0 to 9. Needs ARDUINOS_TURN_OUTPUT bytes of out, whatever is
    printed. Returns the bytes it printed to out, 0 if it ended.
-   The clock counts milliseconds from any beginning. Programs see its low 16 bits as a signed number, -32,768 to 32,767:
-   a wait across its end (DELAYUNTIL) is cut short, or lasts about 65 s longer (docs/GUIDE.md, part 5).
+   The clock counts milliseconds from any beginning. Programs see its low 16 bits as a signed number, -32,768 to 32,767.
+   A wait (DELAYUNTIL) is one of 1 to 32,767 ms, across the end of these bits too, if a turn comes within 32,768 ms after
+   its time (docs/GUIDE.md, part 5).
    Refused: WRONG_LENGTH, BAD_DISC, BAD_AREA, SHORT_OUTPUT, NOT_RUNNING. */
 int32_t arduinos_turn(uint8_t *disc, size_t disc_len, uint8_t *area, size_t area_len, uint32_t slot, uint32_t clock,
                       uint8_t *out, size_t out_len);

@@ -1,11 +1,14 @@
 #!/usr/bin/env python3
 """Writes crate machine_try: for each outside vector, that the definition `answer` (or bootAnswer, formatAnswer) gives what the vector says.
 
-usage: generate.py [--wrong STEP] VECTORS.gz REPOSITORY [FROM TO [PER_FILE]]    vectors FROM up to (not with) TO, counted from 1
+usage: generate.py [--wrong STEP] VECTORS.gz REPOSITORY [FROM TO [PER_FILE]]    vectors FROM up to (not with) TO, counted from 1; those withdrawn (tools/vectors/withdrawn.txt) left out
 Then `rt check machine_try` in REPOSITORY (it puts the crate into crates.txt).
 --wrong STEP: every STEP-th vector with one thing of its answer made wrong in turn (number, a byte of disc, area, output), stated to disagree: shows that the test can fail.
 """
-import gzip, os, re, shutil, sys
+import os, re, shutil, sys
+
+sys.path.insert(0, os.path.join(os.path.dirname(os.path.abspath(__file__)), "..", "vectors"))
+from standing import standing
 
 wrong = 0
 if sys.argv[1] == "--wrong":
@@ -16,8 +19,8 @@ first = int(sys.argv[3]) if len(sys.argv) > 3 else 1
 last = int(sys.argv[4]) if len(sys.argv) > 4 else 10 ** 9
 per_file = int(sys.argv[5]) if len(sys.argv) > 5 else 50
 
-CRATES = "buffer decimal place integer root float number store variable machine".split()
-SKIP = {"Trace", "Observation", "Single", "Suppositions", "Isolation", "Refusals", "Ending", "NoPlace", "Due", "Demands", "Cases", "Bench"}
+CRATES = "buffer decimal place integer root float number operator store variable machine".split()
+SKIP = set("Trace Observation Single Suppositions Isolation Refusals Ending NoPlace Demands Cases Bench Fields Tests AtPc Changed Faults Reaching Done LeftAlone".split())
 LOGIC = {"lib.Ieee": "span climb size odd units round neg sum add sub mul div lt eq le ne ofInt whole fits isNan ofFields ofBits nanBits toBits toUnsigned toSigned inUnsigned inSigned inFloat",
          "lib.Count": "trailingZeros leadingZeros"}
 
@@ -159,7 +162,7 @@ def call(op, args, b):
 
 
 def main():
-    lines = [l for l in gzip.open(vectors, "rt").read().split("\n") if l]
+    lines = standing(vectors)
     crate = f"{repo}/crates/machine_try"
     shutil.rmtree(crate, ignore_errors=True)
     os.makedirs(crate + "/src")
@@ -173,9 +176,9 @@ def main():
          "use Rattle.machine.specs.Operations.{suspend, resume, kill}", "use Rattle.machine_try.proofs.Try.{bytes, free-run, lent, says}", "use native.Mathlib.Nat.{not-suc-le-zero}", "use native.Mathlib.Omega.{arith}",
          "use Rattle.place.specs.Place.{longest}", "use Rattle.store.specs.Directory.{taken}"] + uses) + "\n"
     mods = ["Try"]
-    chosen = list(range(first, min(last, len(lines) + 1)))
+    chosen = [i for i in sorted(lines) if first <= i < last]
     if wrong:
-        chosen = [i for i in chosen if i % wrong == 0 and not lines[i - 1].startswith("free")]
+        chosen = [i for i in chosen if i % wrong == 0 and not lines[i].startswith("free")]
     for start in range(0, len(chosen), per_file):
         part = chosen[start:start + per_file]
         name = "V%04d" % part[0]
@@ -183,7 +186,7 @@ def main():
         text = head
         shared = {}
         for i in part:
-            left, right = lines[i - 1].split(" => ")
+            left, right = lines[i].split(" => ")
             op, d, a, o, *args = left.split(" ")
             n, d2, a2, o2 = spoiled(i, left.split(" "), right.split(" ")) if wrong else right.split(" ")
             b = []

@@ -4,11 +4,11 @@
 usage: tools/float_vectors/generate.py DIR        writes DIR/stdin (the patterns, four bytes each, high byte first) and DIR/stdout (a line a pattern)
 
 A line of stdout, its fields in hex:
-    PATTERN TOCHAR TOINT ROUND FLOOR CEIL SIZE PRINT EXCEEDS EQUALS ZERO SQRT
+    PATTERN TOCHAR TOINT ROUND FLOOR CEIL SIZE PRINT EQUALS ZERO SQRT
 TOCHAR .. CEIL: the whole number as 32 bits in two's complement, and 100000000 where it is out of range.
 SIZE: OPEN's size, 1 to 863, and 0 where it is refused.
 PRINT: a digit and ten: 0 nan, 1 inf, 2 -inf, 3 ovf, 4 -ovf, 5 hundredths, 6 the same with '-'.
-EXCEEDS, EQUALS: a bit for each of WHOLES, the first lowest: the value is above it, and equal to it. ZERO: 1 if the value counts as zero.
+EQUALS: a bit for each of WHOLES, the first lowest: the value is equal to it. ZERO: 1 if the value counts as zero.
 SQRT: the pattern of the root.
 """
 import random, sys
@@ -115,11 +115,10 @@ def line(n):
     exact = None if v is None or isinstance(v, str) else (-v[1] if v[0] else v[1])
     size = whole(v, "cut", 1, 863)
     kind, hundredths = printed(v)
-    exceeds = sum(1 << i for i, z in enumerate(WHOLES) if v == "inf" or exact is not None and exact > z)
     equals = sum(1 << i for i, z in enumerate(WHOLES) if exact is not None and exact == z)
-    return "%08X %09X %09X %09X %09X %09X %03X %X%010X %02X %02X %X %08X" % (
+    return "%08X %09X %09X %09X %09X %09X %03X %X%010X %02X %X %08X" % (
         n, whole(v, "cut", -128, 127), whole(v, "cut", -32768, 32767), whole(v, "half", -32768, 32767), whole(v, "floor", -32768, 32767),
-        whole(v, "ceil", -32768, 32767), 0 if size > 863 else size, kind, hundredths, exceeds, equals, exact == 0, root(n))
+        whole(v, "ceil", -32768, 32767), 0 if size > 863 else size, kind, hundredths, equals, exact == 0, root(n))
 
 
 def main():

@@ -1,7 +1,9 @@
 #!/usr/bin/env python3
 """generate: turns outside vectors into what the programs store_vectors and operation_vectors read and must print.
 
-usage: tools/vectors/generate.py VECTORS        (VECTORS: base.txt.gz, whose README gives the form of its lines)
+usage: tools/vectors/generate.py VECTORS..      (VECTORS: base.txt.gz, then a file for each request of document 02; their README gives the form of a line)
+
+Lines that a request answers otherwise are left out (withdrawn.txt beside this file); tests/vectors holds that list to both kernels.
 
 store_vectors takes the lines of store, retrieve, files and free (free space). Below crates/store_vectors:
   data/vectors   for each vector a letter (s, r, f, u), then disc, name, data and output as lent, each as its length (two bytes, low byte first) and its bytes
@@ -12,9 +14,10 @@ operation_vectors takes all others. Below crates/operation_vectors:
   stdout         for each vector its letter, the number, and checksums of disc, area and output after the call
 It knows nothing of what the operations do: number and changes are those of the vector.
 """
-import gzip
 import os
 import sys
+
+from standing import standing
 
 CRATES = os.path.join(os.path.dirname(os.path.abspath(__file__)), "..", "..", "crates")
 ON_DISC = {"store": "s", "retrieve": "r", "files": "f", "free": "u"}
@@ -108,13 +111,12 @@ def write(crate, rows):
 
 def main():
     disc, both, kept = [], [], [Kept(), Kept(), Kept()]
-    with gzip.open(sys.argv[1], "rt") as vectors:
-        for words in map(str.split, vectors):
-            arrow = words.index("=>")
-            if words[0] in ON_DISC:
-                disc.append(on_disc(words, arrow))
-            else:
-                both.append(on_both(words, arrow, kept))
+    for words in (line.split() for path in sys.argv[1:] for line in standing(path).values()):
+        arrow = words.index("=>")
+        if words[0] in ON_DISC:
+            disc.append(on_disc(words, arrow))
+        else:
+            both.append(on_both(words, arrow, kept))
     write("store_vectors", disc)
     write("operation_vectors", both)
 

@@ -1,17 +1,13 @@
 -- A FLOAT against a whole number, exactly. Definitions only.
 use mathlib.Core.Bool.{Bool, true, false}
 use Prim.Native.Nat.{suc}
-use lib.Ieee.{Float, fin, eq, lt}
+use lib.Ieee.{Float, fin, eq}
 use lib.IntN.{ℤ, pos, negsuc}
 
 -- a whole number as a value that no format has rounded
 abbrev pub exact : ℤ → Float
 exact (pos n) = fin false n (pos 0)
 exact (negsuc n) = fin true (suc n) (pos 0)
-
--- Document 01: "DELAYUNTIL stays while x exceeds the clock's low 16 bits taken as INT." A NaN exceeds nothing.
-abbrev pub exceeds : Float → ℤ → Bool
-exceeds x z = lt (exact z) x
 
 -- Document 01: "WAITUNTILDONE stays while a live process has that ID."
 abbrev pub equals : Float → ℤ → Bool

@@ -4,7 +4,6 @@ ghost use Prim.Native.Nat.{_+_, _≤_};
 use float::bits::from_bytes;
 use float::bits::to_bits;
 use float::compare::equals_whole;
-use float::compare::exceeds_whole;
 use float::compare::is_zero;
 use float::print::Printed;
 use float::print::to_printed;
@@ -23,8 +22,8 @@ fn digit(n: u64) -> u8 {
 }
 
 // The last digits of value in hex, as many as count says, from place at.
-fn put(line: &mut [u8; 92], at: usize, count: usize, value: u64)
-    requires { ⌜ at + count ≤ 92 ⌝ }
+fn put(line: &mut [u8; 89], at: usize, count: usize, value: u64)
+    requires { ⌜ at + count ≤ 89 ⌝ }
 {
     let mut rest = value;
     let mut left = count;
@@ -70,38 +69,30 @@ fn print_amount(p: Printed) -> u64 {
     }
 }
 
-fn holds(x: f32, z: i32, equal: bool) -> bool {
-    if equal {
-        equals_whole(x, z)
-    } else {
-        exceeds_whole(x, z)
-    }
-}
-
-// A bit for each of WHOLES: whether x exceeds it, or equals it.
-fn mask(x: f32, equal: bool) -> u64 {
+// A bit for each of WHOLES: whether x equals it.
+fn mask(x: f32) -> u64 {
     let mut bits: u64 = 0;
     let mut i = 8;
     while i > 0 {
         i -= 1;
         let z = WHOLES[i];
         bits = bits % 128 * 2;
-        if holds(x, z, equal) {
+        if equals_whole(x, z) {
             bits += 1;
         }
     }
     bits
 }
 
-fn write_line(line: &[u8; 92]) {
+fn write_line(line: &[u8; 89]) {
     io::write_all(1, line);
 }
 
 fn show(a: u8, b: u8, c: u8, d: u8) {
     let x = from_bytes(a, b, c, d);
     let printed = to_printed(x);
-    let mut line = [b' '; 92];
-    line[91] = b'\n';
+    let mut line = [b' '; 89];
+    line[88] = b'\n';
     put(
         &mut line,
         0,
@@ -141,10 +132,9 @@ fn show(a: u8, b: u8, c: u8, d: u8) {
     put(&mut line, 59, 3, size_code(to_size(x, 863)));
     put(&mut line, 63, 1, print_kind(printed));
     put(&mut line, 64, 10, print_amount(printed));
-    put(&mut line, 75, 2, mask(x, false));
-    put(&mut line, 78, 2, mask(x, true));
-    put(&mut line, 81, 1, if is_zero(x) { 1 } else { 0 });
-    put(&mut line, 83, 8, to_bits(sqrt(x)) as u64);
+    put(&mut line, 75, 2, mask(x));
+    put(&mut line, 78, 1, if is_zero(x) { 1 } else { 0 });
+    put(&mut line, 80, 8, to_bits(sqrt(x)) as u64);
     write_line(&line);
 }
 

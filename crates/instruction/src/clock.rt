@@ -1,5 +1,5 @@
 // Instructions that look at the clock.
-use number::compare::exceeds_whole;
+use number::clock::is_ahead;
 use operator::instruction::Types;
 use stack::Action;
 use stack::Step;
@@ -10,26 +10,19 @@ use stack::ends::push_item;
 use stack::ends::with_stack;
 use stack::tops::top_number;
 ghost use mathlib.Core.Path.{_≡_};
-ghost use Rattle.machine.specs.Effect.{clockInt};
 ghost use Rattle.machine.specs.Exec.{delays, pushClock};
 ghost use Rattle.stack.specs.Steps.{Means, Ready};
 
-// Document 01: "the clock's low 16 bits taken as INT"
-fn clock_int(clock: u32) -> i16
-    ensures { λ r. ⌜ r ≡ clockInt clock ⌝ }
-{
-    integer::signed16((clock % 65536) as u16)
-}
-
-// Document 01: "DELAYUNTIL stays while x exceeds the clock's low 16 bits taken as INT."
+// Document 02, Q-4: "DELAYUNTIL now stays while x minus the clock, modulo 65,536, is 1 to 32,767. CHAR is widened first.
+// FLOAT becomes fault 6."
 pub fn delay(code: &[u8], stack: &[u8], at: usize, loopstart: u16, clock: u32) -> Step
     requires { ⌜ Ready (now code) (now stack) at ⌝ }
     ensures { λ r. ⌜ Means (now (stack .entry)) r
         (delays (now (code .entry)) (now (stack .entry)) loopstart at clock) ⌝ }
 {
-    match top_number(stack, Types::AnyNumber) {
+    match top_number(stack, Types::CharOrInt) {
         TopNumber::Is(x, below) => {
-            if exceeds_whole(x, clock_int(clock) as i32) {
+            if is_ahead(x, clock) {
                 return with_stack(Action::Push, stack, at, loopstart);
             }
             go(code, stack, below, at + 1, loopstart)

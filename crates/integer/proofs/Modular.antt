@@ -121,7 +121,7 @@ product-below k {a} {b} ha hb =
 
 module _ (w : Width) where
   -- the bits of a number that fits are its residue
-  residue-bits : (z : ℤ) → SFits w z → residue (2 ^ bits w) z ≡ ofZ w z
+  pub residue-bits : (z : ℤ) → SFits w z → residue (2 ^ bits w) z ≡ ofZ w z
   residue-bits (pos n) f = mod-eq-of-lt (fits-lt-pow (fits-ofZ f))
   residue-bits (negsuc n) f = ap (λ (u : ℕ). 2 ^ bits w - suc u) (mod-eq-of-lt (half-full w (f .sfits)))
 

@@ -1,4 +1,4 @@
--- The bench cases and the misreadings hold: by computing the definitions.
+-- The bench cases, the misreadings and the rows of DELAYUNTIL hold: by computing the definitions.
 use mathlib.Core.Path.{refl}
 use lib.Count.{trailingZeros}
 use lib.Ieee.{ofBits, ofFields}
@@ -25,7 +25,7 @@ use Rattle.variable.specs.Table.{freed, owned}
 use Rattle.machine.specs.Answer.{answer, formatAnswer, goodArea, otherAnswer}
 use Rattle.machine.specs.Area.{kernelOf}
 use Rattle.machine.specs.Bench.{Every, after, turns}
-use Rattle.machine.specs.Cases.{Bench, Misreadings, cases, misreadings}
+use Rattle.machine.specs.Cases.{Bench, Delays, Misreadings, cases, delays, misreadings}
 use Rattle.machine.specs.Effect.{operates, settle}
 use Rattle.machine.specs.Exec.{exec}
 use Rattle.machine.specs.GoodArea.{goodHeader, goodKernel, goodProcess, otherId}
@@ -36,7 +36,7 @@ use Rattle.machine.specs.Stack.{pop, wellFormed}
 use Rattle.machine.specs.Ended.{ended}
 use Rattle.machine.specs.Turn.{turned}
 
-rows-hold : Every cases × Every misreadings
+rows-hold : Every cases × Every misreadings × Every delays
 unfolding turns after single exec instructionOf operatorOf lookupOperator includes operates settle pop wellFormed trimmed same unary binary
     whole wrapped wholeBits convertedFloat numberOf textOf printedOf wholeOf lastDigits ofBits ofFields trailingZeros answer otherAnswer
     formatAnswer
@@ -76,6 +76,7 @@ rows-hold = (
       ((refl, refl), ((refl, refl), ((refl, refl), (refl, ((refl, refl), ((refl, refl), ((refl, refl), tt))))))),
     ),
   ),
+  ((refl, refl), ((refl, refl), ((refl, refl), ((refl, refl), ((refl, refl), ((refl, refl), ((refl, refl), ((refl, refl), ((refl, refl), ((refl, refl), ((refl, refl), ((refl, refl), ((refl, refl), ((refl, refl), ((refl, refl), ((refl, refl), tt)))))))))))))))),
 )
 
 pub bench-holds : Bench
@@ -85,3 +86,7 @@ bench-holds = rows-hold .0
 pub misreadings-hold : Misreadings
 unfolding Misreadings
 misreadings-hold = rows-hold .1
+
+pub delays-hold : Delays
+unfolding Delays
+delays-hold = rows-hold .2

@@ -1,6 +1,6 @@
--- Document 01's bench cases K1 to K12: one table with one statement. What a program leaves is seen twice: of the single
--- process, and of the kernel's turns.
-use Prim.Native.Nat.{ℕ, zero, suc}
+-- Rows: a program, the clock of each of its turns, and what is seen after them; each row holds of the single process and
+-- of the kernel's turns. Or calls, and where a file goes.
+use Prim.Native.Nat.{ℕ}
 use mathlib.Core.Path.{_≡_}
 use mathlib.Core.Bool.{cond}
 use mathlib.Core.List.{List, [], _∷_, _++_}
@@ -20,7 +20,7 @@ use Rattle.machine.specs.State.{isRunning, localOf, processAt}
 use Rattle.machine.specs.Turn.{Turned, turned}
 use Rattle.machine.specs.declared.Process.{Process}
 
--- ---- turns one after another, each from a state to a state
+-- ---- turns one after another, each from a clock reading and a state to a state
 -- all that they print and the state after the last, or that one was refused
 pub data Progress (S : Type 0) : Type 0 where
   reached : (text : List ℕ) → S → Progress S
@@ -35,9 +35,9 @@ module _ {S : Type 0} where
   oneMore step (reached text s) = behind text (step s)
   oneMore step stopped = stopped
 
-  unfoldable pub turns : (S → Progress S) → S → ℕ → Progress S
-  turns step s zero = reached [] s
-  turns step s (suc n) = oneMore step (turns step s n)
+  unfoldable pub turns : (ℕ → S → Progress S) → Progress S → List ℕ → Progress S
+  turns step p [] = p
+  turns step p (clock ∷ clocks) = turns step (oneMore (step clock) p) clocks
 
 -- what is seen then: the stack, bottom first, the fault and what was printed
 pub data Result : Type 0 where
@@ -53,8 +53,9 @@ abbrev pub seenAlone : Progress Single → Result
 seenAlone (reached text s) = shows (s .loc .stack) (s .fault) text
 seenAlone stopped = refused
 
-abbrev pub alone : List ℕ → ℕ → Result
-alone program n = seenAlone (turns (λ s. responded (single program s (tick 0))) fresh n)
+abbrev pub alone : List ℕ → List ℕ → Result
+alone program clocks =
+    seenAlone (turns (λ clock s. responded (single program s (tick clock))) (reached [] fresh) clocks)
 
 -- ---- of the kernel: started in slot 0, on a list of as many zeros as stand before the data and then the program. It
 -- is no good disc; `turned` reads only the program's part of it.
@@ -63,8 +64,8 @@ loaded program =
     let file : Entry = record { name = padded (110 ∷ []); start = dataStart; len = length program } in
     record { kernel = started (kernelOf booted) 0 file; disc = replicate dataStart 0 ++ program; out = [] }
 
-abbrev pub turnOfFirst : Turned → Progress Turned
-turnOfFirst t = let u = turned (t .kernel) 0 0 (t .disc) in
+abbrev pub turnOfFirst : ℕ → Turned → Progress Turned
+turnOfFirst clock t = let u = turned (t .kernel) 0 clock (t .disc) in
     cond (isRunning (processAt (t .kernel) 0)) (reached (u .out) u) stopped
 
 abbrev pub shown : Process → List ℕ → Result
@@ -74,8 +75,8 @@ abbrev pub seenInKernel : Progress Turned → Result
 seenInKernel (reached text t) = shown (processAt (t .kernel) 0) text
 seenInKernel stopped = refused
 
-abbrev pub inKernel : List ℕ → ℕ → Result
-inKernel program n = seenInKernel (turns turnOfFirst (loaded program) n)
+abbrev pub inKernel : List ℕ → List ℕ → Result
+inKernel program clocks = seenInKernel (turns turnOfFirst (reached [] (loaded program)) clocks)
 
 -- ---- calls one after another
 abbrev pub buffersOf : Answer → Buffers
@@ -103,16 +104,20 @@ startOf disc letter = startAt disc (lookup disc (letter ∷ []))
 
 -- ---- a row, and when it holds
 pub data Row : Type 0 where
-  -- a program, how many turns it takes, and what is seen after them
-  runs : (program : List ℕ) (n : ℕ) → Result → Row
-  -- the same of the kernel alone: to the single process "fault 10 never comes"
+  -- a program, the clock of each turn, and what is seen after them
+  runsAt : (program clocks : List ℕ) → Result → Row
+  -- n turns of the kernel alone: to the single process "fault 10 never comes"
   runsInKernel : (program : List ℕ) (n : ℕ) → Result → Row
   -- calls on formatted buffers; n bytes stored after them go to that start
   stores : (calls : List Call) (n start : ℕ) → Row
 
+-- n turns of a program that does not look at the clock
+abbrev pub runs : List ℕ → ℕ → Result → Row
+runs program n seen = runsAt program (replicate n 0) seen
+
 abbrev pub RowHolds : Row → Type 0
-RowHolds (runs program n seen) = (alone program n ≡ seen) × (inKernel program n ≡ seen)
-RowHolds (runsInKernel program n seen) = inKernel program n ≡ seen
+RowHolds (runsAt program clocks seen) = (alone program clocks ≡ seen) × (inKernel program clocks ≡ seen)
+RowHolds (runsInKernel program n seen) = inKernel program (replicate n 0) ≡ seen
 RowHolds (stores calls n start) = startOf (after (storing 110 n ∷ []) (after calls formatted) .disc) 110 ≡ At start
 
 abbrev pub Every : List Row → Type 0

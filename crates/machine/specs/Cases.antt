@@ -1,10 +1,10 @@
--- The rows: document 01's bench cases K1 to K12, and its misreadings of the guide.
+-- The rows: document 01's bench cases K1 to K12, its misreadings of the guide, and DELAYUNTIL by document 02, Q-4.
 use Prim.Native.Nat.{ℕ}
 use mathlib.Core.List.{List, [], _∷_, _++_}
 use lib.ListN.{replicate}
 use Rattle.buffer.specs.Lists.{flat, tab}
 use Rattle.machine.specs.Answer.{Call, other, erase}
-use Rattle.machine.specs.Bench.{Every, Row, runs, runsInKernel, shows, stores, storing}
+use Rattle.machine.specs.Bench.{Every, Row, runs, runsAt, runsInKernel, shows, stores, storing}
 
 abbrev pub letters : ℕ → List ℕ
 letters n = replicate n 97
@@ -73,9 +73,47 @@ misreadings =
     -- "Appendix C gives BITWISENOT two operands; it pops one"
     runs (1 ∷ 4 ∷ 1 ∷ 5 ∷ 28 ∷ []) 3 (shows (4 ∷ 1 ∷ 250 ∷ 1 ∷ []) 0 []) ∷ []
 
+-- a number, DELAYUNTIL and CHAR 7; three turns at one clock reading leave the number where DELAYUNTIL stays, and 7 where
+-- it goes on
+abbrev pub delay : List ℕ → ℕ → List ℕ → Row
+delay number clock stack = runsAt (number ++ (44 ∷ 1 ∷ 7 ∷ [])) (replicate 3 clock) (shows stack 0 [])
+
+-- MILLIS, INT 500, PLUS, DELAYUNTIL, CHAR 7: the first three turns at 32,700, as the request has it, the others at these
+abbrev pub wait : List ℕ → List ℕ → Row
+wait clocks stack =
+    runsAt (45 ∷ 2 ∷ 1 ∷ 244 ∷ 9 ∷ 44 ∷ 1 ∷ 7 ∷ []) (replicate 3 32700 ++ clocks) (shows stack 0 [])
+
+-- Document 02, Q-4
+abbrev pub delays : List Row
+delays =
+    -- "reads the clock at 32,700 and adds 500 gets −32,336": it stays, last at 33,199, and goes on first at 33,200
+    wait (32700 ∷ 32700 ∷ []) (129 ∷ 176 ∷ 2 ∷ []) ∷
+    wait (33199 ∷ 33199 ∷ []) (129 ∷ 176 ∷ 2 ∷ []) ∷
+    wait (33199 ∷ 33200 ∷ 33200 ∷ []) (7 ∷ 1 ∷ []) ∷
+    -- "x minus the clock, modulo 65,536, is 1 to 32,767": −32,336 less the clock is 0, 1, 32,767, 32,768
+    delay (2 ∷ 129 ∷ 176 ∷ []) 33200 (7 ∷ 1 ∷ []) ∷
+    delay (2 ∷ 129 ∷ 176 ∷ []) 33199 (129 ∷ 176 ∷ 2 ∷ []) ∷
+    delay (2 ∷ 129 ∷ 176 ∷ []) 433 (129 ∷ 176 ∷ 2 ∷ []) ∷
+    delay (2 ∷ 129 ∷ 176 ∷ []) 432 (7 ∷ 1 ∷ []) ∷
+    -- the clock's upper bits do not matter: 65,536 and 2^32 − 65,536 more
+    delay (2 ∷ 129 ∷ 176 ∷ []) 98736 (7 ∷ 1 ∷ []) ∷
+    delay (2 ∷ 129 ∷ 176 ∷ []) 4294934959 (129 ∷ 176 ∷ 2 ∷ []) ∷
+    -- "CHAR is widened first": −1 is ahead of 65,534, not of 65,535, nor as 255 of 254
+    delay (1 ∷ 255 ∷ []) 65534 (255 ∷ 1 ∷ []) ∷
+    delay (1 ∷ 255 ∷ []) 65535 (7 ∷ 1 ∷ []) ∷
+    delay (1 ∷ 255 ∷ []) 254 (7 ∷ 1 ∷ []) ∷
+    -- "FLOAT becomes fault 6", its type byte alone too, which WHILE 0 0 pushes; a STRING stays 6, nothing there 5
+    runs (4 ∷ 66 ∷ 200 ∷ 0 ∷ 0 ∷ 44 ∷ []) 2 (shows [] 6 []) ∷
+    runs (1 ∷ 1 ∷ 63 ∷ 0 ∷ 0 ∷ 44 ∷ []) 3 (shows [] 6 []) ∷
+    runs (3 ∷ 97 ∷ 0 ∷ 44 ∷ []) 2 (shows [] 6 []) ∷
+    runs (44 ∷ []) 1 (shows [] 5 []) ∷ []
+
 -- every row holds of the definitions
 unfoldable pub Bench : Type 0
 Bench = Every cases
 
 unfoldable pub Misreadings : Type 0
 Misreadings = Every misreadings
+
+unfoldable pub Delays : Type 0
+Delays = Every delays

@@ -1,12 +1,9 @@
 -- What an instruction does: its effect on the process, or what it asks of the world beyond it.
-use Prim.Native.Nat.{ℕ, _-_, _%_}
+use Prim.Native.Nat.{ℕ, _-_}
 use mathlib.Core.Bool.{Bool, true, false, cond}
 use mathlib.Core.List.{List, [], _∷_}
 use lib.Dec.{eqb, leb}
-use lib.IntN.{ℤ}
 use lib.ListN.{length, getD}
-use mir.Syntax.{w16}
-use mir.Val.{toZ}
 use Rattle.buffer.specs.declared.Found.{Found}
 use Rattle.buffer.specs.declared.Found.the-variants.{At, Nowhere}
 use Rattle.operator.specs.Binary.{binary}
@@ -96,11 +93,6 @@ printed item = cond (eqb (item .kind) stringKind) (trimmed (item .bytes)) (textO
 abbrev pub newline : Bool → List ℕ
 newline true = 10 ∷ []
 newline false = []
-
--- ---- the clock
--- Document 01: "the clock's low 16 bits taken as INT"
-abbrev pub clockInt : ℕ → ℤ
-clockInt clock = toZ w16 (clock % 65536)
 
 -- ---- variables
 -- Document 01, fault 9: "no such variable"

@@ -7,14 +7,14 @@ use lib.ListN.{length, getD, drop, take}
 use Rattle.buffer.specs.Buffer.{part}
 use Rattle.buffer.specs.Lists.{index}
 use Rattle.buffer.specs.declared.Found.the-variants.{At}
-use Rattle.number.specs.Compare.{exceeds}
+use Rattle.number.specs.Clock.{isAhead}
 use Rattle.number.specs.Value.{isZero}
-use Rattle.operator.specs.declared.instruction.Types.the-variants.{AnyNumber, AnyValue}
+use Rattle.operator.specs.declared.instruction.Types.the-variants.{AnyNumber, AnyValue, CharOrInt}
 use Rattle.store.specs.Name.{trimmed}
 use Rattle.variable.specs.Table.{Cell}
 use Rattle.machine.specs.Asking.{reaches}
 use Rattle.machine.specs.Effect.{Effect, goes, assigns, stops, faults, unlessFaults, settle, withPopped}
-use Rattle.machine.specs.Effect.{withNumber, operates, printed, newline, clockInt, withVariable, back, loopTarget}
+use Rattle.machine.specs.Effect.{withNumber, operates, printed, newline, withVariable, back, loopTarget}
 use Rattle.machine.specs.Instruction.{instructionOf}
 use Rattle.machine.specs.Stack.{pop, push, pushItem, pushString}
 use Rattle.machine.specs.State.{Local, noLoop}
@@ -73,11 +73,12 @@ module _ (prog stack : List ℕ) (loopstart at : ℕ) where
       onward (behind + 1) (pushItem stack (c .kind) (c .bytes)) [])
 
   -- ---- time
-  -- Document 01: "DELAYUNTIL stays while x exceeds the clock's low 16 bits taken as INT."
+  -- Document 02, Q-4: "DELAYUNTIL now stays while x minus the clock, modulo 65,536, is 1 to 32,767. CHAR is widened
+  -- first. FLOAT becomes fault 6." What stays keeps its bytes.
   abbrev pub delays : ℕ → Effect
   delays clock =
-      withNumber (pop AnyNumber stack) λ x rest.
-      cond (exceeds x (clockInt clock)) (goes (here at stack) []) (onward behind rest [])
+      withNumber (pop CharOrInt stack) λ x rest.
+      cond (isAhead x clock) (goes (here at stack) []) (onward behind rest [])
 
   -- MILLIS (guide 9.5, A.4): document 01's "the clock's low 16 bits taken as INT"
   abbrev pub pushClock : ℕ → Effect

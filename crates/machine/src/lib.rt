@@ -9,7 +9,7 @@ use limits::ZEROS_SIZE;
 use place::Run;
 use store::layout::NAME_SIZE;
 use variable::Variables;
-ghost use Rattle.machine.specs.Cases.{Bench, Misreadings};
+ghost use Rattle.machine.specs.Cases.{Bench, Delays, Misreadings};
 ghost use Rattle.machine.specs.Demands.{BytesKept, EventsAreCalls, FaultTouchesOwn, GoodKept, LengthsKept};
 ghost use Rattle.machine.specs.Demands.{PlacesRefusedOnly, RoundIsTurns, TurnOutputBound};
 ghost use Rattle.machine.specs.Done.{DoneExactly};
@@ -56,6 +56,11 @@ pub fn bench()
 // Document 01: the 'Misreadings of the guide', each ruled out by a program that shows it.
 pub fn misreadings()
     ensures { λ _. ⌜ Misreadings ⌝ }
+{}
+
+// Document 02, Q-4: the request's own wait across 32,767, and the edges of the rule.
+pub fn delays()
+    ensures { λ _. ⌜ Delays ⌝ }
 {}
 
 // Demand 3 in one piece: nothing but its own turns and commands shifts a process's stack, variables, place, output or

@@ -1,6 +1,6 @@
 -- Whole operands as the machine reads them, over the width: `toZ w (ofZ w x)` stands for x wherever a call or an operation takes it.
 -- Assumes nothing.
-use mathlib.Core.Path.{_≡_, refl, sym, _∙_, ap, ap₂}
+use mathlib.Core.Path.{_≡_, refl, sym, _∙_, ap}
 use mathlib.Core.Bool.{Bool, true, false}
 use Prim.Native.Nat.{ℕ, suc, _-_, _<_, _^_}
 use native.Mathlib.Omega.{arith}
@@ -8,12 +8,10 @@ use borrow.Author.Tests.{eq-eqb, ne-eqb, eqb-true, eqb-false}
 use lib.Dec.{T, leb, eqb}
 use lib.IntN.{ℤ, pos, negsuc}
 use lib.Pow.{pow-pos}
-use lib.Signed.{ltZ}
 use mir.Syntax.{Width}
 use mir.Val.{toZ, ofZ, SFits, bits, hbits}
 use mir.Facts.{toZ-ofZ, sfits-widen}
 use mir.ValLaws.{pow-bits}
-use Rattle.integer.proofs.Representation.{widened}
 use Rattle.number.specs.Whole.{equal}
 
 -- equal numbers of a width have equal bits
@@ -50,6 +48,3 @@ module _ (w : Width) where
 module _ (w v : Width) (h : T (leb (hbits w) (hbits v))) (x z : ℤ) (fx : SFits w x) (fz : SFits v z) where
   pub equal-widened : eqb (ofZ v (toZ w (ofZ w x))) (ofZ v z) ≡ equal x z
   equal-widened = ap (λ (y : ℤ). eqb (ofZ v y) (ofZ v z)) (toZ-ofZ fx) ∙ equal-bits v x z (sfits-widen h fx) fz
-
-  pub less-widened : ltZ (toZ v (ofZ v z)) (toZ v (ofZ v (toZ w (ofZ w x)))) ≡ ltZ z x
-  less-widened = ap₂ ltZ (toZ-ofZ fz) (widened w v h x fx)

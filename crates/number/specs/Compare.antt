@@ -2,19 +2,12 @@
 use Prim.Native.Nat.{ℕ}
 use mathlib.Core.Bool.{Bool}
 use lib.IntN.{ℤ}
-use lib.Signed.{ltZ}
-use Rattle.float.specs.Compare.{exceeds as exceedsFloat, equals as equalsFloat}
+use Rattle.float.specs.Compare.{equals as equalsFloat}
 use Rattle.float.specs.Whole.{within, sized, sizeOf}
 use Rattle.float.specs.declared.whole.Size.{Size}
 use Rattle.number.specs.Whole.{equal}
 use Rattle.number.specs.declared.Number.{Number}
 use Rattle.number.specs.declared.Number.the-variants.{Char, Int, Float}
-
--- Document 01: "DELAYUNTIL stays while x exceeds the clock's low 16 bits taken as INT."
-abbrev pub exceeds : Number → ℤ → Bool
-exceeds (Char x) z = ltZ z x
-exceeds (Int x) z = ltZ z x
-exceeds (Float x) z = exceedsFloat x z
 
 -- Document 01: "WAITUNTILDONE stays while a live process has that ID."
 abbrev pub equals : Number → ℤ → Bool

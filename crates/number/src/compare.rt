@@ -1,21 +1,10 @@
 // A number against a whole number, exactly.
 ghost use mathlib.Core.Path.{_≡_};
 ghost use Rattle.float.specs.Whole.{within, sized};
-ghost use Rattle.number.specs.Compare.{exceeds, equals, sizeWithin};
+ghost use Rattle.number.specs.Compare.{equals, sizeWithin};
 use crate::Number;
 use float::whole::Size;
 use float::whole::to_size;
-
-// Document 01: "DELAYUNTIL stays while x exceeds the clock's low 16 bits taken as INT."
-pub fn exceeds_whole(a: Number, z: i32) -> bool
-    ensures { λ r. ⌜ r ≡ exceeds a z ⌝ }
-{
-    match a {
-        Number::Char(x) => x as i32 > z,
-        Number::Int(x) => x as i32 > z,
-        Number::Float(x) => float::compare::exceeds_whole(x, z),
-    }
-}
 
 // Document 01: "WAITUNTILDONE stays while a live process has that ID."
 pub fn equals_whole(a: Number, z: i32) -> bool

@@ -47,7 +47,7 @@ fn any_fed(random: &mut Random) -> Fed {
         0 | 1 => Fed::Suspend,
         2..=4 => Fed::Resume,
         5 if random.chance(1, 6) => Fed::Kill,
-        _ => Fed::Turn(random.below(40) as u32),
+        _ => Fed::Turn(arguments::time(random)),
     }
 }
 

@@ -79,6 +79,12 @@ pub fn clock(random: &mut Random) -> u32 {
     }
 }
 
+/// A clock near the others of a run, so that waits begin and end: from 0 on, or around the end of INT or of 16 bits.
+pub fn time(random: &mut Random) -> u32 {
+    let first = *random.pick(&[0, 0, 0, 32_740, 65_506]);
+    first + random.below(60) as u32
+}
+
 /// An output length around what is needed.
 pub fn room(needed: usize, random: &mut Random) -> usize {
     match random.below(8) {

@@ -4,7 +4,7 @@ use crate::call::{Call, State, OPERATIONS};
 use crate::comparison::Outcome;
 use second::instruction::{DELAYUNTIL, FORK, OPEN, SET, WAITUNTILDONE};
 use second::layout::*;
-use second::number::NUMBERS;
+use second::number::{FLOAT_TYPE, NUMBERS, WHOLES};
 use second::stack::Stack;
 use second::{directory, records, variables};
 use std::collections::BTreeMap;
@@ -113,17 +113,22 @@ impl Coverage {
     pub fn record(&mut self, call: &Call, before: &State, after: &Outcome) {
         let answer = if after.number < 0 { after.number.unsigned_abs() as u8 } else { 0 };
         *self.answers.entry((call.operation(), answer)).or_default() += 1;
-        if let (Call::Turn { slot, .. }, 0) = (call, answer) {
-            self.record_turn(records::record(*slot as usize), before, &after.state);
+        if let (Call::Turn { slot, clock, .. }, 0) = (call, answer) {
+            self.record_turn(records::record(*slot as usize), *clock, before, &after.state);
         }
     }
 
-    fn record_turn(&mut self, record: usize, before: &State, after: &State) {
+    fn record_turn(&mut self, record: usize, clock: u32, before: &State, after: &State) {
         let opcode = opcode_at(before, record);
         let ended = after.area[record + STATE] == ENDED;
         let fault = if ended { after.area[record + FAULT] } else { 0 };
         *self.turns.entry((opcode, fault)).or_default() += 1;
-        if let Some(situation) = opcode.and_then(|opcode| situation(opcode, fault, record, before, after)) {
+        let situation = match opcode {
+            Some(DELAYUNTIL) => delay(&before.area, record, clock),
+            Some(opcode) => situation(opcode, fault, record, before, after),
+            None => None,
+        };
+        if let Some(situation) = situation {
             self.reach(situation);
         }
         let stays = !ended && word(&after.area, record + PC) == word(&before.area, record + PC);
@@ -240,6 +245,28 @@ fn situation(opcode: u8, fault: u8, record: usize, before: &State, after: &State
         (SET, 10) if variables::count(area) == MAX_VARIABLES => Some("SET, no variable entry"),
         (SET, 10) => Some("SET, no run in memory"),
         _ => None,
+    }
+}
+
+/// What DELAYUNTIL found. Document 02, Q-4: "x minus the clock, modulo 65,536, is 1 to 32,767"; "FLOAT becomes fault 6",
+/// by its type alone.
+fn delay(area: &[u8], record: usize, clock: u32) -> Option<&'static str> {
+    let mut stack = stack_of(area, record);
+    let sp = stack.sp();
+    if let Ok(x) = stack.peek_number(WHOLES) {
+        return match (i64::from(x.whole()?) - i64::from(clock)).rem_euclid(65_536) {
+            0 => Some("DELAYUNTIL, x at the clock"),
+            1 => Some("DELAYUNTIL, x 1 ahead"),
+            32_767 => Some("DELAYUNTIL, x 32,767 ahead"),
+            32_768 => Some("DELAYUNTIL, x 32,768 ahead"),
+            _ => None,
+        };
+    }
+    let float = sp > 0 && area[record + STACK + sp - 1] == FLOAT_TYPE;
+    match float {
+        true if sp > usize::from(FLOAT_TYPE) => Some("DELAYUNTIL, a FLOAT"),
+        true => Some("DELAYUNTIL, the type FLOAT over too few bytes"),
+        false => None,
     }
 }
 

@@ -35,7 +35,13 @@ const STATES: u64 = 1300;
 const PAIRS: u64 = 500;
 
 /// What must have been reached, at least, in one pass, beside the tables.
-const NEEDED: [(&str, u64); 21] = [
+const NEEDED: [(&str, u64); 27] = [
+    ("DELAYUNTIL, x at the clock", 1),
+    ("DELAYUNTIL, x 1 ahead", 1),
+    ("DELAYUNTIL, x 32,767 ahead", 1),
+    ("DELAYUNTIL, x 32,768 ahead", 1),
+    ("DELAYUNTIL, a FLOAT", 1),
+    ("DELAYUNTIL, the type FLOAT over too few bytes", 1),
     ("OPEN, a file that exists", 1),
     ("OPEN, a new file", 1),
     ("OPEN, refused by name", 1),

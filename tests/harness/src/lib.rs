@@ -19,3 +19,4 @@ pub mod sequences;
 pub mod states;
 pub mod tracking;
 pub mod values;
+pub mod vectors;

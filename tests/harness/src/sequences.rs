@@ -31,8 +31,8 @@ pub fn step(state: &State, random: &mut Random) -> Call {
     match random.below(40) {
         0..=2 => Call::Store { name: file_name(random), data: file_data(random) },
         3..=5 => Call::Run { name: arguments::name(&state.disc, random) },
-        6..=7 => Call::Round { clock: random.below(60) as u32, room: ROUND_OUTPUT },
-        8..=28 => Call::Turn { slot: running_slot(state, random), clock: random.below(60) as u32, room: TURN_OUTPUT },
+        6..=7 => Call::Round { clock: arguments::time(random), room: ROUND_OUTPUT },
+        8..=28 => Call::Turn { slot: running_slot(state, random), clock: arguments::time(random), room: TURN_OUTPUT },
         29 => Call::Kill { id: arguments::id(&state.area, random) },
         30 => Call::Erase { name: arguments::name(&state.disc, random) },
         _ => match arguments::call(state, random) {

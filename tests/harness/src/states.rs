@@ -158,7 +158,7 @@ fn distinct_ids(count: usize, next_id: usize, random: &mut Random) -> Vec<usize>
 pub fn context(disc: &[u8], ids: &[usize], clock: u32) -> Context {
     let clock = i32::from(clock as i16);
     let mut numbers: Vec<i32> = ids.iter().map(|&id| id as i32).collect();
-    numbers.extend([clock, clock.wrapping_add(1), clock.wrapping_sub(1)]);
+    numbers.extend([-1, 0, 1, 32_767, 32_768].map(|ahead| clock + ahead));
     let names = (0..directory::count(disc)).map(|index| directory::trimmed(directory::name(disc, index)).to_vec());
     let mut texts: Vec<Vec<u8>> = names.collect();
     texts.extend([b"new".to_vec(), b"bad name".to_vec()]);

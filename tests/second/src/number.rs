@@ -77,7 +77,7 @@ impl Number {
     }
 
     /// The value if it is whole in type.
-    fn whole(self) -> Option<i32> {
+    pub fn whole(self) -> Option<i32> {
         match self {
             Char(x) => Some(i32::from(x)),
             Int(x) => Some(i32::from(x)),
@@ -104,7 +104,7 @@ impl Number {
 }
 
 /// The exact order of two numbers; none with a NaN.
-pub fn order(x: Number, y: Number) -> Option<Ordering> {
+fn order(x: Number, y: Number) -> Option<Ordering> {
     x.float().partial_cmp(&y.float())
 }
 

@@ -7,9 +7,8 @@
 use crate::answer::Refusal;
 use crate::fault::Fault;
 use crate::instruction as op;
-use crate::number::{operator, order, Number, Operator, INT_TYPE, NUMBERS, STRING_TYPE, VALUES};
+use crate::number::{operator, Number, Operator, INT_TYPE, NUMBERS, STRING_TYPE, VALUES, WHOLES};
 use crate::printing;
-use std::cmp::Ordering;
 use std::collections::BTreeMap;
 
 const STACK_LEN: usize = 32;
@@ -224,13 +223,13 @@ impl Single {
             }
             op::MILLIS => self.push(INT_TYPE, &clock.to_be_bytes()),
             op::DELAYUNTIL => {
-                if order(self.peek_number()?, Number::Int(clock)) == Some(Ordering::Greater) {
+                if is_ahead(&self.peek(WHOLES)?, clock) {
                     return Ok(Next::Stay);
                 }
-                self.pop_number()?;
+                self.pop(WHOLES)?;
             }
             op::IF | op::ELSE => {
-                if self.peek_number()?.is_zero() == (opcode == op::IF) {
+                if number(&self.peek(NUMBERS)?).is_zero() == (opcode == op::IF) {
                     return Ok(Next::Jump(i64::from(arguments[0])));
                 }
             }
@@ -308,13 +307,24 @@ impl Single {
         Ok(number(&self.pop(NUMBERS)?))
     }
 
-    /// Looks at a number and leaves the stack as it is.
-    fn peek_number(&mut self) -> Result<Number, Fault> {
+    /// Looks at a value of a taken type and leaves the stack as it is.
+    fn peek(&mut self, taken: &[u8]) -> Result<Value, Fault> {
         let stack = self.stack.clone();
-        let number = self.pop_number();
+        let value = self.pop(taken);
         self.stack = stack;
-        number
+        value
     }
+}
+
+/// Document 02, Q-4: DELAYUNTIL stays "while x minus the clock, modulo 65,536, is 1 to 32,767": a difference of 16 bits
+/// above zero, "CHAR is widened first".
+fn is_ahead(x: &Value, clock: i16) -> bool {
+    let x = match x.bytes[..] {
+        [byte] => i16::from(byte as i8),
+        [high, low] => i16::from_be_bytes([high, low]),
+        _ => unreachable!("the pop takes CHAR and INT"),
+    };
+    x.wrapping_sub(clock) > 0
 }
 
 /// The number that a numeric value is.

@@ -3,7 +3,7 @@
 
 use crate::fault::{need, Fault};
 use crate::layout::STACK_LEN;
-use crate::number::{Number, NUMBERS, STRINGS, STRING_TYPE};
+use crate::number::{Number, STRINGS, STRING_TYPE};
 use std::ops::Range;
 
 /// The 32 bytes and SP, copied from the record and put back if the instruction does not fault.
@@ -72,10 +72,10 @@ impl Stack {
         Ok(Number::decode(item.kind, self.bytes(&item)))
     }
 
-    /// Looks at a number and "leaves its bytes as they are".
-    pub fn peek_number(&mut self) -> Result<Number, Fault> {
+    /// Looks at a number of the given types and "leaves its bytes as they are".
+    pub fn peek_number(&mut self, taken: &[u8]) -> Result<Number, Fault> {
         let sp = self.sp;
-        let number = self.pop_number(NUMBERS);
+        let number = self.pop_number(taken);
         self.sp = sp;
         number
     }

@@ -12,7 +12,6 @@ use crate::processes;
 use crate::records;
 use crate::stack::Stack;
 use crate::variables;
-use std::cmp::Ordering;
 use std::ops::Range;
 
 /// "one instruction of one slot, with a 32-bit clock and at least 32 output bytes: 16 slot above 9 or not running.
@@ -207,15 +206,17 @@ impl Turn<'_> {
         Ok(())
     }
 
-    /// "DELAYUNTIL stays while x exceeds the clock's low 16 bits taken as INT."
+    /// Document 02, Q-4: "DELAYUNTIL now stays while x minus the clock, modulo 65,536, is 1 to 32,767. CHAR is widened
+    /// first. FLOAT becomes fault 6."
     fn delay_until(&mut self) -> Result<(), Fault> {
-        let x = self.stack.peek_number()?;
-        self.stay_while(order(x, Number::Int(self.clock)) == Some(Ordering::Greater))
+        let x = self.stack.peek_number(WHOLES)?.whole().ok_or(Fault::TypeNotTaken)?;
+        let difference = (x - i32::from(self.clock)).rem_euclid(65_536);
+        self.stay_while((1..=32_767).contains(&difference))
     }
 
     /// "WAITUNTILDONE stays while a live process has that ID."
     fn wait_until_done(&mut self) -> Result<(), Fault> {
-        let x = self.stack.peek_number()?;
+        let x = self.stack.peek_number(NUMBERS)?;
         let has_that_id = |record| x.float() == records::id(self.area, record) as f32;
         let waits = records::live(self.area).any(has_that_id);
         self.stay_while(waits)
@@ -239,7 +240,7 @@ impl Turn<'_> {
 
     /// IF jumps on zero, ELSE on not zero; the number stays on the stack.
     fn jump_if(&mut self, zero: bool, distance: u8) -> Result<(), Fault> {
-        if self.stack.peek_number()?.is_zero() == zero {
+        if self.stack.peek_number(NUMBERS)?.is_zero() == zero {
             return self.jump(Some(self.pc + usize::from(distance)));
         }
         Ok(())

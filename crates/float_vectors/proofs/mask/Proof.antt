@@ -6,10 +6,10 @@ use Rattle.float_vectors.proofs.mask.Statement.{statement}
 use Rattle.float_vectors.proofs.mask.Tie as tie
 
 abbrev Inv-loop : tie.InvT-loop
-Inv-loop x equal bits₀ i₀ bits i = i ≤ 8
+Inv-loop x bits₀ i₀ bits i = i ≤ 8
 
 abbrev μ-loop : tie.MeasureT-loop
-μ-loop x equal bits₀ i₀ bits i = i
+μ-loop x bits₀ i₀ bits i = i
 
 pub mask-spec : {M : Type 1} → statement M
 mask-spec =

@@ -11,12 +11,12 @@ use Rattle.buffer.specs.Buffer.{part}
 use Rattle.buffer.specs.Lists.{all, index}
 use Rattle.buffer.specs.declared.Found.{Found}
 use Rattle.buffer.specs.declared.Found.the-variants.{At}
-use Rattle.number.specs.Compare.{exceeds}
+use Rattle.number.specs.Clock.{isAhead}
 use Rattle.number.specs.Value.{isZero}
-use Rattle.operator.specs.declared.instruction.Types.the-variants.{AnyNumber, AnyString, AnyValue}
+use Rattle.operator.specs.declared.instruction.Types.the-variants.{AnyNumber, AnyString, AnyValue, CharOrInt}
 use Rattle.store.specs.Name.{trimmed}
 use Rattle.variable.specs.Table.{Cell}
-use Rattle.machine.specs.Effect.{clockInt, newline, printed, settle}
+use Rattle.machine.specs.Effect.{newline, printed, settle}
 use Rattle.machine.specs.Asking.{reaches}
 use Rattle.machine.specs.Exec.{behind, exec, firstArgument, performs, secondArgument}
 use Rattle.machine.specs.Instruction.{instructionOf}
@@ -115,8 +115,8 @@ module _ (prog : List ℕ) (code : Bytes prog) (l : Local) (h : Bytes (l .stack)
       (push-item-bytes st (c .kind) (c .bytes) h (b .kind) (b .bytes)) tt
   performs-gives clock (Operate p) own o t = operates-gives p st _ h λ s b. on _ s b
   performs-gives clock DelayUntil own o t =
-      number-gives AnyNumber st h _ λ x rest f b.
-      either-gives (exceeds x (clockInt clock)) _ _ (h, tt) (on (At pc) rest b)
+      number-gives CharOrInt st h _ λ x rest f b.
+      either-gives (isAhead x clock) _ _ (h, tt) (on (At pc) rest b)
   performs-gives clock Millis own o t = on _ _ (push-bytes st 2 _ h (omega arith) (omega arith, (omega arith, tt)))
   performs-gives clock (Print ends) own o t =
       popped-gives AnyValue st h _ λ x rest i b.

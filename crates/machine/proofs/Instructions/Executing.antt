@@ -12,11 +12,11 @@ use borrow.Author.Tests.{eqb-true, leb-true, ltb-true}
 use Rattle.buffer.specs.declared.Found.the-variants.{At}
 use Rattle.buffer.specs.Lists.{index}
 use Rattle.buffer.proofs.Bools.{and-left, and-right, true-not-false}
-use Rattle.number.specs.Compare.{exceeds}
+use Rattle.number.specs.Clock.{isAhead}
 use Rattle.number.specs.Value.{isZero}
-use Rattle.operator.specs.declared.instruction.Types.the-variants.{AnyNumber, AnyString, AnyValue}
+use Rattle.operator.specs.declared.instruction.Types.the-variants.{AnyNumber, AnyString, AnyValue, CharOrInt}
 use Rattle.variable.specs.Table.{Cell}
-use Rattle.machine.specs.Effect.{Effect, goes, assigns, stops, faults, asks, Request, printed, newline, clockInt}
+use Rattle.machine.specs.Effect.{Effect, goes, assigns, stops, faults, asks, Request, printed, newline}
 use Rattle.machine.specs.Asking.{reaches}
 use Rattle.machine.specs.Exec.{behind, exec, firstArgument, here, performs, secondArgument, withArguments}
 use Rattle.machine.specs.Instruction.{instructionOf}
@@ -99,8 +99,8 @@ module _ (prog : List ℕ) (l : Local) (inside : l .pc < length prog) where
       variable-does prog l (index (λ c. eqb (c .name) (firstArgument prog st ls (l .pc))) own) own _ λ c. onward-does prog l _ _
   performs-does clock (Operate o) own h = operates-does prog l o st _ λ s. onward-does prog l _ s
   performs-does clock DelayUntil own h =
-      number-does prog l AnyNumber st _ λ x rest t.
-      either-does prog l (exceeds x (clockInt clock)) (goes l []) _ (λ w. (w, omega arith)) (onward-does prog l (At pc) rest)
+      number-does prog l CharOrInt st _ λ x rest t.
+      either-does prog l (isAhead x clock) (goes l []) _ (λ w. (w, omega arith)) (onward-does prog l (At pc) rest)
   performs-does clock Millis own h = onward-does prog l _ _
   performs-does clock (Print ends) own h =
       popped-does prog l AnyValue st _ λ x rest e t.

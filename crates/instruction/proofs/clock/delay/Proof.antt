@@ -1,11 +1,7 @@
 -- The number is compared with the clock: it stays, or is dropped.
 use mathlib.Core.List.{append-nil}
-use mathlib.Core.Path.{_≡_, sym, ap, _∙_}
-use mir.Syntax.{w16, w32}
-use Rattle.number.specs.Compare.{exceeds}
-use Rattle.operator.specs.declared.instruction.Types.the-variants.{AnyNumber}
-use Rattle.integer.proofs.Representation.{widened, widens}
-use Rattle.machine.specs.Effect.{clockInt}
+use mathlib.Core.Path.{sym, _∙_}
+use Rattle.operator.specs.declared.instruction.Types.the-variants.{CharOrInt}
 use Rattle.stack.proofs.Popping.{NumberOnTop, number-faults, number-on-top}
 use borrow.Author.Needs.{needs}
 use Rattle.instruction.proofs.clock.delay.Statement.{statement}
@@ -18,28 +14,18 @@ start c = c .before .before .before
 abbrev popped : tie.After-x → tie.After-top-number
 popped c = c .before .before
 
-abbrev number : tie.After-exceeds-whole → tie.After-x
-number c = c .before .before .before
+abbrev number : tie.After-is-ahead → tie.After-x
+number c = c .before .before
 
-top : (c : tie.After-x) → NumberOnTop AnyNumber (start (popped c) .args .stack .now) (c .x .given .0 .0) (c .x .given .0 .1 .0)
-top c = number-on-top AnyNumber (start (popped c) .args .stack .now) (popped c .top-number .ensures) (c .x .given .1)
-
-judged : (c : tie.After-exceeds-whole) → let clock = start (popped (number c)) .args .clock in
-    exceeds (number c .x .given .0 .0) (clockInt clock) ≡ c .exceeds-whole .result
-judged c =
-    let k = c .before in
-    sym (c .exceeds-whole .ensures
-    ∙ ap (exceeds (number c .x .given .0 .0)) (widened w16 w32 tt (k .clock-int .result) (search needs) ∙ k .clock-int .ensures))
-
-cast-exceeds-whole : tie.Need-cast-exceeds-whole
-cast-exceeds-whole c = widens w16 w32 tt (c .clock-int .result) (search needs)
+top : (c : tie.After-x) → NumberOnTop CharOrInt (start (popped c) .args .stack .now) (c .x .given .0 .0) (c .x .given .0 .1 .0)
+top c = number-on-top CharOrInt (start (popped c) .args .stack .now) (popped c .top-number .ensures) (c .x .given .1)
 
 returns : tie.Need-returns
 returns c =
     let then = c .before in
     let j = then .before in
     let t = top (number j) in
-    rw (t .pops, t .is, judged j ∙ then .if1 .taken) (rw append-nil at (c .with-stack .ensures))
+    rw (t .pops, t .is, sym (j .is-ahead .ensures) ∙ then .if1 .taken) (rw append-nil at (c .with-stack .ensures))
 
 go-requires : tie.Need-go-requires
 go-requires c κs =
@@ -52,12 +38,12 @@ returns-2 c =
     let else = c .before in
     let j = else .before in
     let t = top (number j) in
-    rw (t .pops, t .is, judged j ∙ else .if1 .left) (c .go .ensures)
+    rw (t .pops, t .is, sym (j .is-ahead .ensures) ∙ else .if1 .left) (c .go .ensures)
 
 returns-3 : tie.Need-returns-3
 returns-3 c =
     let k = c .before .before in
-    number-faults AnyNumber _ (k .before .before .top-number .ensures) (k .fault .given .1) _ (c .last-step .ensures) _
+    number-faults CharOrInt _ (k .before .before .top-number .ensures) (k .fault .given .1) _ (c .last-step .ensures) _
 
 pub delay-spec : {M : Type 1} → statement M
 delay-spec =
@@ -66,7 +52,6 @@ delay-spec =
     (λ c κs. search needs)
     (λ c. search needs)
     (λ c κs. search needs)
-    cast-exceeds-whole
     (λ c κs. search needs)
     (λ c κs. search needs)
     returns
