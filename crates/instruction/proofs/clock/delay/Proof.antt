@@ -53,7 +53,6 @@ delay-spec =
     (λ c. search needs)
     (λ c κs. search needs)
     (λ c κs. search needs)
-    (λ c κs. search needs)
     returns
     (λ c. search needs)
     go-requires
