@@ -7,7 +7,9 @@ use crate::Number;
 fn ahead_by(x: i16, clock: u32) -> u16
     ensures { λ r. ⌜ r ≡ aheadBy x clock ⌝ }
 {
-    std::num::wrapping_sub_u16(integer::bits16(x), (clock % 65536) as u16)
+    let target = integer::bits16(x);
+    let reading = (clock % 65536) as u16;
+    std::num::wrapping_sub_u16(target, reading)
 }
 
 // Document 02, Q-4: "is 1 to 32,767"
