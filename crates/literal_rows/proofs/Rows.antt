@@ -38,23 +38,25 @@ use Rattle.machine.specs.State.{endedSlot, slotOf}
 use Rattle.machine.specs.Turn.{carriedOut, turned}
 use Rattle.literal_rows.specs.Calls.{laid, leftBy, numbers}
 use Rattle.literal_rows.specs.Goodness.{AreaRows, DiscRows}
-use Rattle.literal_rows.specs.Programs.{BenchOnBytes}
+use Rattle.literal_rows.specs.Programs.{BenchOnBytes, WaitsOnBytes}
 use Rattle.literal_rows.specs.Run.{Listings, RunOnBytes}
 
-rows : RunOnBytes × Listings × AreaRows × DiscRows × BenchOnBytes
-unfolding RunOnBytes Listings AreaRows DiscRows BenchOnBytes laid leftBy numbers turns answer otherAnswer formatAnswer storeAnswer checked
-    filesAnswer fileLine lookup index entryAt tab goodDisc goodFiles goodEntry goodField goodName besideEntry all pairs apart fits lowest
-    place placeOf admission entered erased writtenAt readAt goodArea goodKernel goodHeader goodProcess goodLive goodRegisters goodFile
-    isProgram otherId goodVariables goodVariable goodSize besideVariable kernelOf kernelBytes variablesOf flat any keep ended turned
-    carriedOut answered owned freed assigned placeFor placing added exec performs find instructionOf operatorOf lookupOperator includes
-    operates settle pop popNumber popString wellFormed trimmed same unary binary whole wrapped wholeBits convertedFloat numberOf textOf
-    printedOf wholeOf lastDigits ofBits ofFields trailingZeros commanded starting endedSlot slotOf listText processLine
+rows : RunOnBytes × Listings × AreaRows × DiscRows × BenchOnBytes × WaitsOnBytes
+unfolding RunOnBytes Listings AreaRows DiscRows BenchOnBytes WaitsOnBytes laid leftBy numbers turns answer otherAnswer formatAnswer
+    storeAnswer checked filesAnswer fileLine lookup index entryAt tab goodDisc goodFiles goodEntry goodField goodName besideEntry all
+    pairs apart fits lowest place placeOf admission entered erased writtenAt readAt goodArea goodKernel goodHeader goodProcess goodLive
+    goodRegisters goodFile isProgram otherId goodVariables goodVariable goodSize besideVariable kernelOf kernelBytes variablesOf flat any
+    keep ended turned carriedOut answered owned freed assigned placeFor placing added exec performs find instructionOf operatorOf
+    lookupOperator includes operates settle pop popNumber popString wellFormed trimmed same unary binary whole wrapped wholeBits
+    convertedFloat numberOf textOf printedOf wholeOf lastDigits ofBits ofFields trailingZeros commanded starting endedSlot slotOf listText
+    processLine
 rows = (
   (refl, refl, refl),
   (refl, refl, refl, refl),
   (refl, refl),
   (refl, refl),
   (refl, (refl, (refl, (refl, (refl, (refl, (refl, (refl, (refl, (refl, (refl, (refl, (refl, tt))))))))))))),
+  (refl, (refl, (refl, tt))),
 )
 
 pub run-holds : RunOnBytes
@@ -71,3 +73,6 @@ disc-rows-hold = rows .3
 
 pub bench-holds : BenchOnBytes
 bench-holds = rows .4
+
+pub waits-hold : WaitsOnBytes
+waits-hold = rows .5

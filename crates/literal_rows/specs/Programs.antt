@@ -1,5 +1,5 @@
--- Document 01's bench cases K1 to K11 through the calls: the program stored under "p" and run, its turns taken, and
--- what then stands in the bytes of its record, in slot 0.
+-- Document 01's bench cases K1 to K11, and the wait of document 02's Q-4, through the calls: the program stored under
+-- "p" and run, its turns taken, and what then stands in the bytes of its record, in slot 0.
 use Prim.Native.Nat.{ℕ}
 use mathlib.Core.Path.{_≡_}
 use mathlib.Core.List.{List, [], _∷_}
@@ -9,7 +9,7 @@ use Rattle.buffer.specs.Buffer.{part}
 use Rattle.machine.specs.Answer.{Answer, answer, other, run, store, turn}
 use Rattle.machine.specs.Bench.{Progress, Result, Row, reached, refused, runsAt, runsInKernel, shows, stopped, stores}
 use Rattle.machine.specs.Bench.{turns}
-use Rattle.machine.specs.Cases.{cases}
+use Rattle.machine.specs.Cases.{cases, waits}
 use Rattle.machine.specs.Trace.{Storage, lending, storageOf}
 use Rattle.literal_rows.specs.Calls.{formatted, leftBy, room}
 
@@ -40,3 +40,6 @@ OnBytes (stores calls n start ∷ rows) = OnBytes rows
 
 unfoldable pub BenchOnBytes : Type 0
 BenchOnBytes = OnBytes cases
+
+unfoldable pub WaitsOnBytes : Type 0
+WaitsOnBytes = OnBytes waits

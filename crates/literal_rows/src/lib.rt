@@ -1,6 +1,6 @@
 // Literal rows: calls on bytes, against bytes written out at their offsets.
 ghost use Rattle.literal_rows.specs.Goodness.{AreaRows, DiscRows};
-ghost use Rattle.literal_rows.specs.Programs.{BenchOnBytes};
+ghost use Rattle.literal_rows.specs.Programs.{BenchOnBytes, WaitsOnBytes};
 ghost use Rattle.literal_rows.specs.Run.{Listings, RunOnBytes};
 
 // A run from format to turns, suspend and kill: every number, every byte of disc and work area.
@@ -26,4 +26,9 @@ pub fn disc_rows()
 // Document 01's bench cases K1 to K11 through the calls store, run and turn.
 pub fn bench_on_bytes()
     ensures { λ _. ⌜ BenchOnBytes ⌝ }
+{}
+
+// Document 02, Q-4: the request's own wait, each turn with its clock.
+pub fn waits_on_bytes()
+    ensures { λ _. ⌜ WaitsOnBytes ⌝ }
 {}

@@ -25,7 +25,7 @@ use Rattle.variable.specs.Table.{freed, owned}
 use Rattle.machine.specs.Answer.{answer, formatAnswer, goodArea, otherAnswer}
 use Rattle.machine.specs.Area.{kernelOf}
 use Rattle.machine.specs.Bench.{Every, after, turns}
-use Rattle.machine.specs.Cases.{Bench, Delays, Misreadings, cases, delays, misreadings}
+use Rattle.machine.specs.Cases.{Bench, Delays, Misreadings, cases, delays, misreadings, waits}
 use Rattle.machine.specs.Effect.{operates, settle}
 use Rattle.machine.specs.Exec.{exec}
 use Rattle.machine.specs.GoodArea.{goodHeader, goodKernel, goodProcess, otherId}
@@ -36,7 +36,7 @@ use Rattle.machine.specs.Stack.{pop, wellFormed}
 use Rattle.machine.specs.Ended.{ended}
 use Rattle.machine.specs.Turn.{turned}
 
-rows-hold : Every cases × Every misreadings × Every delays
+rows-hold : Every cases × Every misreadings × Every waits × Every delays
 unfolding turns after single exec instructionOf operatorOf lookupOperator includes operates settle pop wellFormed trimmed same unary binary
     whole wrapped wholeBits convertedFloat numberOf textOf printedOf wholeOf lastDigits ofBits ofFields trailingZeros answer otherAnswer
     formatAnswer
@@ -76,7 +76,26 @@ rows-hold = (
       ((refl, refl), ((refl, refl), ((refl, refl), (refl, ((refl, refl), ((refl, refl), ((refl, refl), tt))))))),
     ),
   ),
-  ((refl, refl), ((refl, refl), ((refl, refl), ((refl, refl), ((refl, refl), ((refl, refl), ((refl, refl), ((refl, refl), ((refl, refl), ((refl, refl), ((refl, refl), ((refl, refl), ((refl, refl), ((refl, refl), ((refl, refl), ((refl, refl), tt)))))))))))))))),
+  ((refl, refl), ((refl, refl), ((refl, refl), tt))),
+  (
+    (refl, refl),
+    (
+      (refl, refl),
+      (
+        (refl, refl),
+        (
+          (refl, refl),
+          (
+            (refl, refl),
+            (
+              (refl, refl),
+              ((refl, refl), ((refl, refl), ((refl, refl), ((refl, refl), ((refl, refl), ((refl, refl), ((refl, refl), tt))))))),
+            ),
+          ),
+        ),
+      ),
+    ),
+  ),
 )
 
 pub bench-holds : Bench
@@ -89,4 +108,4 @@ misreadings-hold = rows-hold .1
 
 pub delays-hold : Delays
 unfolding Delays
-delays-hold = rows-hold .2
+delays-hold = (rows-hold .2, rows-hold .3)

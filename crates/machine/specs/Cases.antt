@@ -83,13 +83,17 @@ abbrev pub wait : List ℕ → List ℕ → Row
 wait clocks stack =
     runsAt (45 ∷ 2 ∷ 1 ∷ 244 ∷ 9 ∷ 44 ∷ 1 ∷ 7 ∷ []) (replicate 3 32700 ++ clocks) (shows stack 0 [])
 
--- Document 02, Q-4
-abbrev pub delays : List Row
-delays =
-    -- "reads the clock at 32,700 and adds 500 gets −32,336": it stays, last at 33,199, and goes on first at 33,200
+-- Document 02, Q-4: "reads the clock at 32,700 and adds 500 gets −32,336". It stays, last at 33,199, and goes on first
+-- at 33,200.
+abbrev pub waits : List Row
+waits =
     wait (32700 ∷ 32700 ∷ []) (129 ∷ 176 ∷ 2 ∷ []) ∷
     wait (33199 ∷ 33199 ∷ []) (129 ∷ 176 ∷ 2 ∷ []) ∷
-    wait (33199 ∷ 33200 ∷ 33200 ∷ []) (7 ∷ 1 ∷ []) ∷
+    wait (33199 ∷ 33200 ∷ 33200 ∷ []) (7 ∷ 1 ∷ []) ∷ []
+
+-- Document 02, Q-4, the rule
+abbrev pub delays : List Row
+delays =
     -- "x minus the clock, modulo 65,536, is 1 to 32,767": −32,336 less the clock is 0, 1, 32,767, 32,768
     delay (2 ∷ 129 ∷ 176 ∷ []) 33200 (7 ∷ 1 ∷ []) ∷
     delay (2 ∷ 129 ∷ 176 ∷ []) 33199 (129 ∷ 176 ∷ 2 ∷ []) ∷
@@ -116,4 +120,4 @@ unfoldable pub Misreadings : Type 0
 Misreadings = Every misreadings
 
 unfoldable pub Delays : Type 0
-Delays = Every delays
+Delays = Every waits × Every delays

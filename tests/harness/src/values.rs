@@ -129,6 +129,7 @@ pub fn bytes_of(kind: Kind, context: &Context, random: &mut Random) -> Vec<u8> {
         Kind::InnerZero => string_of(&[nonzero(random), vec![0], nonzero(random), vec![0]].concat()),
         Kind::LengthTooLong => vec![random.byte(), random.between(3, 255) as u8, STRING_TYPE],
         Kind::UnknownType => vec![random.byte(), *random.pick(&[0, 5, 6, 67, 128, 255])],
+        Kind::RawByte if random.chance(1, 2) => vec![*random.pick(&[CHAR_TYPE, INT_TYPE, STRING_TYPE, FLOAT_TYPE])],
         Kind::RawByte => vec![random.byte()],
     }
 }

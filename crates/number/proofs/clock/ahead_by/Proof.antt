@@ -14,4 +14,5 @@ ahead-by-spec =
     (λ c.
     let bits = c .before in
     let s = bits .before in
-    ahead-reads (s .args .x) (s .args .clock) (s .fits .x) (bits .bits16 .ensures) (c .wrapping-sub-u16 .ok) (c .wrapping-sub-u16 .ensures)))
+    ahead-reads (s .args .x) (s .args .clock) (s .fits .x) (bits .bits16 .ensures)
+    (c .wrapping-sub-u16 .ok) (c .wrapping-sub-u16 .ensures)))
