@@ -13,8 +13,8 @@ ghost use mathlib.Core.Path.{_≡_};
 ghost use Rattle.machine.specs.Exec.{delays, pushClock};
 ghost use Rattle.stack.specs.Steps.{Means, Ready};
 
-// Document 02, Q-4: "DELAYUNTIL now stays while x minus the clock, modulo 65,536, is 1 to 32,767. CHAR is widened first.
-// FLOAT becomes fault 6."
+// Document 02, Q-4: "DELAYUNTIL now stays while x minus the clock, modulo 65,536, is 1 to 32,767. CHAR is widened
+// first. FLOAT becomes fault 6."
 pub fn delay(code: &[u8], stack: &[u8], at: usize, loopstart: u16, clock: u32) -> Step
     requires { ⌜ Ready (now code) (now stack) at ⌝ }
     ensures { λ r. ⌜ Means (now (stack .entry)) r

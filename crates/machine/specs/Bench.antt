@@ -1,5 +1,5 @@
--- Rows: a program, the clock of each of its turns, and what is seen after them; each row holds of the single process and
--- of the kernel's turns. Or calls, and where a file goes.
+-- Rows: a program, the clock of each of its turns, and what is seen after them, of the single process and of the
+-- kernel's turns. Or calls, and where a file goes.
 use Prim.Native.Nat.{ℕ}
 use mathlib.Core.Path.{_≡_}
 use mathlib.Core.Bool.{cond}

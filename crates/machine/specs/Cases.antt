@@ -73,12 +73,12 @@ misreadings =
     -- "Appendix C gives BITWISENOT two operands; it pops one"
     runs (1 ∷ 4 ∷ 1 ∷ 5 ∷ 28 ∷ []) 3 (shows (4 ∷ 1 ∷ 250 ∷ 1 ∷ []) 0 []) ∷ []
 
--- a number, DELAYUNTIL and CHAR 7; three turns at one clock reading leave the number where DELAYUNTIL stays, and 7 where
--- it goes on
+-- a number, DELAYUNTIL and CHAR 7; three turns at one clock reading leave the number where DELAYUNTIL stays, and 7
+-- where it goes on
 abbrev pub delay : List ℕ → ℕ → List ℕ → Row
 delay number clock stack = runsAt (number ++ (44 ∷ 1 ∷ 7 ∷ [])) (replicate 3 clock) (shows stack 0 [])
 
--- MILLIS, INT 500, PLUS, DELAYUNTIL, CHAR 7: the first three turns at 32,700, as the request has it, the others at these
+-- MILLIS, INT 500, PLUS, DELAYUNTIL, CHAR 7: three turns at 32,700, as the request has it, the others at these clocks
 abbrev pub wait : List ℕ → List ℕ → Row
 wait clocks stack =
     runsAt (45 ∷ 2 ∷ 1 ∷ 244 ∷ 9 ∷ 44 ∷ 1 ∷ 7 ∷ []) (replicate 3 32700 ++ clocks) (shows stack 0 [])

@@ -7,7 +7,7 @@ use Rattle.integer.specs.Modular.{residue}
 use Rattle.number.specs.declared.Number.{Number}
 use Rattle.number.specs.declared.Number.the-variants.{Char, Int, Float}
 
--- Document 02, Q-4: "x minus the clock, modulo 65,536". The clock counts in 32 bits; modulo 65,536 the upper ones do not
+-- Document 02, Q-4: "x minus the clock, modulo 65,536". The clock has 32 bits; modulo 65,536 the upper ones do not
 -- matter.
 abbrev pub aheadBy : ℤ → ℕ → ℕ
 aheadBy x clock = residue 65536 (x -ℤ pos clock)
@@ -16,7 +16,7 @@ aheadBy x clock = residue 65536 (x -ℤ pos clock)
 abbrev pub wholeIsAhead : ℤ → ℕ → Bool
 wholeIsAhead x clock = leb 1 (aheadBy x clock) && leb (aheadBy x clock) 32767
 
--- Document 02, Q-4: "CHAR is widened first. FLOAT becomes fault 6.": the pop refuses a FLOAT, so it is never asked here.
+-- Document 02, Q-4: "CHAR is widened first. FLOAT becomes fault 6.": the pop refuses it, so it is never asked here.
 abbrev pub isAhead : Number → ℕ → Bool
 isAhead (Char x) clock = wholeIsAhead x clock
 isAhead (Int x) clock = wholeIsAhead x clock
