@@ -1,4 +1,4 @@
-//! The second implementation of document 01, written apart from the first one.
+//! The second implementation of document 01, with document 02's requests, written apart from the first one.
 //!
 //! It works on the two buffers as they lie: a function for each operation, no decoded kernel. The module
 //! [`single`] is the single process of document 01; it shares only the arithmetic and the printing.
