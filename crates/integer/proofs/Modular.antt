@@ -11,8 +11,8 @@ use native.Mathlib.Nat.{add-mul-mod-self-right, zero-mod}
 use lib.IntN.{ℤ, pos, negsuc, sucℤ, predℤ, _+ℤ_, _-ℤ_, _*ℤ_, suc-pred, +ℤ-sucℤ, +ℤ-idr, zero-*ℤ, sucℤ-*ℤ, predℤ-*ℤ, -ℤ-+ℤ-cancel}
 use lib.Pow.{pow-pos, pow-add}
 use mir.Syntax.{Width}
-use mir.Val.{toZ, ofZ, SFits, bits}
-use mir.Facts.{toZ-ofZ, fits-lt-pow, fits-ofZ, sfits-toZ}
+use mir.Val.{toZ, ofZ, Fits, SFits, bits}
+use mir.Facts.{toZ-ofZ, ofZ-toZ, fits-lt-pow, fits-ofZ, sfits-toZ}
 use mir.ValLaws.{half-full}
 use Rattle.integer.specs.Modular.{residue, wrapped}
 
@@ -124,6 +124,13 @@ module _ (w : Width) where
   pub residue-bits : (z : ℤ) → SFits w z → residue (2 ^ bits w) z ≡ ofZ w z
   residue-bits (pos n) f = mod-eq-of-lt (fits-lt-pow (fits-ofZ f))
   residue-bits (negsuc n) f = ap (λ (u : ℕ). 2 ^ bits w - suc u) (mod-eq-of-lt (half-full w (f .sfits)))
+
+  pub residue-read : {n : ℕ} → Fits w n → residue (2 ^ bits w) (toZ w n) ≡ n
+  residue-read f = residue-bits (toZ w _) (sfits-toZ f) ∙ ofZ-toZ f
+
+  pub residue-wrapped : (z : ℤ) → residue (2 ^ bits w) (wrapped w z) ≡ residue (2 ^ bits w) z
+  unfolding wrapped
+  residue-wrapped z = residue-read (record { fits = residue-lt (2 ^ bits w) (pow-pos (bits w)) z })
 
   pub wrapped-fits : (z : ℤ) → SFits w (wrapped w z)
   unfolding wrapped

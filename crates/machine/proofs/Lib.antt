@@ -24,5 +24,7 @@ pub mod InBytes
 pub mod Traces
 -- what a call leaves alone
 pub mod LeftAlone
--- the bench cases and the misreadings
+-- a wait keeps its time
+pub mod Waiting
+-- the bench cases, the misreadings and the rows of DELAYUNTIL
 pub mod BenchCases

@@ -1,5 +1,5 @@
 -- What an instruction does: its effect on the process, or what it asks of the world beyond it.
-use Prim.Native.Nat.{ℕ, _-_}
+use Prim.Native.Nat.{ℕ, _-_, _/_, _%_}
 use mathlib.Core.Bool.{Bool, true, false, cond}
 use mathlib.Core.List.{List, [], _∷_}
 use lib.Dec.{eqb, leb}
@@ -93,6 +93,11 @@ printed item = cond (eqb (item .kind) stringKind) (trimmed (item .bytes)) (textO
 abbrev pub newline : Bool → List ℕ
 newline true = 10 ∷ []
 newline false = []
+
+-- ---- the clock
+-- MILLIS (guide 9.5, A.4): document 01's "the clock's low 16 bits taken as INT"
+abbrev pub clockBytes : ℕ → List ℕ
+clockBytes clock = clock % 65536 / 256 ∷ clock % 256 ∷ []
 
 -- ---- variables
 -- Document 01, fault 9: "no such variable"

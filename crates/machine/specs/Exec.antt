@@ -1,5 +1,5 @@
 -- One instruction, as a function of the process alone. The order of faults is the order of the lines.
-use Prim.Native.Nat.{ℕ, _+_, _-_, _/_, _%_}
+use Prim.Native.Nat.{ℕ, _+_, _-_}
 use mathlib.Core.Bool.{Bool, Bool·beq, cond}
 use mathlib.Core.List.{List, [], _∷_, _++_}
 use lib.Dec.{eqb, leb, ltb}
@@ -14,7 +14,8 @@ use Rattle.store.specs.Name.{trimmed}
 use Rattle.variable.specs.Table.{Cell}
 use Rattle.machine.specs.Asking.{reaches}
 use Rattle.machine.specs.Effect.{Effect, goes, assigns, stops, faults, unlessFaults, settle, withPopped}
-use Rattle.machine.specs.Effect.{withNumber, operates, printed, newline, withVariable, back, loopTarget}
+use Rattle.machine.specs.Effect.{withNumber, operates, printed, newline, clockBytes, withVariable}
+use Rattle.machine.specs.Effect.{back, loopTarget}
 use Rattle.machine.specs.Instruction.{instructionOf}
 use Rattle.machine.specs.Stack.{pop, push, pushItem, pushString}
 use Rattle.machine.specs.State.{Local, noLoop}
@@ -80,9 +81,8 @@ module _ (prog stack : List ℕ) (loopstart at : ℕ) where
       withNumber (pop CharOrInt stack) λ x rest.
       cond (isAhead x clock) (goes (here at stack) []) (onward behind rest [])
 
-  -- MILLIS (guide 9.5, A.4): document 01's "the clock's low 16 bits taken as INT"
   abbrev pub pushClock : ℕ → Effect
-  pushClock clock = onward behind (push stack 2 (clock % 65536 / 256 ∷ clock % 256 ∷ [])) []
+  pushClock clock = onward behind (push stack 2 (clockBytes clock)) []
 
   -- ---- output
   abbrev pub prints : Bool → Effect

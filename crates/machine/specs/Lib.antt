@@ -36,6 +36,8 @@ pub mod Faults
 pub mod Reaching
 pub mod Done
 pub mod LeftAlone
--- the bench cases and the misreadings
+-- a wait keeps its time
+pub mod Waiting
+-- the bench cases, the misreadings and the rows of DELAYUNTIL
 pub mod Bench
 pub mod Cases

@@ -17,6 +17,7 @@ ghost use Rattle.machine.specs.Isolation.{Isolation};
 ghost use Rattle.machine.specs.LeftAlone.{LeavesAlone};
 ghost use Rattle.machine.specs.Reaching.{ReachesExactly};
 ghost use Rattle.machine.specs.Tests.{RefusedExactly};
+ghost use Rattle.machine.specs.Waiting.{WaitsKeepTime};
 
 // The file that a process has open, and how far it has read or written. Length 0: none.
 pub struct OpenFile {
@@ -61,6 +62,11 @@ pub fn misreadings()
 // Document 02, Q-4: the request's own wait across 32,767, and the edges of the rule.
 pub fn delays()
     ensures { λ _. ⌜ Delays ⌝ }
+{}
+
+// Document 02, Q-4: MILLIS, INT d, PLUS, DELAYUNTIL waits d milliseconds, from every clock reading.
+pub fn waits_keep_time()
+    ensures { λ _. ⌜ WaitsKeepTime ⌝ }
 {}
 
 // Demand 3 in one piece: nothing but its own turns and commands shifts a process's stack, variables, place, output or

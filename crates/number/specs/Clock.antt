@@ -13,8 +13,11 @@ abbrev pub aheadBy : ℤ → ℕ → ℕ
 aheadBy x clock = residue 65536 (x -ℤ pos clock)
 
 -- Document 02, Q-4: "is 1 to 32,767"
+abbrev pub maxAhead : ℕ
+maxAhead = 32767
+
 abbrev pub wholeIsAhead : ℤ → ℕ → Bool
-wholeIsAhead x clock = leb 1 (aheadBy x clock) && leb (aheadBy x clock) 32767
+wholeIsAhead x clock = leb 1 (aheadBy x clock) && leb (aheadBy x clock) maxAhead
 
 -- Document 02, Q-4: "CHAR is widened first. FLOAT becomes fault 6.": the pop refuses it, so it is never asked here.
 abbrev pub isAhead : Number → ℕ → Bool
