@@ -248,8 +248,8 @@ int32_t arduinos_list(const uint8_t *disc, size_t disc_len, const uint8_t *area,
 /* Executes one instruction of the process in a slot, 0 to 9. Needs ARDUINOS_TURN_OUTPUT bytes of out, whatever is
    printed. Returns the bytes it printed to out, 0 if it ended.
    The clock counts milliseconds from any beginning. Programs see its low 16 bits as a signed number, -32,768 to 32,767.
-   A wait (DELAYUNTIL) is one of 1 to 32,767 ms, across the end of these bits too, if a turn comes within 32,768 ms after
-   its time (docs/GUIDE.md, part 5).
+   A wait (DELAYUNTIL) lasts 1 to 32,767 ms, across the end of these bits too; a turn must come within 32,768 ms after
+   its end (docs/GUIDE.md, part 5).
    Refused: WRONG_LENGTH, BAD_DISC, BAD_AREA, SHORT_OUTPUT, NOT_RUNNING. */
 int32_t arduinos_turn(uint8_t *disc, size_t disc_len, uint8_t *area, size_t area_len, uint32_t slot, uint32_t clock,
                       uint8_t *out, size_t out_len);

@@ -64,7 +64,7 @@ pub fn delays()
     ensures { λ _. ⌜ Delays ⌝ }
 {}
 
-// Document 02, Q-4: MILLIS, INT d, PLUS, DELAYUNTIL waits d milliseconds, from every clock reading.
+// Document 02, Q-4: MILLIS, INT d, PLUS, DELAYUNTIL waits d milliseconds, from every time on.
 pub fn waits_keep_time()
     ensures { λ _. ⌜ WaitsKeepTime ⌝ }
 {}

@@ -40,6 +40,9 @@ fn run(arguments: Vec<String>) -> Result<bool, String> {
             wrong += 1;
         }
     }
+    if lines == 0 {
+        return Err(format!("{name} has no line"));
+    }
     if let Some(line) = withdrawn.iter().find(|&&line| line > lines) {
         return Err(format!("{name} has no line {line}"));
     }
