@@ -235,7 +235,7 @@ fn situation(opcode: u8, fault: u8, record: usize, before: &State, after: &State
     let State { disc, area } = before;
     match (opcode, fault) {
         (OPEN, 0) if directory::count(disc) == directory::count(&after.disc) => Some("OPEN, a file that exists"),
-        (OPEN, 0) => Some("OPEN, a new file"),
+        (OPEN, 0) => Some(new_file(disc, &after.disc)),
         (OPEN, 13) => open_refusal(disc, area, record),
         (FORK, 0) if word(area, NEXT_ID) != word(&after.area, NEXT_ID) => Some("FORK, a process started"),
         (FORK, 0) if records::all().all(|record| records::is_live(area, record)) => {
@@ -272,6 +272,16 @@ fn delay(area: &[u8], record: usize, clock: u32) -> Option<&'static str> {
 
 fn stack_of(area: &[u8], record: usize) -> Stack {
     Stack::new(&area[record + STACK..record + STACK + STACK_LEN], area[record + SP])
+}
+
+/// What lay where a new file went. Document 02, Q-8: "OPEN now fills a file it creates with zeros."
+fn new_file(disc: &[u8], after: &[u8]) -> &'static str {
+    let found = &disc[directory::range(after, directory::count(disc))];
+    match found.last() {
+        Some(byte) if *byte != 0 => "OPEN, a new file, its last byte not 0",
+        _ if found.iter().any(|byte| *byte != 0) => "OPEN, a new file over bytes that are not 0",
+        _ => "OPEN, a new file, zeros as found",
+    }
 }
 
 fn open_refusal(disc: &[u8], area: &[u8], record: usize) -> Option<&'static str> {

@@ -35,7 +35,7 @@ const STATES: u64 = 1300;
 const PAIRS: u64 = 500;
 
 /// What must have been reached, at least, in one pass, beside the tables.
-const NEEDED: [(&str, u64); 27] = [
+const NEEDED: [(&str, u64); 29] = [
     ("DELAYUNTIL, x at the clock", 1),
     ("DELAYUNTIL, x 1 ahead", 1),
     ("DELAYUNTIL, x 32,767 ahead", 1),
@@ -43,7 +43,9 @@ const NEEDED: [(&str, u64); 27] = [
     ("DELAYUNTIL, a FLOAT", 1),
     ("DELAYUNTIL, the type FLOAT over too few bytes", 1),
     ("OPEN, a file that exists", 1),
-    ("OPEN, a new file", 1),
+    ("OPEN, a new file, zeros as found", 1),
+    ("OPEN, a new file over bytes that are not 0", 1),
+    ("OPEN, a new file, its last byte not 0", 1),
     ("OPEN, refused by name", 1),
     ("OPEN, refused by size", 1),
     ("OPEN, refused by ten files", 1),
