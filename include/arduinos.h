@@ -208,7 +208,9 @@ int32_t arduinos_store(uint8_t *disc, size_t disc_len, const uint8_t *name, size
 int32_t arduinos_retrieve(const uint8_t *disc, size_t disc_len, const uint8_t *name, size_t name_len, uint8_t *out,
                           size_t out_len);
 
-/* Takes a file out of the directory; its data bytes stay until something is stored over them. Returns 0.
+/* Takes a file out of the directory; its data bytes stay until something is stored over them, or a program's OPEN makes
+   a file there, which it fills with zeros. So a log that is erased and made again by OPEN has lost its tail: open it
+   without erasing it, or retrieve it first. Returns 0.
    Refused: WRONG_LENGTH, BAD_DISC, BAD_AREA, NO_SUCH_FILE, FILE_IN_USE. */
 int32_t arduinos_erase(uint8_t *disc, size_t disc_len, const uint8_t *area, size_t area_len, const uint8_t *name,
                        size_t name_len);

@@ -1,7 +1,7 @@
 -- Parts of byte buffers, and their two-byte fields.
 use Prim.Native.Nat.{ℕ, _+_, _*_, _/_, _%_}
 use mathlib.Core.List.{List, [], _∷_, _++_}
-use lib.ListN.{length, getD, take, drop}
+use lib.ListN.{length, getD, take, drop, replicate}
 
 -- n bytes from place at
 abbrev pub part : List ℕ → ℕ → ℕ → List ℕ
@@ -10,6 +10,9 @@ part l at n = take n (drop at l)
 -- s laid over l from place at; every other byte stays
 abbrev pub overwrite : List ℕ → ℕ → List ℕ → List ℕ
 overwrite l at s = take at l ++ s ++ drop (at + length s) l
+
+abbrev pub zeros : ℕ → List ℕ
+zeros n = replicate n 0
 
 -- Document 01: "Two-byte fields of both buffers are low byte first."
 abbrev pub wordAt : List ℕ → ℕ → ℕ

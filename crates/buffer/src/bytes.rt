@@ -2,7 +2,7 @@
 ghost use mathlib.Core.Path.{_≡_};
 ghost use Prim.Native.Nat.{_+_, _*_, _/_, _%_, _≤_};
 ghost use lib.ListN.{length};
-ghost use Rattle.buffer.specs.Buffer.{fourAt, overwrite, part, wordAt};
+ghost use Rattle.buffer.specs.Buffer.{fourAt, overwrite, part, wordAt, zeros};
 ghost use Rattle.buffer.specs.Lists.{same};
 
 // Document 01: "Two-byte fields of both buffers are low byte first."
@@ -65,6 +65,18 @@ pub fn overwrite_at(dst: &mut [u8], at: usize, src: &[u8])
     let mut i = 0;
     while i < src.len() {
         dst[at + i] = src[i];
+        i += 1;
+    }
+}
+
+// Lays n zeros over dst from place at.
+pub fn zero_at(dst: &mut [u8], at: usize, n: usize)
+    requires { ⌜ at + n ≤ length (now dst) ⌝ }
+    ensures { λ _. ⌜ now (dst .exit) ≡ overwrite (now (dst .entry)) at (zeros n) ⌝ }
+{
+    let mut i: usize = 0;
+    while i < n {
+        dst[at + i] = 0;
         i += 1;
     }
 }

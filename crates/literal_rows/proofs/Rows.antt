@@ -30,7 +30,7 @@ use Rattle.machine.specs.Effect.{operates, settle}
 use Rattle.machine.specs.Exec.{exec, performs}
 use Rattle.machine.specs.GoodArea.{goodFile, goodHeader, goodKernel, goodLive, goodProcess, goodRegisters, isProgram, otherId}
 use Rattle.machine.specs.Instruction.{find, instructionOf}
-use Rattle.machine.specs.Operations.{commanded, listText, processLine}
+use Rattle.machine.specs.Operations.{commanded, inUse, listText, processLine}
 use Rattle.machine.specs.Stack.{pop, popNumber, popString, wellFormed}
 use Rattle.machine.specs.Start.{starting}
 use Rattle.machine.specs.Ended.{ended}
@@ -38,18 +38,19 @@ use Rattle.machine.specs.State.{endedSlot, slotOf}
 use Rattle.machine.specs.Turn.{carriedOut, turned}
 use Rattle.literal_rows.specs.Calls.{laid, leftBy, numbers}
 use Rattle.literal_rows.specs.Goodness.{AreaRows, DiscRows}
+use Rattle.literal_rows.specs.NewFiles.{NewFilesOnBytes}
 use Rattle.literal_rows.specs.Programs.{BenchOnBytes, WaitsOnBytes}
 use Rattle.literal_rows.specs.Run.{Listings, RunOnBytes}
 
-rows : RunOnBytes × Listings × AreaRows × DiscRows × BenchOnBytes × WaitsOnBytes
-unfolding RunOnBytes Listings AreaRows DiscRows BenchOnBytes WaitsOnBytes laid leftBy numbers turns answer otherAnswer formatAnswer
+rows : RunOnBytes × Listings × AreaRows × DiscRows × BenchOnBytes × WaitsOnBytes × NewFilesOnBytes
+unfolding RunOnBytes Listings AreaRows DiscRows BenchOnBytes WaitsOnBytes NewFilesOnBytes laid leftBy numbers turns answer otherAnswer formatAnswer
     storeAnswer checked filesAnswer fileLine lookup index entryAt tab goodDisc goodFiles goodEntry goodField goodName besideEntry all
     pairs apart fits lowest place placeOf admission entered erased writtenAt readAt goodArea goodKernel goodHeader goodProcess goodLive
     goodRegisters goodFile isProgram otherId goodVariables goodVariable goodSize besideVariable kernelOf kernelBytes variablesOf flat any
     keep ended turned carriedOut answered owned freed assigned placeFor placing added exec performs find instructionOf operatorOf
     lookupOperator includes operates settle pop popNumber popString wellFormed trimmed same unary binary whole wrapped wholeBits
     convertedFloat numberOf textOf printedOf wholeOf lastDigits ofBits ofFields trailingZeros commanded starting endedSlot slotOf listText
-    processLine
+    processLine inUse
 rows = (
   (refl, refl, refl),
   (refl, refl, refl, refl),
@@ -57,6 +58,7 @@ rows = (
   (refl, refl),
   (refl, (refl, (refl, (refl, (refl, (refl, (refl, (refl, (refl, (refl, (refl, (refl, (refl, tt))))))))))))),
   (refl, (refl, (refl, tt))),
+  (refl, refl),
 )
 
 pub run-holds : RunOnBytes
@@ -76,3 +78,6 @@ bench-holds = rows .4
 
 pub waits-hold : WaitsOnBytes
 waits-hold = rows .5
+
+pub new-files-hold : NewFilesOnBytes
+new-files-hold = rows .6

@@ -6,3 +6,5 @@ pub mod Run
 pub mod Goodness
 -- K1 to K11 on bytes
 pub mod Programs
+-- a log erased and created again
+pub mod NewFiles

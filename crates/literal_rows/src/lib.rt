@@ -1,5 +1,6 @@
 // Literal rows: calls on bytes, against bytes written out at their offsets.
 ghost use Rattle.literal_rows.specs.Goodness.{AreaRows, DiscRows};
+ghost use Rattle.literal_rows.specs.NewFiles.{NewFilesOnBytes};
 ghost use Rattle.literal_rows.specs.Programs.{BenchOnBytes, WaitsOnBytes};
 ghost use Rattle.literal_rows.specs.Run.{Listings, RunOnBytes};
 
@@ -31,4 +32,9 @@ pub fn bench_on_bytes()
 // Document 02, Q-4: the request's own wait, each turn with its clock.
 pub fn waits_on_bytes()
     ensures { λ _. ⌜ WaitsOnBytes ⌝ }
+{}
+
+// Document 02, Q-8: a log erased and created again is zeros, one that was not erased keeps its bytes.
+pub fn new_files_on_bytes()
+    ensures { λ _. ⌜ NewFilesOnBytes ⌝ }
 {}

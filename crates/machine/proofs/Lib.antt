@@ -26,5 +26,7 @@ pub mod Traces
 pub mod LeftAlone
 -- a wait keeps its time
 pub mod Waiting
+-- a file that OPEN creates reads empty
+pub mod NewFiles
 -- the bench cases, the misreadings and the rows of DELAYUNTIL
 pub mod BenchCases

@@ -5,6 +5,7 @@ use mathlib.Core.List.{List, [], _∷_, _++_}
 use lib.Dec.{eqb, leb}
 use lib.IntN.{pos}
 use lib.ListN.{length, drop}
+use Rattle.buffer.specs.Buffer.{zeros}
 use Rattle.buffer.specs.Lists.{any}
 use Rattle.buffer.specs.declared.Found.{Found}
 use Rattle.buffer.specs.declared.Found.the-variants.{At, Nowhere}
@@ -14,7 +15,7 @@ use Rattle.number.specs.Compare.{equals, sizeWithin}
 use Rattle.number.specs.declared.Number.{Number}
 use Rattle.place.specs.declared.Run.{Run}
 use Rattle.store.specs.Directory.{contents, entryAt, lookup}
-use Rattle.store.specs.File.{admission, entered, readAt, writtenAt}
+use Rattle.store.specs.File.{admission, readAt, stored, writtenAt}
 use Rattle.store.specs.Layout.{dataStart}
 use Rattle.store.specs.Name.{trimmed}
 use Rattle.store.specs.declared.Admission.{Admission}
@@ -66,16 +67,18 @@ module _ (k : Kernel) (slot : ℕ) (disc : List ℕ) where
   continues l f after = carriesOn (withProcess k slot (withFile (withLocal (processAt k slot) l) f)) after
 
   -- ---- OPEN
-  -- Document 01, fault 13: "OPEN's new file refused by name, size or store's 8 or 9"
+  -- Document 01, fault 13: "OPEN's new file refused by name, size or store's 8 or 9". Document 02, Q-8: "OPEN now fills
+  -- a file it creates with zeros."
   abbrev pub createdAt : Admission → List ℕ → ℕ → Local → Answered
-  createdAt (Start s) name n l = continues l (opened (record { start = s; len = n })) (entered disc name n s)
+  createdAt (Start s) name n l =
+      continues l (opened (record { start = s; len = n })) (stored disc name (zeros n) s)
   createdAt (Denied r) name n l = breaks 13
 
   abbrev pub created : Size → List ℕ → Local → Answered
   created (Is n) name l = createdAt (admission disc name n) name n l
   created Refused name l = breaks 13
 
-  -- Document 01: "size [..] matters only for a new file, whose bytes stay as found"
+  -- Document 01: "size [..] matters only for a new file"
   abbrev pub openedAt : Found → List ℕ → Number → Local → Answered
   openedAt (At i) name size l =
       continues l (opened (record { start = entryAt disc i .start; len = entryAt disc i .len })) disc

@@ -38,6 +38,8 @@ pub mod Done
 pub mod LeftAlone
 -- a wait keeps its time
 pub mod Waiting
+-- a file that OPEN creates reads empty
+pub mod NewFile
 -- the bench cases, the misreadings and the rows of DELAYUNTIL
 pub mod Bench
 pub mod Cases

@@ -7,7 +7,7 @@ use mathlib.Core.List.{List, [], _∷_, _++_}
 use mathlib.Core.Logic.{_⊎_}
 use lib.IntN.{pos}
 use lib.ListN.{length, getD}
-use Rattle.buffer.specs.Buffer.{overwrite, part}
+use Rattle.buffer.specs.Buffer.{overwrite, part, zeros}
 use Rattle.float.specs.declared.whole.Size.the-variants.{Is}
 use Rattle.number.specs.Compare.{equals}
 use Rattle.number.specs.Value.{numberOf}
@@ -58,13 +58,13 @@ module _ (b : Buffers) (slot clock : ℕ) where
       (record { start = startOf (b .disc) i; len = sizeOf (b .disc) i; offset = 0 })
       × SameDisc b slot clock
 
-  -- of another: "whose bytes stay as found"
+  -- of another. Document 02, Q-8: "OPEN now fills a file it creates with zeros."
   abbrev pub Creates : List ℕ → List ℕ → ℕ → Type 0
   Creates rest text n =
       IsName text × (filesOn (b .disc) < maxFiles)
       × ((start : ℕ) × Lowest (Free (b .disc) n) start
       × Onward b slot clock (pcIn b slot + 1) rest (record { start = start; len = n; offset = 0 })
-      × Enters (b .disc) (turnAnswer b slot clock .disc) text (part (b .disc) start n) start)
+      × Enters (b .disc) (turnAnswer b slot clock .disc) text (zeros n) start)
 
   abbrev pub OpenExactly : Type 0
   OpenExactly =

@@ -11,6 +11,7 @@ use Rattle.buffer.specs.Lists.{all, any, keep, tab}
 use Rattle.buffer.specs.declared.Found.{Found}
 use Rattle.buffer.specs.declared.Found.the-variants.{At, Nowhere}
 use Rattle.place.specs.Place.{fits}
+use Rattle.place.specs.declared.Run.{Run}
 use Rattle.variable.specs.Limits.{maxVariables, memorySize}
 use Rattle.variable.specs.Table.{counted, isOf, owned, runOf}
 use Rattle.variable.specs.declared.Variable.{Variable}
@@ -71,21 +72,20 @@ setLacks i slot clock s =
 
 -- ---- a write that lands
 -- Document 01: "A write lands when another process with that program file open does a WRITE without fault", so it is
--- still live
-unfoldable pub writeLands : ℕ → ℕ → Event → Bool
-writeLands own writer e =
-    let p = processIn (e .before) own in
+-- still live. The file is given by its place on the disc.
+unfoldable pub writeLands : Run → ℕ → Event → Bool
+writeLands file writer e =
     let q = processIn (e .before) writer in
     eqb (executedBy (e .before) writer) 55
     && (isLive (processIn (e .after) writer)
-    && (eqb (q .file .start) (p .code .start) && eqb (q .file .len) (p .code .len)))
+    && (eqb (q .file .start) (file .start) && eqb (q .file .len) (file .len)))
 
 -- ---- an event that is not supposed: a done turn, while the process i is in slot own
 unfoldable pub turnDisturbs : ℕ → ℕ → ℕ → ℕ → Event → Bool
 unfolding writeLands lacksSpace
 turnDisturbs i own slot clock e =
     (eqb own slot && (isBarred (executedBy (e .before) slot) || setLacks i slot clock (e .before)))
-    || (not (eqb own slot) && writeLands own slot e)
+    || (not (eqb own slot) && writeLands (processIn (e .before) own .code) slot e)
 
 -- "between this one's start and end": while it is live
 abbrev pub turnDisturbsAt : ℕ → Found → ℕ → ℕ → Event → Bool

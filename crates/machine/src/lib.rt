@@ -15,6 +15,7 @@ ghost use Rattle.machine.specs.Demands.{PlacesRefusedOnly, RoundIsTurns,
 ghost use Rattle.machine.specs.Done.{DoneExactly};
 ghost use Rattle.machine.specs.Isolation.{Isolation};
 ghost use Rattle.machine.specs.LeftAlone.{LeavesAlone};
+ghost use Rattle.machine.specs.NewFile.{NewFileReadsEmpty};
 ghost use Rattle.machine.specs.Reaching.{ReachesExactly};
 ghost use Rattle.machine.specs.Tests.{RefusedExactly};
 ghost use Rattle.machine.specs.Waiting.{WaitsKeepTime};
@@ -67,6 +68,12 @@ pub fn delays()
 // Document 02, Q-4: MILLIS, INT d, PLUS, DELAYUNTIL waits d milliseconds, from every time on.
 pub fn waits_keep_time()
     ensures { λ _. ⌜ WaitsKeepTime ⌝ }
+{}
+
+// Document 02, Q-8: READSTRING as the next instruction after an OPEN that creates its file gives the empty string, whatever
+// others do between, if nobody writes into the file.
+pub fn new_file_reads_empty()
+    ensures { λ _. ⌜ NewFileReadsEmpty ⌝ }
 {}
 
 // Demand 3 in one piece: nothing but its own turns and commands shifts a process's stack, variables, place, output or

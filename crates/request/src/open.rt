@@ -40,7 +40,7 @@ fn open_run(area: &mut [u8], slot: usize, p: Process, d: Step, start: u16, len: 
     go_on(area, slot, p, d, b"", b"", file);
 }
 
-// A new file of n bytes. Document 01: "whose bytes stay as found".
+// A new file of n bytes. Document 02, Q-8: "OPEN now fills a file it creates with zeros."
 fn create_file(disc: &mut [u8], area: &mut [u8], slot: usize, p: Process, d: Step, n: u16)
     requires { ⌜ Stepping (now area) slot p d × Readable (now disc) ⌝ }
     ensures { λ _. ⌜ left (now (disc .exit)) (now (area .exit)) ≡ after (now (disc .entry)) (now (area .entry)) slot
@@ -51,7 +51,7 @@ fn create_file(disc: &mut [u8], area: &mut [u8], slot: usize, p: Process, d: Ste
     let len = d.len as usize;
     match store::file::admit(disc, &bytes[..len], n as usize) {
         Admission::Start(start) => {
-            store::file::enter(disc, &bytes[..len], n as usize, start);
+            store::file::create(disc, &bytes[..len], n as usize, start);
             open_run(area, slot, p, d, start as u16, n);
         }
         Admission::Denied(_) => finish(area, slot, FILE_REFUSED),

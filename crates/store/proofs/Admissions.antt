@@ -1,12 +1,13 @@
 -- Why a file is admitted, and why it is not.
 use Prim.Native.Nat.{ℕ, _-_, _≤_, _<_}
-use mathlib.Core.Path.{_≡_, refl, subst}
+use mathlib.Core.Path.{_≡_, refl, subst, subst⁻¹}
 use mathlib.Core.Bool.{Bool, true, false}
 use mathlib.Core.List.{List}
 use native.Mathlib.Omega.{arith}
 use lib.Dec.{leb, ltb}
-use lib.ListN.{length}
+use lib.ListN.{length, length-replicate}
 use borrow.Author.Tests.{leb-true, ltb-false, ltb-true}
+use Rattle.buffer.specs.Buffer.{zeros}
 use Rattle.buffer.specs.declared.Found.{Found}
 use Rattle.buffer.specs.declared.Found.the-variants.{At, Nowhere}
 use Rattle.buffer.proofs.Bools.{and-left}
@@ -31,6 +32,10 @@ pub record Admitted (disc name : List ℕ) (n s : ℕ) : Type 0 where
   pub new : lookup disc name ≡ Nowhere
   pub lowest : placeOf disc n ≡ At s
   pub placed : Fits (taken disc) dataStart (length disc) n s
+
+-- and so are that many zeros
+pub zeros-admitted : {disc name : List ℕ} {n s : ℕ} → Admitted disc name n s → Admitted disc name (length (zeros n)) s
+zeros-admitted {disc} {name} {n} {s} a = subst⁻¹ (λ (m : ℕ). Admitted disc name m s) (length-replicate n 0) a
 
 -- what each refusal says where a file is to be stored: "1: a buffer has the wrong length. 2: disc not good.", then
 -- "5 bad name, 6 data length 0 or above 863, 8 ten files already, 7 name exists, 9 no free run long enough", and no other

@@ -11,12 +11,12 @@ use lib.Signed.{_<ℤ_}
 use Rattle.buffer.specs.declared.Found.{Found}
 use Rattle.buffer.specs.declared.Found.the-variants.{At, Nowhere}
 use Rattle.buffer.proofs.Bools.{true-not-false}
-use Rattle.place.specs.Place.{isAt, longest, runFrom}
+use Rattle.place.specs.Place.{isAt, longest}
 use Rattle.place.proofs.Place.{longest-fits, longest-most}
 use Rattle.store.specs.Answer.{Reported, Updated, answerNumber, freeSpaceAnswer}
 use Rattle.store.specs.Answer.{storeAnswer, storeAt, updated}
 use Rattle.store.specs.Directory.{goodDisc, isDiscLength, taken}
-use Rattle.store.specs.File.{admission, entered, placeOf, writtenAt}
+use Rattle.store.specs.File.{admission, placeOf, stored}
 use Rattle.store.specs.Layout.{dataStart}
 use Rattle.store.specs.declared.Admission.{Admission}
 use Rattle.store.specs.declared.Admission.the-variants.{Start, Denied}
@@ -48,9 +48,6 @@ pub refused-not-done : (r : Refusal) (n : ℕ) → answerNumber (Refused r) ≡ 
 refused-not-done r n e = done-not-below n (subst (λ (z : ℤ). z <ℤ pos 0) e (refused-below r))
 
 -- ---- store by cases: refused, with the disc as it was, or done
-abbrev pub stored : List ℕ → List ℕ → List ℕ → ℕ → List ℕ
-stored disc name bytes s = writtenAt (entered disc name (length bytes) s) (runFrom s (length bytes)) 0 bytes
-
 pub store-cases : (disc name bytes : List ℕ) (P : Updated → Type 0)
     → ((r : Refusal) → Denial disc name (length bytes) r → P (updated (Refused r) disc))
     → ((s : ℕ) → isDiscLength (length disc) ≡ true → goodDisc disc ≡ true → Admitted disc name (length bytes) s

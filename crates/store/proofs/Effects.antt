@@ -1,4 +1,4 @@
--- What store leaves: a good disc, every other file as it was, and the new file under its name with its data.
+-- What store leaves, or OPEN of a new file: a good disc, every other file as it was, and the new file under its name with its data.
 use Prim.Native.Nat.{ℕ, _+_, _*_, _≤_, _<_}
 use mathlib.Core.Path.{_≡_, sym, ap, _∙_}
 use mathlib.Core.Bool.{true}
@@ -13,10 +13,9 @@ use Rattle.buffer.proofs.Parts.{part-of-part}
 use Rattle.place.specs.Place.{runFrom}
 use Rattle.place.proofs.Place.{apart-sym}
 use Rattle.store.specs.Directory.{contents, entryAt, fileCount, goodDisc, lookup, runOf}
-use Rattle.store.specs.File.{entered, newEntry, readAt}
+use Rattle.store.specs.File.{entered, newEntry, readAt, stored}
 use Rattle.store.specs.Layout.{countAt, entrySize}
 use Rattle.store.proofs.Admissions.{Admitted}
-use Rattle.store.proofs.Calls.{stored}
 use Rattle.store.proofs.Changes.{Inside, entered-byte, entered-count, entered-length, entered-new, entered-old, written-byte}
 use Rattle.store.proofs.Changes.{written-count, written-entry, written-length}
 use Rattle.store.proofs.Contents.{entered-contents, written-elsewhere, written-read}

@@ -78,7 +78,7 @@ pub padded-length : (name : List ℕ) → length name ≤ nameSize → length (p
 padded-length name h = length-append name (replicate (nameSize - length name) 0)
     ∙ ap (λ (k : ℕ). length name + k) (length-replicate (nameSize - length name) 0) ∙ omega arith
 
-trimmed-zeros : (n : ℕ) → trimmed (replicate n 0) ≡ []
+pub trimmed-zeros : (n : ℕ) → trimmed (replicate n 0) ≡ []
 unfolding trimmed
 trimmed-zeros zero = refl
 trimmed-zeros (suc n) = refl

@@ -2,10 +2,11 @@
 use Prim.Native.Nat.{ℕ, _+_, _*_, _-_, _≤_, _<_}
 use mathlib.Core.Path.{_≡_, sym, ap, ap₂, _∙_}
 use mathlib.Core.List.{List, _++_}
+use native.Mathlib.Nat.{add-zero}
 use native.Mathlib.Omega.{arith}
 use borrow.Author.Tests.{le-leb, lt-leb}
-use lib.ListN.{length, set, replicate, length-append}
-use Rattle.buffer.specs.Buffer.{part, overwrite}
+use lib.ListN.{length, set, replicate, length-append, length-replicate}
+use Rattle.buffer.specs.Buffer.{part, overwrite, zeros}
 use Rattle.buffer.specs.Text.{appended}
 use Rattle.buffer.specs.declared.text.Text.{Text}
 use Rattle.buffer.proofs.Buffer.{overwrite-joined, overwrite-set}
@@ -13,7 +14,7 @@ use Rattle.buffer.proofs.Parts.{part-length}
 use Rattle.buffer.proofs.Texts.{appended-joined}
 use Rattle.store.specs.Directory.{contents, entryBytes, fileCount, runOf}
 use Rattle.store.specs.Answer.{reported, retrieveFile, textAnswer}
-use Rattle.store.specs.File.{entered, erased, newEntry}
+use Rattle.store.specs.File.{entered, erased, newEntry, stored, writtenAt}
 use Rattle.store.specs.Layout.{countAt, dataStart, entrySize, maxFiles}
 use Rattle.store.specs.declared.Answer.the-variants.{Done, Refused}
 use Rattle.store.specs.declared.Entry.{Entry}
@@ -34,6 +35,12 @@ module _ (d : List ℕ) (h : dataStart ≤ length d) where
       let n = part-length d (i * entrySize + entrySize) ((last - i) * entrySize) (omega arith) in
       let laid = overwrite-joined d later (replicate entrySize 0) (i * entrySize) (last * entrySize) (omega arith) (omega arith) in
       overwrite-set z countAt last (omega arith) ∙ rw (f, e, laid, q)
+
+-- a file of zeros: entered, and its bytes zeroed
+pub created-steps : (d name : List ℕ) (n s : ℕ) → overwrite (entered d name n s) s (zeros n) ≡ stored d name (zeros n) s
+unfolding writtenAt
+created-steps d name n s =
+    ap₂ (λ (m start : ℕ). overwrite (entered d name m s) start (zeros n)) (sym (length-replicate n 0)) (sym (add-zero s))
 
 -- a line that is appended piece by piece
 pub line-appended : (t : Text) (a b c d : List ℕ) → t .len + length a + length b + length c ≤ length (t .bytes)

@@ -9,9 +9,9 @@ use Rattle.buffer.specs.Lists.{flat}
 use Rattle.buffer.specs.declared.Found.{Found}
 use Rattle.buffer.specs.declared.Found.the-variants.{At, Nowhere}
 use Rattle.decimal.specs.Decimal.{decimal}
-use Rattle.place.specs.Place.{longest, runFrom}
+use Rattle.place.specs.Place.{longest}
 use Rattle.store.specs.Directory.{contents, entryAt, files, goodDisc, isDiscLength, lookup, runOf, taken}
-use Rattle.store.specs.File.{admission, entered, unless, writtenAt}
+use Rattle.store.specs.File.{admission, stored, unless}
 use Rattle.store.specs.Layout.{dataStart}
 use Rattle.store.specs.Name.{trimmed}
 use Rattle.store.specs.declared.Admission.{Admission}
@@ -72,8 +72,7 @@ ifUsable Usable refuse rest = rest
 -- ---- store
 abbrev pub storeAt : Admission → List ℕ → List ℕ → List ℕ → Updated
 storeAt (Denied r) disc name bytes = updated (Refused r) disc
-storeAt (Start s) disc name bytes =
-    updated (Done 0) (writtenAt (entered disc name (length bytes) s) (runFrom s (length bytes)) 0 bytes)
+storeAt (Start s) disc name bytes = updated (Done 0) (stored disc name bytes s)
 
 unfoldable pub storeAnswer : List ℕ → List ℕ → List ℕ → Updated
 storeAnswer disc name bytes =

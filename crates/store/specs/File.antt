@@ -7,7 +7,7 @@ use lib.ListN.{length, replicate}
 use Rattle.buffer.specs.Buffer.{overwrite, part}
 use Rattle.buffer.specs.declared.Found.{Found}
 use Rattle.buffer.specs.declared.Found.the-variants.{At, Nowhere}
-use Rattle.place.specs.Place.{place}
+use Rattle.place.specs.Place.{place, runFrom}
 use Rattle.place.specs.declared.Run.{Run}
 use Rattle.store.specs.Directory.{contents, entryBytes, fileCount, lookup, taken}
 use Rattle.store.specs.Layout.{countAt, dataStart, entrySize, maxFiles}
@@ -69,3 +69,8 @@ writtenAt disc run offset bytes = overwrite disc (run .start + offset) bytes
 
 unfoldable pub readAt : List ℕ → Run → ℕ → ℕ → List ℕ
 readAt disc run offset n = part (contents disc run) offset n
+
+-- a file of these bytes enters the directory last: what store leaves, and OPEN's new file of zeros
+abbrev pub stored : List ℕ → List ℕ → List ℕ → ℕ → List ℕ
+stored disc name bytes start =
+    writtenAt (entered disc name (length bytes) start) (runFrom start (length bytes)) 0 bytes

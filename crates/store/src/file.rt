@@ -11,10 +11,10 @@ use place::Run;
 ghost use mathlib.Core.Path.{_≡_};
 ghost use Prim.Native.Nat.{_+_, _<_, _≤_};
 ghost use lib.ListN.{drop, length};
-ghost use Rattle.buffer.specs.Buffer.{overwrite, part};
+ghost use Rattle.buffer.specs.Buffer.{overwrite, part, zeros};
 ghost use Rattle.store.specs.Directory.{Readable, contents, fileCount};
-ghost use Rattle.store.specs.File.{admission, entered, erased, readAt, writtenAt};
-ghost use Rattle.store.specs.Layout.{entrySize, maxFiles, nameSize};
+ghost use Rattle.store.specs.File.{admission, entered, erased, readAt, stored, writtenAt};
+ghost use Rattle.store.specs.Layout.{dataStart, entrySize, maxFiles, nameSize};
 ghost use Rattle.store.specs.Name.{trimmed};
 
 // Whether a new file of n bytes is admitted under this name, and where it goes.
@@ -45,7 +45,7 @@ pub fn admit(disc: &[u8], name: &[u8], n: usize) -> Admission
     }
 }
 
-// Enters a file of n bytes at start. Its data bytes stay as found.
+// Enters a file of n bytes at start; its data bytes are for the caller to write.
 pub fn enter(disc: &mut [u8], name: &[u8], n: usize, start: usize)
     requires { ⌜ Readable (now disc) ⌝ }
     requires { ⌜ (fileCount (now disc) < maxFiles) × (length (now name) ≤ nameSize) × (n < 65536) × (start < 65536) ⌝ }
@@ -60,6 +60,17 @@ pub fn enter(disc: &mut [u8], name: &[u8], n: usize, start: usize)
     };
     crate::directory::put_entry(disc, count, entry);
     disc[COUNT_AT] = (count + 1) as u8;
+}
+
+// Enters a file of n zeros at start.
+pub fn create(disc: &mut [u8], name: &[u8], n: usize, start: usize)
+    requires { ⌜ Readable (now disc) ⌝ }
+    requires { ⌜ (fileCount (now disc) < maxFiles) × (length (now name) ≤ nameSize) ⌝ }
+    requires { ⌜ (dataStart ≤ start) × (start + n ≤ length (now disc)) ⌝ }
+    ensures { λ _. ⌜ now (disc .exit) ≡ stored (now (disc .entry)) (now (name .entry)) (zeros n) start ⌝ }
+{
+    enter(disc, name, n, start);
+    buffer::bytes::zero_at(disc, start, n);
 }
 
 // Moves the n bytes behind the entry at `at` up by one entry.

@@ -10,10 +10,9 @@ use mathlib.Core.Bool.{Bool, true, false}
 use mathlib.Core.List.{List}
 use lib.ListN.{getD, length}
 use Rattle.store.specs.Directory.{entryAt, fileCount, files, goodDisc, isDiscLength}
-use Rattle.store.specs.File.{entered, erased, writtenAt}
+use Rattle.store.specs.File.{erased, stored, writtenAt}
 use Rattle.store.specs.declared.Entry.{Entry}
 use Rattle.store.proofs.Admissions.{Admitted}
-use Rattle.store.proofs.Calls.{stored}
 use Rattle.variable.specs.Assign.{assigned, valueBytes}
 use Rattle.variable.specs.Good.{goodSize}
 use Rattle.variable.specs.declared.Placing.the-variants.{Address}
@@ -41,8 +40,7 @@ pub record GoodState (k : Kernel) (disc : List ℕ) : Type 0 where
 -- ---- what happens to the disc, or a start from the file of that name
 pub data Outside (name : List ℕ) (k : Kernel) (disc : List ℕ) (j : Kernel) (after : List ℕ) : Type 0 where
   nothing : j ≡ k → after ≡ disc → Outside name k disc j after
-  -- OPEN's new file
-  enters : (title : List ℕ) (n s : ℕ) → Admitted disc title n s → j ≡ k → after ≡ entered disc title n s → Outside name k disc j after
+  -- store, and OPEN's new file
   stores : (title bytes : List ℕ) (s : ℕ) → Admitted disc title (length bytes) s → j ≡ k → after ≡ stored disc title bytes s
       → Outside name k disc j after
   erases : (i : ℕ) → i < fileCount disc → inUse k (entryAt disc i) ≡ false → j ≡ k → after ≡ erased disc i → Outside name k disc j after
@@ -51,7 +49,6 @@ pub data Outside (name : List ℕ) (k : Kernel) (disc : List ℕ) (j : Kernel) (
 -- a file goes
 abbrev pub erasing : {name : List ℕ} {k : Kernel} {disc : List ℕ} {j : Kernel} {after : List ℕ} → Outside name k disc j after → Bool
 erasing (nothing e f) = false
-erasing (enters title n s a e f) = false
 erasing (stores title bytes s a e f) = false
 erasing (erases i h unused e f) = true
 erasing (begins slot d t e f) = false

@@ -9,6 +9,7 @@ use lib.Ieee.{Float as Binary32, nan, inf, fin, up, down}
 use lib.IntN.{ℤ, pos, negsuc}
 use lib.ListN.{length}
 use borrow.Author.Tests.{le-leb}
+use Rattle.buffer.specs.Buffer.{zeros}
 use Rattle.buffer.specs.declared.Found.{Found}
 use Rattle.buffer.specs.declared.Found.the-variants.{At, Nowhere}
 use Rattle.buffer.proofs.Bools.{and-both, true-not-false}
@@ -22,7 +23,7 @@ use Rattle.number.specs.declared.Number.{Number}
 use Rattle.number.specs.declared.Number.the-variants.{Char, Int, Float}
 use Rattle.place.specs.Place.{runFrom}
 use Rattle.store.specs.Directory.{entryAt, goodDisc, isDiscLength, lookup}
-use Rattle.store.specs.File.{admission, entered, goodSize}
+use Rattle.store.specs.File.{admission, goodSize, stored}
 use Rattle.store.specs.declared.Admission.{Admission}
 use Rattle.store.specs.declared.Admission.the-variants.{Start, Denied}
 use Rattle.store.specs.declared.Refusal.{Refusal}
@@ -94,7 +95,7 @@ module _ (disc name : List ℕ) (long : isDiscLength (length disc) ≡ true) (go
     where
       create : lookup disc name ≡ Nowhere → (n : ℕ) → newFileSize disc size ≡ Is n → (a : Admission)
           → admission disc name n ≡ a → P (createdAt k slot disc a name n l)
-      create new n e (Start s) a = goes (opened (runFrom s n)) (entered disc name n s)
+      create new n e (Start s) a = goes (opened (runFrom s n)) (stored disc name (zeros n) s)
       create new n e (Denied r) a = refused new (new-file-refused size n e new r a)
 
       judged : lookup disc name ≡ Nowhere → (s : Size) → newFileSize disc size ≡ s → P (created k slot disc s name l)

@@ -1,4 +1,4 @@
--- A file that enters, with its bytes or as the bytes that lay there, and one that goes, byte by byte.
+-- A file that enters with its bytes, and one that goes, byte by byte.
 use Prim.Native.Nat.{ℕ, _+_, _-_, _≤_, _<_}
 use mathlib.Core.Path.{_≡_, refl, sym, ap, _∙_, subst}
 use mathlib.Core.Bool.{true}
@@ -7,16 +7,13 @@ use mathlib.Core.Logic.{_⊎_, inl, inr}
 use native.Mathlib.Omega.{arith}
 use lib.ListN.{length, getD, getD-replicate}
 use Rattle.buffer.specs.Buffer.{part}
-use Rattle.buffer.proofs.Parts.{part-length}
 use Rattle.place.specs.Place.{runFrom}
 use Rattle.store.specs.Directory.{contents, entryAt, goodDisc}
-use Rattle.store.specs.File.{entered, erased, newEntry}
+use Rattle.store.specs.File.{erased, stored}
 use Rattle.store.specs.Layout.{countAt, entrySize}
 use Rattle.store.specs.declared.Entry.{Entry}
 use Rattle.store.proofs.Admissions.{Admitted}
-use Rattle.store.proofs.Calls.{stored}
-use Rattle.store.proofs.Changes.{Present, entered-byte, entered-count, entered-new, erased-byte, erased-count, erased-moved, erased-vacated}
-use Rattle.store.proofs.Contents.{entered-contents}
+use Rattle.store.proofs.Changes.{Present, erased-byte, erased-count, erased-moved, erased-vacated}
 use Rattle.store.proofs.Effects.{stored-byte, stored-count, stored-data, stored-new}
 use Rattle.store.proofs.Invariant.{room}
 use Rattle.machine.specs.Changed.{Enters, Leaves}
@@ -26,39 +23,20 @@ use Rattle.machine.proofs.Fields.Names.{padded-spells}
 use Rattle.machine.proofs.Fields.Parts.{is-part}
 
 -- ---- a file enters
-enters : {disc name : List ℕ} {n s : ℕ} (after bytes : List ℕ) → Admitted disc name n s → length bytes ≡ n
-    → filesOn after ≡ filesOn disc + 1
-    → entryAt after (filesOn disc) ≡ newEntry name n s
-    → contents after (runFrom s n) ≡ bytes
-    → ((j : ℕ) → (j ≡ countAt → ⊥)
-    → (j < entryStart (filesOn disc)) ⊎ (entryStart (filesOn disc) + entrySize ≤ j)
-    → (j < s) ⊎ (s + n ≤ j)
-    → getD after j 0 ≡ getD disc j 0)
-    → Enters disc after name bytes s
-enters {disc} {name} {n} {s} after bytes a size count new holds rest =
-    record {
-      count = count;
-      spelled = padded-spells name (room a .short) after (entryStart (filesOn disc))
-          (sym (entry-name after (filesOn disc)) ∙ ap (λ (e : Entry). e .name) new);
-      starts = sym (entry-start after (filesOn disc)) ∙ ap (λ (e : Entry). e .start) new;
-      sized = sym (entry-size after (filesOn disc)) ∙ ap (λ (e : Entry). e .len) new ∙ sym size;
-      holds = ap (part after s) size ∙ holds;
-      rest = λ j k e o. rest j k e (subst (λ (m : ℕ). (j < s) ⊎ (s + m ≤ j)) size o);
-    }
-
--- its data bytes as they lay there
-pub entered-enters : {disc name : List ℕ} {n s : ℕ} → Admitted disc name n s
-    → Enters disc (entered disc name n s) name (part disc s n) s
-entered-enters {disc} {name} {n} {s} a =
-    enters (entered disc name n s) (part disc s n) a (part-length disc s n (a .placed .high)) (entered-count n s (room a))
-    (entered-new n s (room a)) (entered-contents n s (room a) (runFrom s n) (a .placed .low))
-    (λ j k e o. entered-byte n s (room a) j e k)
-
 pub stored-enters : {disc name : List ℕ} {s : ℕ} (bytes : List ℕ) → goodDisc disc ≡ true → Admitted disc name (length bytes) s
     → Enters disc (stored disc name bytes s) name bytes s
 stored-enters {disc} {name} {s} bytes good a =
-    enters (stored disc name bytes s) bytes a refl (stored-count bytes good a) (stored-new bytes good a) (stored-data bytes good a)
-    (stored-byte bytes good a)
+    let after : List ℕ = stored disc name bytes s in
+    let new = stored-new bytes good a in
+    record {
+      count = stored-count bytes good a;
+      spelled = padded-spells name (room a .short) after (entryStart (filesOn disc))
+          (sym (entry-name after (filesOn disc)) ∙ ap (λ (e : Entry). e .name) new);
+      starts = sym (entry-start after (filesOn disc)) ∙ ap (λ (e : Entry). e .start) new;
+      sized = sym (entry-size after (filesOn disc)) ∙ ap (λ (e : Entry). e .len) new;
+      holds = stored-data bytes good a;
+      rest = stored-byte bytes good a;
+    }
 
 -- ---- a file goes
 pub erased-leaves : {disc : List ℕ} {i : ℕ} → Present disc i → Leaves disc (erased disc i) i

@@ -8,6 +8,7 @@ use native.Mathlib.Omega.{arith}
 use lib.Dec.{eqb, leb}
 use lib.ListN.{drop, length, length-append}
 use borrow.Author.Tests.{leb-true}
+use Rattle.buffer.specs.Buffer.{zeros}
 use Rattle.buffer.specs.Lists.{any}
 use Rattle.buffer.specs.declared.Found.{Found}
 use Rattle.buffer.specs.declared.Found.the-variants.{At, Nowhere}
@@ -16,11 +17,11 @@ use Rattle.float.specs.declared.whole.Size.the-variants.{Is, Refused}
 use Rattle.number.specs.declared.Number.{Number}
 use Rattle.place.specs.Place.{runFrom}
 use Rattle.store.specs.Directory.{contents, entryAt, files, lookup}
-use Rattle.store.specs.File.{admission, entered, readAt, writtenAt}
+use Rattle.store.specs.File.{admission, readAt, stored, writtenAt}
 use Rattle.store.specs.declared.Admission.{Admission}
 use Rattle.store.specs.declared.Admission.the-variants.{Start, Denied}
 use Rattle.store.specs.declared.Entry.{Entry}
-use Rattle.store.proofs.Admissions.{Admitted, admitted}
+use Rattle.store.proofs.Admissions.{Admitted, admitted, zeros-admitted}
 use Rattle.machine.specs.Beyond.{advanced, Answered, carriesOn, breaks, answered, continues, created, createdAt, fileRun, forked}
 use Rattle.machine.specs.Beyond.{inside, isAwaited, newFileSize, opened, openedAt, pushed, pushId, received, unlessBreaks}
 use Rattle.machine.specs.Beyond.{withOpenFile}
@@ -35,8 +36,8 @@ use Rattle.machine.specs.declared.Process.{Process}
 use Rattle.machine.proofs.Changes.Change.{GoodState}
 use Rattle.machine.proofs.Changes.LiveRecords.{program-length, running-live, within-local}
 use Rattle.machine.proofs.Goodness.GoodLaws.{good-kernel-is}
-use Rattle.machine.proofs.InBytes.ByteDiscs.{contents-bytes, entered-bytes, entry-at, new-entry, read-bytes, written-bytes}
-use Rattle.machine.proofs.Bytes.ByteLists.{Bytes, IsByte, append-bytes, drop-bytes, one-byte, trimmed-bytes}
+use Rattle.machine.proofs.InBytes.ByteDiscs.{contents-bytes, entry-at, new-entry, read-bytes, stored-bytes, written-bytes}
+use Rattle.machine.proofs.Bytes.ByteLists.{Bytes, IsByte, append-bytes, drop-bytes, one-byte, trimmed-bytes, zeros-bytes}
 use Rattle.machine.proofs.InBytes.ByteStates.{ByteFile, ByteKernel, ByteProcess, process-at}
 use Rattle.machine.proofs.InBytes.ByteSteps.{ByteEntry, ByteLocal, started-bytes, with-file, with-local, with-process}
 use Rattle.machine.proofs.Bytes.Each.{Each}
@@ -93,8 +94,9 @@ module _ {k : Kernel} {disc : List ℕ} (good : GoodState k disc) (h : ByteKerne
       create : (n s : ℕ) → Admitted disc name n s → ByteAnswered (createdAt k slot disc (Start s) name n l)
       create n s a =
           let e = new-entry disc d name n s (good .long) a in
-          continued l (opened (runFrom s n)) (entered disc name n s) b
-          (record { start = e .start; len = e .len; offset = omega arith }) (entered-bytes disc d name n s (good .long) a)
+          continued l (opened (runFrom s n)) (stored disc name (zeros n) s) b
+          (record { start = e .start; len = e .len; offset = omega arith })
+          (stored-bytes disc d name (zeros n) s (good .long) (zeros-admitted a) (zeros-bytes n))
 
       judged : (n : ℕ) (a : Admission) → admission disc name n ≡ a → ByteAnswered (createdAt k slot disc a name n l)
       judged n (Start s) e = create n s (admitted disc name n s e)

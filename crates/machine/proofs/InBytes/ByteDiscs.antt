@@ -11,7 +11,7 @@ use Rattle.buffer.specs.Buffer.{overwrite, part, wordBytes}
 use Rattle.buffer.proofs.Bools.{and-right}
 use Rattle.place.specs.declared.Run.{Run}
 use Rattle.store.specs.Directory.{contents, entryAt, entryBytes, fileCount, isDiscLength}
-use Rattle.store.specs.File.{entered, erased, newEntry, readAt, writtenAt}
+use Rattle.store.specs.File.{entered, erased, newEntry, readAt, stored, writtenAt}
 use Rattle.store.specs.Layout.{countAt, discLength, entrySize, nameSize}
 use Rattle.store.specs.Name.{goodName, isNameByte, padded}
 use Rattle.store.specs.declared.Entry.{Entry}
@@ -63,7 +63,7 @@ module _ (disc : List ℕ) (h : Bytes disc) where
     len = omega (arith, a .placed .high, eqb-true (length disc) discLength long);
   }
 
-  pub entered-bytes : (name : List ℕ) (n s : ℕ) → isDiscLength (length disc) ≡ true → Admitted disc name n s
+  entered-bytes : (name : List ℕ) (n s : ℕ) → isDiscLength (length disc) ≡ true → Admitted disc name n s
       → Bytes (entered disc name n s)
   unfolding entered
   entered-bytes name n s long a =
@@ -71,6 +71,12 @@ module _ (disc : List ℕ) (h : Bytes disc) where
       (overwrite-bytes disc (fileCount disc * entrySize) (entryBytes (newEntry name n s)) h
       (entry-bytes (newEntry name n s) (new-entry name n s long a)))
       (one-byte (fileCount disc + 1) (omega (arith, a .few)))
+
+  pub stored-bytes : (name bytes : List ℕ) (s : ℕ) → isDiscLength (length disc) ≡ true → Admitted disc name (length bytes) s → Bytes bytes
+      → Bytes (stored disc name bytes s)
+  unfolding writtenAt
+  stored-bytes name bytes s long a b =
+      overwrite-bytes (entered disc name (length bytes) s) (s + 0) bytes (entered-bytes name (length bytes) s long a) b
 
   pub erased-bytes : (i : ℕ) → Bytes (erased disc i)
   unfolding erased

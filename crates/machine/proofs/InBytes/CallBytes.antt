@@ -15,7 +15,7 @@ use Rattle.decimal.specs.Decimal.{decimal}
 use Rattle.place.specs.Place.{runFrom}
 use Rattle.store.specs.Answer.{Reported, fileLine, filesAnswer, reported, retrieveAnswer, retrieveAt}
 use Rattle.store.specs.Directory.{contents, entryAt, fileCount, files as entries, isDiscLength, lookup, runOf}
-use Rattle.store.specs.File.{entered, unless}
+use Rattle.store.specs.File.{unless}
 use Rattle.store.specs.Name.{trimmed}
 use Rattle.store.specs.declared.Answer.the-variants.{Done, Refused}
 use Rattle.store.specs.declared.Entry.{Entry}
@@ -40,7 +40,7 @@ use Rattle.machine.specs.declared.Process.{Process}
 use Rattle.machine.proofs.Changes.Change.{GoodState}
 use Rattle.machine.proofs.Demands.GoodCalls.{passes-good}
 use Rattle.machine.proofs.InBytes.AnswerBytes.{starting-bytes}
-use Rattle.machine.proofs.InBytes.ByteDiscs.{contents-bytes, entered-bytes, entry-at, erased-bytes, written-bytes}
+use Rattle.machine.proofs.InBytes.ByteDiscs.{contents-bytes, entry-at, erased-bytes, stored-bytes}
 use Rattle.machine.proofs.Bytes.ByteLists.{Bytes, IsByte, append-bytes, are-bytes, bytes-of, decimal-bytes, one-byte}
 use Rattle.machine.proofs.Bytes.ByteLists.{overwrite-bytes, trimmed-bytes, zeros-bytes}
 use Rattle.machine.proofs.InBytes.ByteStates.{ByteKernel, ByteProcess, kernel-bytes, kernel-of, process-at}
@@ -173,8 +173,7 @@ module _ (b : Buffers) (hd : Bytes (b .disc)) (ha : Bytes (b .area)) (ho : Bytes
   unfolding answer otherAnswer k
   other-bytes (store name bytes) g =
       store-cases (b .disc) name bytes (λ u. Left (onDisc u b)) (λ r d. (hd, ha, ho)) λ s l e a. (
-        written-bytes (entered (b .disc) name (length bytes) s) (entered-bytes (b .disc) hd name (length bytes) s l a)
-            (runFrom s (length bytes)) 0 bytes g,
+        stored-bytes (b .disc) hd name bytes s l a g,
         ha,
         ho,
       )

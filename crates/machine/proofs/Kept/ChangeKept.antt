@@ -7,20 +7,23 @@ use mathlib.Core.Logic.{_⊎_, inl, inr}
 use native.Mathlib.Omega.{arith}
 use lib.ListN.{getD}
 use Rattle.buffer.specs.declared.Found.the-variants.{At, Nowhere}
+use Rattle.place.specs.declared.Run.{Run}
+use Rattle.store.specs.Directory.{contents}
 use Rattle.variable.specs.Table.{owned}
 use Rattle.machine.specs.State.{isLive, processAt, slotOf}
 use Rattle.machine.specs.Turn.{programOf}
 use Rattle.machine.specs.declared.Kernel.{Kernel}
 use Rattle.machine.specs.declared.Process.{Process}
 use Rattle.machine.proofs.Changes.Change.{GoodState, Own, moves, Writes, Change, acts, writes}
+use Rattle.machine.proofs.Changes.Directories.{FileAt}
 use Rattle.machine.proofs.Kept.Begun.{Begun}
 use Rattle.machine.proofs.Kept.EndedIds.{outside-begun, outside-gone}
 use Rattle.machine.proofs.Kept.Gone.{Gone}
 use Rattle.machine.proofs.Kept.OutsideKept.{outside-good}
-use Rattle.machine.proofs.Kept.OutsideSpares.{outside-spares}
+use Rattle.machine.proofs.Kept.OutsideSpares.{outside-contents, outside-spares}
 use Rattle.machine.proofs.Kept.OwnKept.{moved-good, own-good}
 use Rattle.machine.proofs.Kept.OwnSpared.{own-gone, own-none, own-process, own-variables}
-use Rattle.machine.proofs.Kept.WritesKept.{writes-good, writes-program}
+use Rattle.machine.proofs.Kept.WritesKept.{writes-contents, writes-good}
 use Rattle.machine.proofs.Changes.Replaced.{put-at}
 use Rattle.machine.proofs.Kept.Spared.{Spared}
 use Rattle.machine.proofs.Changes.Slots.{slot-is}
@@ -30,11 +33,11 @@ pub record Untouched (s : ℕ) (k j : Kernel) : Type 0 where
   pub process : processAt j s ≡ processAt k s
   pub variables : owned (j .variables) (processAt k s .id) ≡ owned (k .variables) (processAt k s .id)
 
--- the process in slot w does no WRITE without fault into the file that the process in slot s runs
-abbrev pub NoWriteInto : ℕ → ℕ → Kernel → List ℕ → Kernel → Type 0
-NoWriteInto s w k disc j =
+-- the process in slot w does no WRITE without fault into that file
+abbrev pub NoWriteInto : Run → ℕ → Kernel → List ℕ → Kernel → Type 0
+NoWriteInto file w k disc j =
     getD (programOf disc (processAt k w)) (processAt k w .pc) 0 ≡ 55 → isLive (processAt j w) ≡ true
-    → processAt k w .file .start ≡ processAt k s .code .start → processAt k w .file .len ≡ processAt k s .code .len → ⊥
+    → processAt k w .file .start ≡ file .start → processAt k w .file .len ≡ file .len → ⊥
 
 -- what a WRITE does to its process
 own-of-write : {w : ℕ} {k j : Kernel} {disc after : List ℕ} → Writes w k disc j after → Own w k disc j
@@ -69,12 +72,13 @@ module _ (name : List ℕ) (w : ℕ) (k : Kernel) (disc : List ℕ) (j : Kernel)
         let o = own-of-write x in
         record { process = own-process s other o; variables = own-variables s good live other o }
 
-    pub change-program : NoWriteInto s w k disc j → Change name w k disc j after
-        → programOf after (processAt k s) ≡ programOf disc (processAt k s)
-    change-program safe (acts m o still x) = outside-spares good s live o .program
-    change-program safe (writes x) =
-        let p : processAt j w ≡ x .process = ap (λ (h : Kernel). processAt h w) (x .kernel) ∙ put-at k w (x .process) (x .goes .before) in
-        writes-program good x s live (safe (x .instruction) (ap isLive p ∙ x .goes .live))
+  -- ---- a file
+  pub change-contents : {file : Run} → FileAt disc file → NoWriteInto file w k disc j → Change name w k disc j after
+      → contents after file ≡ contents disc file
+  change-contents file safe (acts m o still x) = outside-contents good file o
+  change-contents file safe (writes x) =
+      let p : processAt j w ≡ x .process = ap (λ (h : Kernel). processAt h w) (x .kernel) ∙ put-at k w (x .process) (x .goes .before) in
+      writes-contents good x file (safe (x .instruction) (ap isLive p ∙ x .goes .live))
 
   -- ---- IDs
   pub change-gone : (i : ℕ) → Gone i k → Change name w k disc j after → Gone i j

@@ -16,7 +16,7 @@ use Rattle.machine.specs.declared.Kernel.{Kernel}
 use Rattle.machine.specs.declared.Process.{Process}
 use Rattle.machine.proofs.Kept.Begins.{Begins, started-cases, started-new, starting-begins}
 use Rattle.machine.proofs.Kept.Begun.{Begun}
-use Rattle.machine.proofs.Changes.Change.{GoodState, Outside, nothing, enters, stores, erases, begins}
+use Rattle.machine.proofs.Changes.Change.{GoodState, Outside, nothing, stores, erases, begins}
 use Rattle.machine.proofs.Kept.Gone.{Gone}
 use Rattle.machine.proofs.Changes.LiveIds.{none-owned}
 use Rattle.machine.proofs.Changes.Slots.{slot-none, slot-nowhere}
@@ -49,7 +49,6 @@ module _ {name : List ℕ} {k : Kernel} {disc : List ℕ} {slot : ℕ} {e : Entr
 module _ {name : List ℕ} {k : Kernel} {disc : List ℕ} {j : Kernel} {after : List ℕ} (i : ℕ) (g : GoodState k disc) where
   pub outside-gone : Gone i k → Outside name k disc j after → Gone i j
   outside-gone gone (nothing e f) = subst⁻¹ (λ (x : Kernel). Gone i x) e gone
-  outside-gone gone (enters title n s a e f) = subst⁻¹ (λ (x : Kernel). Gone i x) e gone
   outside-gone gone (stores title bytes s a e f) = subst⁻¹ (λ (x : Kernel). Gone i x) e gone
   outside-gone gone (erases n h u e f) = subst⁻¹ (λ (x : Kernel). Gone i x) e gone
   outside-gone gone (begins slot d t e f) =
@@ -61,7 +60,6 @@ module _ {name : List ℕ} {k : Kernel} {disc : List ℕ} {j : Kernel} {after : 
 
   pub outside-begun : slotOf k i ≡ Nowhere → Outside name k disc j after → (slotOf j i ≡ Nowhere) ⊎ Begun name i disc j after
   outside-begun none (nothing e f) = inl (subst⁻¹ (λ (x : Kernel). slotOf x i ≡ Nowhere) e none)
-  outside-begun none (enters title n s a e f) = inl (subst⁻¹ (λ (x : Kernel). slotOf x i ≡ Nowhere) e none)
   outside-begun none (stores title bytes s a e f) = inl (subst⁻¹ (λ (x : Kernel). slotOf x i ≡ Nowhere) e none)
   outside-begun none (erases n h u e f) = inl (subst⁻¹ (λ (x : Kernel). slotOf x i ≡ Nowhere) e none)
   outside-begun none (begins slot d t e f) =

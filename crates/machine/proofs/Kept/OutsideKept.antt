@@ -7,19 +7,18 @@ use native.Mathlib.Omega.{arith}
 use lib.ListN.{length}
 use Rattle.buffer.proofs.Bools.{and-left, true-not-false}
 use Rattle.store.specs.Directory.{entryAt, fileCount, goodDisc}
-use Rattle.store.specs.File.{entered, erased}
+use Rattle.store.specs.File.{erased, stored}
 use Rattle.store.specs.declared.Entry.{Entry}
 use Rattle.store.proofs.Admissions.{Admitted}
-use Rattle.store.proofs.Calls.{stored}
-use Rattle.store.proofs.Changes.{entered-count, entered-length, entered-old, erased-length, erased-to}
+use Rattle.store.proofs.Changes.{erased-length, erased-to}
 use Rattle.store.proofs.Effects.{stored-found, stored-good, stored-length, stored-old}
-use Rattle.store.proofs.Invariant.{entered-good, erased-good, present, room}
+use Rattle.store.proofs.Invariant.{erased-good, present}
 use Rattle.store.proofs.Lookups.{lookup-at}
 use Rattle.machine.specs.Operations.{inUse, uses}
 use Rattle.machine.specs.State.{isLive, noProcess, processAt}
 use Rattle.machine.specs.declared.Kernel.{Kernel}
 use Rattle.machine.proofs.Kept.Begins.{starting-begins}
-use Rattle.machine.proofs.Changes.Change.{GoodState, Outside, nothing, enters, stores, erases, begins}
+use Rattle.machine.proofs.Changes.Change.{GoodState, Outside, nothing, stores, erases, begins}
 use Rattle.machine.proofs.Changes.Directories.{Again, files-good}
 use Rattle.buffer.proofs.Kept.{any-at}
 use Rattle.machine.proofs.Changes.Slots.{live-inside}
@@ -27,10 +26,6 @@ use Rattle.machine.proofs.Kept.StartKept.{started-good}
 
 -- ---- the files that keep their entry
 module _ {disc : List ℕ} (i : ℕ) (h : i < fileCount disc) where
-  pub entered-again : {title : List ℕ} {n s : ℕ} → Admitted disc title n s → Again disc (entered disc title n s) i
-  entered-again {title} {n} {s} a =
-      record { place = i; inside = omega (arith, entered-count n s (room a)); same = entered-old n s (room a) i h }
-
   pub stored-again : {title : List ℕ} {s : ℕ} (bytes : List ℕ) → goodDisc disc ≡ true → Admitted disc title (length bytes) s
       → Again disc (stored disc title bytes s) i
   stored-again {title} {s} bytes good a =
@@ -43,13 +38,8 @@ module _ {disc : List ℕ} (i : ℕ) (h : i < fileCount disc) where
   pub erased-again : (m : ℕ) → goodDisc disc ≡ true → m < fileCount disc → (i ≡ m → ⊥) → Again disc (erased disc m) i
   erased-again m good l other = let f = erased-to (present disc good m l) i h other in record { place = f .0; inside = f .1; same = f .2 }
 
--- ---- OPEN's new file, and store
+-- ---- store, and OPEN's new file
 module _ {k : Kernel} {disc title : List ℕ} (g : GoodState k disc) where
-  pub entered-state-good : (n s : ℕ) → Admitted disc title n s → GoodState k (entered disc title n s)
-  entered-state-good n s a =
-      files-good (entered disc title n s) g (entered-length n s (room a)) (entered-good a (g .sound))
-      (λ slot i h u. entered-again i h a)
-
   pub stored-state-good : (bytes : List ℕ) (s : ℕ) → Admitted disc title (length bytes) s → GoodState k (stored disc title bytes s)
   stored-state-good bytes s a =
       files-good (stored disc title bytes s) g (stored-length bytes (g .sound) a) (stored-good bytes (g .sound) a)
@@ -78,7 +68,6 @@ outside-good name k disc j after g = kinds
 
     kinds : Outside name k disc j after → GoodState j after
     kinds (nothing e f) = become _ _ e f g
-    kinds (enters title n s a e f) = become _ _ e f (entered-state-good g n s a)
     kinds (stores title bytes s a e f) = become _ _ e f (stored-state-good g bytes s a)
     kinds (erases i h u e f) = become _ _ e f (erased-state-good g i h u)
     kinds (begins slot d t e f) = become _ _ e f (started-good g (starting-begins name k disc slot d t))

@@ -15,16 +15,16 @@ use Rattle.buffer.proofs.Bools.{and-left, and-right, true-not-false}
 use Rattle.buffer.proofs.Parts.{part-byte}
 use Rattle.place.specs.declared.Run.{Run}
 use Rattle.store.specs.Directory.{contents, entryAt, fileCount, goodDisc, isDiscLength, lookup, runOf}
-use Rattle.store.specs.File.{entered, erased, writtenAt}
+use Rattle.store.specs.File.{erased, stored, writtenAt}
 use Rattle.store.specs.declared.Entry.{Entry}
 use Rattle.store.proofs.Admissions.{Admitted}
-use Rattle.store.proofs.Calls.{store-cases, stored}
+use Rattle.store.proofs.Calls.{store-cases}
 use Rattle.store.proofs.Changes.{Inside, written-count, written-entry}
 use Rattle.store.proofs.Checks.{readable}
-use Rattle.store.proofs.Contents.{entered-contents, erased-contents, written-other-file}
+use Rattle.store.proofs.Contents.{erased-contents, written-other-file}
 use Rattle.store.proofs.Effects.{stored-contents}
 use Rattle.store.proofs.Goodness.{good-disc-is, good-entry-at}
-use Rattle.store.proofs.Invariant.{file-inside, present, room}
+use Rattle.store.proofs.Invariant.{file-inside, present}
 use Rattle.store.proofs.Lookups.{Located, located-once, lookup-at}
 use Rattle.variable.proofs.Views.{take-bound}
 use Rattle.machine.specs.Answer.{Answer, Buffers, Other, store, retrieve, erase, files, freeSpace, list, Call, turn, round}
@@ -39,13 +39,13 @@ use Rattle.machine.specs.Operations.{inUse}
 use Rattle.machine.specs.Refusals.{Passes}
 use Rattle.machine.specs.State.{isRunning, processAt}
 use Rattle.machine.specs.declared.Kernel.{Kernel}
-use Rattle.machine.proofs.Changes.Change.{Change, GoodState, Outside, Writes, acts, begins, enters, erases, erasing, nothing, stores}
+use Rattle.machine.proofs.Changes.Change.{Change, GoodState, Outside, Writes, acts, begins, erases, erasing, nothing, stores}
 use Rattle.machine.proofs.Changes.Change.{writes}
 use Rattle.machine.proofs.Changes.Directories.{Again, FileAt, open-at}
 use Rattle.machine.proofs.Demands.GoodCalls.{passes-good, turn-is-change}
 use Rattle.machine.proofs.Fields.Files.{entry-size, entry-start, located-named, named-located}
 use Rattle.machine.proofs.Fields.Slots.{open-size-is, open-start-is}
-use Rattle.machine.proofs.Kept.OutsideKept.{entered-again, erased-again, stored-again}
+use Rattle.machine.proofs.Kept.OutsideKept.{erased-again, stored-again}
 use Rattle.machine.proofs.LeftAlone.Buffers.{call-leaves}
 use Rattle.machine.proofs.Operations.Tests.{on-tests, tried}
 
@@ -76,11 +76,6 @@ module _ {disc name : List ℕ} {i : ℕ} (n : Named disc name i) where
       sym (entry-size after (a .place)) ∙ ap (λ (e : Entry). e .len) (a .same) ∙ entry-size disc i,
       subst₂ (λ (s m : ℕ). part after s m ≡ part disc s m) (entry-start disc i) (entry-size disc i) held,
     )
-
-    entered-remains : (title : List ℕ) (m s : ℕ) → Admitted disc title m s → Remains disc (entered disc title m s) name i
-    entered-remains title m s a =
-        again-remains (entered disc title m s) (entered-again i (here .inside) a)
-        (entered-contents m s (room a) (runOf (entryAt disc i)) (good-entry-at disc good i (here .inside) .low))
 
     stored-remains : (title bytes : List ℕ) (s : ℕ) → Admitted disc title (length bytes) s → Remains disc (stored disc title bytes s) name i
     stored-remains title bytes s a =
@@ -136,7 +131,6 @@ module _ (b : Buffers) (name : List ℕ) (i : ℕ) (n : Named (b .disc) name i) 
     outside-remains : {title : List ℕ} {j : Kernel} {after : List ℕ} (o : Outside title k (b .disc) j after) → erasing o ≡ false
         → Remains (b .disc) after name i
     outside-remains (nothing e f) q = same-disc n f
-    outside-remains (enters title m s a e f) q = remains-as n f (entered-remains n (good .long) (good .sound) title m s a)
     outside-remains (stores title bytes s a e f) q = remains-as n f (stored-remains n (good .long) (good .sound) title bytes s a)
     outside-remains (erases m h unused e f) q = absurd (true-not-false refl q)
     outside-remains (begins child d t e f) q = same-disc n f

@@ -1,13 +1,14 @@
 -- OPEN, WRITE and the READs: every answer of the disc is a change.
 use Prim.Native.Nat.{ℕ, _+_, _≤_, _<_}
-use mathlib.Core.Path.{_≡_, refl, sym, subst⁻¹}
+use mathlib.Core.Path.{_≡_, refl, sym, ap, subst⁻¹, _∙_}
 use mathlib.Core.Bool.{Bool, true, false, cond}
 use mathlib.Core.List.{List, [], _∷_, _++_}
 use mathlib.Core.Logic.{inl, inr}
 use native.Mathlib.Omega.{arith}
 use lib.Dec.{eqb, leb}
-use lib.ListN.{length, drop, getD}
+use lib.ListN.{length, drop, getD, length-replicate}
 use borrow.Author.Tests.{eqb-false, leb-true}
+use Rattle.buffer.specs.Buffer.{zeros}
 use Rattle.buffer.specs.declared.Found.{Found}
 use Rattle.buffer.specs.declared.Found.the-variants.{At, Nowhere}
 use Rattle.buffer.proofs.Lists.{tab-at, tab-length}
@@ -16,15 +17,14 @@ use Rattle.float.specs.declared.whole.Size.the-variants.{Is, Refused}
 use Rattle.number.specs.declared.Number.{Number}
 use Rattle.place.specs.Place.{runFrom}
 use Rattle.store.specs.Directory.{contents, entryAt, fileCount, files, lookup}
-use Rattle.store.specs.File.{admission, entered, readAt, writtenAt}
+use Rattle.store.specs.File.{admission, readAt, stored, writtenAt}
 use Rattle.store.specs.Name.{trimmed}
 use Rattle.store.specs.declared.Admission.{Admission}
 use Rattle.store.specs.declared.Admission.the-variants.{Start, Denied}
 use Rattle.store.specs.declared.Entry.{Entry}
-use Rattle.store.proofs.Admissions.{Admitted, admitted}
-use Rattle.store.proofs.Changes.{entered-count, entered-new}
+use Rattle.store.proofs.Admissions.{Admitted, admitted, zeros-admitted}
+use Rattle.store.proofs.Effects.{stored-count, stored-new}
 use Rattle.store.proofs.Goodness.{good-entry-at}
-use Rattle.store.proofs.Invariant.{room}
 use Rattle.store.proofs.Lookups.{lookup-at}
 use Rattle.machine.specs.Beyond.{advanced, Answered, breaks, continues, created, createdAt, fileRun, inside, newFileSize, opened}
 use Rattle.machine.specs.Beyond.{openedAt}
@@ -38,7 +38,7 @@ use Rattle.machine.specs.declared.Kernel.{Kernel}
 use Rattle.machine.specs.declared.OpenFile.{OpenFile}
 use Rattle.machine.specs.declared.Process.{Process}
 use Rattle.machine.proofs.Operations.Carrying.{ends-here, goes-on}
-use Rattle.machine.proofs.Changes.Change.{GoodState, nothing, enters, moves, Change, acts, writes}
+use Rattle.machine.proofs.Changes.Change.{GoodState, nothing, stores, moves, Change, acts, writes}
 use Rattle.buffer.proofs.Kept.{any-at}
 use Rattle.machine.proofs.Goodness.GoodRecords.{GoodFile, Opened, is-open-in}
 use Rattle.machine.proofs.Changes.Directories.{live-record}
@@ -79,7 +79,7 @@ entry-opened disc i n s h e m some =
         (is-open-in f (entryAt disc i) (record { start = sym e; len = sym m }))
 
 -- a file that is open has its run in the directory
-opened-of : (es : List Entry) (f : OpenFile) → GoodFile es f → eqb (f .len) 0 ≡ false → Opened es f
+pub opened-of : (es : List Entry) (f : OpenFile) → GoodFile es f → eqb (f .len) 0 ≡ false → Opened es f
 opened-of es f (inl c) e = absurd (eqb-false (f .len) 0 e (c .len))
 opened-of es f (inr o) e = o
 
@@ -114,11 +114,14 @@ module _ {k : Kernel} {disc : List ℕ} (good : GoodState k disc) (slot : ℕ) (
     where
       create : (n s : ℕ) → Admitted disc title n s → Changes (createdAt k slot disc (Start s) title n l)
       create n s a =
-          acts k (enters title n s a refl refl) refl
+          let after : List ℕ = stored disc title (zeros n) s in
+          let z = zeros-admitted a in
+          let new = stored-new (zeros n) (good .sound) z in
+          acts k (stores title (zeros n) s z refl refl) refl
           (moves (withFile (withLocal p l) (opened (runFrom s n)))
-          (goes-on good slot live (entered disc title n s) l (opened (runFrom s n)) fits
-          (inr (entry-opened (entered disc title n s) (fileCount disc) n s (omega (arith, entered-count n s (room a)))
-          (rw (entered-new n s (room a))) (rw (entered-new n s (room a))) (a .some))))
+          (goes-on good slot live after l (opened (runFrom s n)) fits
+          (inr (entry-opened after (fileCount disc) n s (omega (arith, stored-count (zeros n) (good .sound) z))
+          (ap (λ (e : Entry). e .start) new) (ap (λ (e : Entry). e .len) new ∙ length-replicate n 0) (a .some))))
           refl)
 
       judged : (n : ℕ) (a : Admission) → admission disc title n ≡ a → Changes (createdAt k slot disc a title n l)

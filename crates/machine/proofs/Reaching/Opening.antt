@@ -3,7 +3,7 @@ use Prim.Native.Nat.{ℕ, _+_}
 use mathlib.Core.Path.{_≡_, refl, ap, subst⁻¹, _∙_}
 use mathlib.Core.List.{List}
 use mathlib.Core.Logic.{_⊎_, inl, inr}
-use Rattle.buffer.specs.Buffer.{part}
+use Rattle.buffer.specs.Buffer.{zeros}
 use Rattle.buffer.specs.declared.Found.{Found}
 use Rattle.buffer.specs.declared.Found.the-variants.{At, Nowhere}
 use Rattle.float.specs.declared.whole.Size.{Size}
@@ -13,10 +13,10 @@ use Rattle.number.specs.declared.Number.{Number}
 use Rattle.place.specs.Place.{runFrom}
 use Rattle.place.specs.declared.Run.{Run}
 use Rattle.store.specs.Directory.{entryAt, lookup, runOf}
-use Rattle.store.specs.File.{admission, entered}
+use Rattle.store.specs.File.{admission, stored}
 use Rattle.store.specs.declared.Admission.{Admission}
 use Rattle.store.specs.declared.Admission.the-variants.{Start, Denied}
-use Rattle.store.proofs.Admissions.{admitted}
+use Rattle.store.proofs.Admissions.{admitted, zeros-admitted}
 use Rattle.machine.specs.Answer.{Buffers}
 use Rattle.machine.specs.AtPc.{processIn, stackIn}
 use Rattle.machine.specs.Beyond.{answered, continues, created, createdAt, newFileSize, opened, openedAt}
@@ -34,7 +34,7 @@ use Rattle.machine.proofs.Changes.Change.{GoodState}
 use Rattle.machine.proofs.Changes.Replaced.{put-at}
 use Rattle.machine.proofs.Demands.GoodCalls.{passes-good}
 use Rattle.machine.proofs.Demands.Openings.{new-file-refused}
-use Rattle.machine.proofs.Done.Entering.{entered-enters}
+use Rattle.machine.proofs.Done.Entering.{stored-enters}
 use Rattle.machine.proofs.Fields.Files.{entry-size, entry-start, lookup-named, lookup-no-file, placed-lowest}
 use Rattle.machine.proofs.Fields.Names.{good-is-name}
 use Rattle.machine.proofs.Reaching.Finding.{Does, at, close-found, open-found}
@@ -85,9 +85,9 @@ module _ (b : Buffers) (slot clock : ℕ) where
           inl (new-file-refused (b .disc) text (good .long) (good .sound) size n fit new w e, broken-by b slot clock (a .may) r does 13 h)
       admit new n fit (Start s) e h =
           let d = admitted (b .disc) text n s e in
-          let on = continued b slot clock (a .may) r does pc rest (opened (runFrom s n)) (entered (b .disc) text n s) h in
-          let enters = subst⁻¹ (λ (after : List ℕ). Enters (b .disc) after text (part (b .disc) s n) s) (on .1)
-          (entered-enters d) in
+          let on = continued b slot clock (a .may) r does pc rest (opened (runFrom s n)) (stored (b .disc) text (zeros n) s) h in
+          let enters = subst⁻¹ (λ (after : List ℕ). Enters (b .disc) after text (zeros n) s) (on .1)
+          (stored-enters (zeros n) (good .sound) (zeros-admitted d)) in
           let lowest = placed-lowest (b .disc) n s (d .lowest) in
           inr (n, fit, (good-is-name text (d .good), d .few, (s, lowest, on .0, enters)))
 

@@ -12,7 +12,8 @@ use borrow.Author.Tests.{not-true}
 use Rattle.buffer.specs.declared.Found.{Found}
 use Rattle.buffer.specs.declared.Found.the-variants.{At, Nowhere}
 use Rattle.buffer.proofs.Bools.{and-right, true-not-false}
-use Rattle.store.specs.Directory.{entryAt, lookup}
+use Rattle.place.specs.declared.Run.{Run}
+use Rattle.store.specs.Directory.{contents, entryAt, lookup}
 use Rattle.store.proofs.Calls.{store-cases}
 use Rattle.store.proofs.Lookups.{lookup-at}
 use Rattle.variable.specs.Table.{owned}
@@ -27,11 +28,11 @@ use Rattle.machine.specs.Refusals.{Passes}
 use Rattle.machine.specs.Start.{Starting, starts, refuses, started, starting}
 use Rattle.machine.specs.State.{isLive, isRunning, processAt, slotOf}
 use Rattle.machine.specs.Trace.{Storage, lending}
-use Rattle.machine.specs.Turn.{programOf}
 use Rattle.machine.specs.declared.Kernel.{Kernel}
 use Rattle.machine.proofs.Operations.Tests.{tried}
 use Rattle.machine.proofs.Changes.Change.{GoodState, Outside, stores, erases, begins, Own, Change}
-use Rattle.machine.proofs.Kept.ChangeKept.{NoWriteInto, Untouched, change-begun, change-gone, change-program, change-untouched}
+use Rattle.machine.proofs.Changes.Directories.{FileAt}
+use Rattle.machine.proofs.Kept.ChangeKept.{NoWriteInto, Untouched, change-begun, change-contents, change-gone, change-untouched}
 use Rattle.machine.proofs.Kept.ChangeKept.{gone-after}
 use Rattle.machine.proofs.Demands.GoodCalls.{good-back, on-good, passes-good, turn-good, turn-is-change}
 use Rattle.machine.proofs.Kept.OwnKept.{own-good}
@@ -42,7 +43,7 @@ use Rattle.machine.proofs.Kept.EndedIds.{outside-begun, outside-gone}
 use Rattle.machine.proofs.Kept.Gone.{Gone}
 use Rattle.machine.proofs.Changes.LiveRecords.{running-live}
 use Rattle.machine.proofs.Kept.OutsideKept.{outside-good}
-use Rattle.machine.proofs.Kept.OutsideSpares.{outside-spares}
+use Rattle.machine.proofs.Kept.OutsideSpares.{outside-contents, outside-spares}
 use Rattle.machine.proofs.Changes.Slots.{slot-at}
 
 -- ---- facts asked of a turn alone, or of a command alone
@@ -168,9 +169,9 @@ pub record Elsewhere (c : Call) (own : ℕ) (k : Kernel) : Type 0 where
   pub turns : OfTurn c (λ slot clock. own ≡ slot → ⊥)
   pub commands : OfCommand c (λ id. slotOf k id ≡ At own → ⊥)
 
--- and writes nothing into its program
-abbrev pub Unwritten : Call → ℕ → Storage → Kernel → Kernel → Type 0
-Unwritten c own s k j = OfTurn c (λ slot clock. isRunning (processAt k slot) ≡ true → NoWriteInto own slot k (s .disc) j)
+-- and writes nothing into a file
+abbrev pub Unwritten : Call → Run → Storage → Kernel → Kernel → Type 0
+Unwritten c file s k j = OfTurn c (λ slot clock. isRunning (processAt k slot) ≡ true → NoWriteInto file slot k (s .disc) j)
 
 module _ {s : Storage} {k j : Kernel} {after : List ℕ} (g : GoodState k (s .disc)) where
   pub effects-gone : (i : ℕ) (c : Call) → Gone i k → Effects s k j after c → Gone i j
@@ -201,10 +202,10 @@ module _ {s : Storage} {k j : Kernel} {after : List ℕ} (g : GoodState k (s .di
       record { process = own-process own other x; variables = own-variables own g live other x }
   effects-untouched own live (turn slot clock) away (takes r x) = change-untouched _ slot k (s .disc) j after g own live (away .turns) x
 
-  -- and so are the bytes of its program
-  pub effects-program : (own : ℕ) → isLive (processAt k own) ≡ true → (c : Call) → Unwritten c own s k j → Effects s k j after c
-      → programOf after (processAt k own) ≡ programOf (s .disc) (processAt k own)
-  effects-program own live c safe (none e f) = ap (λ (d : List ℕ). programOf d (processAt k own)) f
-  effects-program own live c safe (outside o) = outside-spares g own live o .program
-  effects-program own live (command c id) safe (alone w l e x f) = ap (λ (d : List ℕ). programOf d (processAt k own)) f
-  effects-program own live (turn slot clock) safe (takes r x) = change-program _ slot k (s .disc) j after g own live (safe r) x
+  -- a file keeps its bytes
+  pub effects-contents : {file : Run} → FileAt (s .disc) file → (c : Call) → Unwritten c file s k j → Effects s k j after c
+      → contents after file ≡ contents (s .disc) file
+  effects-contents {file} f c safe (none e d) = ap (λ (l : List ℕ). contents l file) d
+  effects-contents f c safe (outside o) = outside-contents g f o
+  effects-contents {file} f (command c id) safe (alone w l e x d) = ap (λ (l : List ℕ). contents l file) d
+  effects-contents f (turn slot clock) safe (takes r x) = change-contents _ slot k (s .disc) j after g f (safe r) x

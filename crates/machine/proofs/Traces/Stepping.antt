@@ -16,7 +16,7 @@ use Rattle.machine.specs.Answer.{Answer, Buffers, Call, turn, round, com
 use Rattle.machine.specs.Answer.{answer}
 use Rattle.machine.specs.Area.{kernelOf}
 use Rattle.machine.specs.Suppositions.{disturbedBy, executedBy, isBarred, isDoneBy, setLacks, turnDisturbs, turnDisturbsAt}
-use Rattle.machine.specs.Suppositions.{writeLands}
+use Rattle.machine.specs.Suppositions.{processIn, writeLands}
 use Rattle.machine.specs.Observation.{inputIf, inputOf, isAt, next, observedBy, observedOf, placeIn}
 use Rattle.machine.specs.Operations.{Command}
 use Rattle.machine.specs.Limits.{slotCount, turnRoom}
@@ -28,8 +28,9 @@ use Rattle.machine.specs.Turn.{programOf}
 use Rattle.machine.specs.declared.Kernel.{Kernel}
 use Rattle.machine.specs.declared.Process.{Process}
 use Rattle.machine.proofs.Traces.CallEffects.{Effects, Elsewhere, OfCommand, OfTurn, Unwritten, isRound, call-effects, effects-gone}
-use Rattle.machine.proofs.Traces.CallEffects.{effects-program, effects-untouched}
+use Rattle.machine.proofs.Traces.CallEffects.{effects-contents, effects-untouched}
 use Rattle.machine.proofs.Changes.Change.{GoodState}
+use Rattle.machine.proofs.Changes.Directories.{program-at}
 use Rattle.machine.proofs.Kept.ChangeKept.{NoWriteInto, Untouched}
 use Rattle.buffer.proofs.Disjunctions.{or-false-left, or-false-right}
 use Rattle.machine.proofs.Traces.Following.{Follows, Holds, Tracks, on, off}
@@ -86,14 +87,16 @@ own-undisturbed : (i own slot clock : ℕ) (e : Event) → own ≡ slot → turn
     → (isBarred (executedBy (e .before) slot) ≡ false) × (setLacks i slot clock (e .before) ≡ false)
 unfolding turnDisturbs
 own-undisturbed i own slot clock e same h =
-    own-half (eqb own slot) (isBarred (executedBy (e .before) slot)) (setLacks i slot clock (e .before)) (writeLands own slot e)
+    own-half (eqb own slot) (isBarred (executedBy (e .before) slot)) (setLacks i slot clock (e .before))
+    (writeLands (processIn (e .before) own .code) slot e)
     (eq-eqb _ _ same) h
 
 other-undisturbed : (i own slot clock : ℕ) (e : Event) → (own ≡ slot → ⊥) → turnDisturbs i own slot clock e ≡ false
-    → writeLands own slot e ≡ false
+    → writeLands (processIn (e .before) own .code) slot e ≡ false
 unfolding turnDisturbs
 other-undisturbed i own slot clock e away h =
-    other-half (eqb own slot) (isBarred (executedBy (e .before) slot)) (setLacks i slot clock (e .before)) (writeLands own slot e)
+    other-half (eqb own slot) (isBarred (executedBy (e .before) slot)) (setLacks i slot clock (e .before))
+    (writeLands (processIn (e .before) own .code) slot e)
     (ne-eqb _ _ away) h
 
 module _ (i : ℕ) (prog : List ℕ) (s : Storage) (out : List ℕ) (q : Single) (passes : Passes (s .disc) (s .area)) where
@@ -116,18 +119,20 @@ module _ (i : ℕ) (prog : List ℕ) (s : Storage) (out : List ℕ) (q : Single)
   effects c h = call-effects s out passes c h
 
   -- an event that is no input
-  others : (x : Follows i prog k (s .disc) q) (c : Call) → isRound c ≡ false → Elsewhere c (x .slot) k → Unwritten c (x .slot) s k (after c)
+  others : (x : Follows i prog k (s .disc) q) (c : Call) → isRound c ≡ false → Elsewhere c (x .slot) k
+      → Unwritten c (processAt k (x .slot) .code) s k (after c)
       → Follows i prog (after c) (answer c b .disc) q
   others x c h away safe =
       untouched-follows x (effects-untouched good (x .slot) (x .live) c away (effects c h))
-      (effects-program good (x .slot) (x .live) c safe (effects c h))
+      (effects-contents good (program-at good (x .slot) (x .live)) c safe (effects c h))
 
   gone : (c : Call) → isRound c ≡ false → Gone i k → q .state ≡ 0 → Tracks i prog (after c) (answer c b .disc) q
   gone c h g over = off (effects-gone good i c g (effects c h)) over
 
   -- a call that is of no process
   kept : (c : Call) → isRound c ≡ false
-      → ((x : Follows i prog k (s .disc) q) → Elsewhere c (x .slot) k × Unwritten c (x .slot) s k (after c)) → Tracks i prog k (s .disc) q
+      → ((x : Follows i prog k (s .disc) q) → Elsewhere c (x .slot) k × Unwritten c (processAt k (x .slot) .code) s k (after c))
+      → Tracks i prog k (s .disc) q
       → Tracks i prog (after c) (answer c b .disc) q
   kept c h away (on x) = on (others x c h (away x .0) (away x .1))
   kept c h away (off g over) = gone c h g over
@@ -189,7 +194,8 @@ module _ (i : ℕ) (prog : List ℕ) (s : Storage) (out : List ℕ) (q : Single)
     -- no write of another lands
     no-write : (x : Follows i prog k (s .disc) q) → (x .slot ≡ slot → ⊥) → isDoneBy (a .number)
         && turnDisturbsAt i (placeIn s i) slot clock e ≡ false
-        → isRunning (processAt k slot) ≡ true → NoWriteInto (x .slot) slot k (s .disc) (after (turn slot clock))
+        → isRunning (processAt k slot) ≡ true → NoWriteInto (processAt k (x .slot) .code) slot k (s .disc)
+        (after (turn slot clock))
     unfolding writeLands
     no-write x away h r byte live start len =
         true-not-false (and-both (eq-eqb _ _ byte) (and-both live (and-both (eq-eqb _ _ start) (eq-eqb _ _ len))))

@@ -1,4 +1,4 @@
--- A file that is admitted enters the directory and is open; one that is not is fault 13.
+-- A file that is admitted is created and open; one that is not is fault 13.
 use Prim.Native.Nat.{ℕ, _<_}
 use mathlib.Core.Path.{_≡_, sym, ap, _∙_}
 use mathlib.Core.List.{List}
@@ -17,7 +17,7 @@ use Rattle.request.proofs.Answering.{about-inside, about-length, answer
 use Rattle.request.proofs.open.create_file.Statement.{statement}
 use Rattle.request.proofs.open.create_file.Tie as tie
 
--- ---- the states: the name lent, the admission asked for, granted, the file entered, the process gone on
+-- ---- the states: the name lent, the admission asked for, granted, the file created, the process gone on
 abbrev start : tie.After-admit-arg → tie.Start
 start c =
     let known = c .before .before in
@@ -29,11 +29,11 @@ asked c = start (c .before .before)
 abbrev told : tie.After-known-told → tie.After-admit
 told c = c .before .before .before
 
-abbrev lent : tie.After-enter → tie.After-known-told
+abbrev lent : tie.After-create → tie.After-known-told
 lent c = c .before .before .before
 
-abbrev entered : tie.After-open-run → tie.After-enter
-entered c = let known = c .before .before in known .before .before
+abbrev made : tie.After-open-run → tie.After-create
+made c = let known = c .before .before in known .before .before
 
 -- the answer to an admission
 abbrev answer : tie.After-admit → Admission → Answered
@@ -72,15 +72,15 @@ array-share-prefix-bytes-2 c =
     let s = asked (told (c .before)) in
     about-inside (s .pre .0) (size s)
 
-slice-aggregate-enter : tie.Need-slice-aggregate-enter
-slice-aggregate-enter c = sym (named (asked (told (c .before .before))))
+slice-aggregate-create : tie.Need-slice-aggregate-create
+slice-aggregate-create c = sym (named (asked (told (c .before .before))))
 
-enter-requires : tie.Need-enter-requires
-enter-requires c κs =
+create-requires : tie.Need-create-requires
+create-requires c κs =
     let t = c .before .before in
     let s = asked (told t) in
     let h = fits t in
-    (s .pre .1, (h .few, omega (arith, good-name-is (about (s .args .d)) (h .good) .short), search needs, low t))
+    (s .pre .1, (h .few, omega (arith, good-name-is (about (s .args .d)) (h .good) .short)), (h .placed .low, h .placed .high))
 
 cast-open-run : tie.Need-cast-open-run
 cast-open-run c = let h = low (lent (c .before .before .before)) in omega arith
@@ -88,13 +88,13 @@ cast-open-run c = let h = low (lent (c .before .before .before)) in omega arith
 returns : tie.Need-returns
 returns c =
     let gone = c .before .before in
-    let e = entered gone in
+    let e = made gone in
     let t = lent e in
     let o = told t in
     let s = asked o in
     let disc = s .args .disc .now in
     answers (s .pre .0) disc
-    (ap (λ (l : List ℕ). left l (gone .open-run .last .0)) (e .enter .ensures) ∙ gone .open-run .ensures disc _)
+    (ap (λ (l : List ℕ). left l (gone .open-run .last .0)) (e .create .ensures) ∙ gone .open-run .ensures disc _)
     (ap (answer o) (sym (t .before .start .given .1) ∙ o .admit .ensures))
 
 returns-2 : tie.Need-returns-2
@@ -116,8 +116,8 @@ create-file-spec =
     (λ c κs. search needs)
     (λ c. search needs)
     array-share-prefix-bytes-2
-    slice-aggregate-enter
-    enter-requires
+    slice-aggregate-create
+    create-requires
     cast-open-run
     (λ c κs. search needs)
     (λ c. search needs)
