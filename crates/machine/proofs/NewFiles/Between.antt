@@ -89,7 +89,8 @@ module _ (i slot : ℕ) (p : Process) (bytes : List ℕ) (named : p .id ≡ i) (
       file =
           subst (λ (f : OpenFile). FileAt (s .disc) (fileRun f)) same-file
           (open-at (opened-of (files (s .disc)) (processAt k slot .file) (live-record good slot live .file)
-          (ne-eqb _ 0 (λ z. omega (arith, some, ap (λ (f : OpenFile). f .len) same-file)))))
+          (ne-eqb (processAt k slot .file .len) 0
+          (λ (z : processAt k slot .file .len ≡ 0). omega (arith, some, ap (λ (f : OpenFile). f .len) same-file)))))
 
       -- a call that is none of the process's, and writes nothing into its file
       others : (c : Call) → isRound c ≡ false → Elsewhere c slot k → Unwritten c (fileRun (p .file)) s k (kernelOf (answer c b .area))
@@ -126,6 +127,12 @@ module _ (i slot : ℕ) (p : Process) (bytes : List ℕ) (named : p .id ≡ i) (
               becoming c (withProcess k slot q) e
               (on new (put ∙ ap (λ (r : Process). withState r new) here) (ap isLive put ∙ h) held)
 
+      killed : Kept (ended k slot 0) (s .disc)
+      unfolding ended
+      killed =
+          off (subst (λ (id : ℕ). Gone id (ended k slot 0)) id-here
+          (record { given = live-record good slot live .given; none = ended-gone k slot 0 (s .disc) good live }))
+
       own-command : (c : Command) → Left (answer (command c i) b)
       unfolding answer commanded
       own-command c =
@@ -135,10 +142,7 @@ module _ (i slot : ℕ) (p : Process) (bytes : List ℕ) (named : p .id ≡ i) (
           go : (c : Command) → Left (commandAnswer (commandAt (At slot) c k) b)
           go suspend = changes suspend paused refl refl
           go resume = changes resume running refl refl
-          go kill =
-              becoming kill (ended k slot 0) refl
-              (off (subst (λ (id : ℕ). Gone id (ended k slot 0)) id-here
-              (record { given = live-record good slot live .given; none = ended-gone k slot 0 (s .disc) good live })))
+          go kill = becoming kill (ended k slot 0) refl killed
 
       -- ---- turns
       module _ (at clock : ℕ) (room : leb turnRoom (length out) ≡ true) (text : List ℕ) where
@@ -226,5 +230,6 @@ module _ (i slot : ℕ) (p : Process) (bytes : List ℕ) (named : p .id ≡ i) (
     c .3,
   )
   waits-until k disc (e ∷ es) last later c none w =
-      waits-until (kernelOf (e .after .area)) (e .after .disc) es last later (c .4) (and-right _ _ none)
-      (one-event k disc e (c .0) (c .1) (c .2) (c .3) (not-true _ (and-left _ _ none)) w)
+      let quiet : Bool = not (meddles i (e .call) e) in
+      waits-until (kernelOf (e .after .area)) (e .after .disc) es last later (c .4) (and-right quiet _ none)
+      (one-event k disc e (c .0) (c .1) (c .2) (c .3) (not-true _ (and-left quiet _ none)) w)

@@ -93,11 +93,11 @@ module _ {k : Kernel} {disc : List ℕ} (good : GoodState k disc) (slot clock : 
 
       sized : (s : Size) → Leaves (answering k slot disc (created k slot disc s name l))
       sized Refused e = same-count e
-      sized (Is n) = judged n (admission disc name n) refl
+      sized (Is n) e = judged n (admission disc name n) refl e
 
       found : (f : Found) → Leaves (answering k slot disc (openedAt k slot disc f name size l))
       found (At i) e = same-count e
-      found Nowhere = sized (newFileSize disc size)
+      found Nowhere e = sized (newFileSize disc size) e
 
   -- ---- the instruction
   abbrev prog : List ℕ
@@ -113,20 +113,20 @@ module _ {k : Kernel} {disc : List ℕ} (good : GoodState k disc) (slot clock : 
       → Does (withPopped top λ name rest. asks (opens (trimmed (name .bytes)) size (on rest)))
   unfolding carriedOut answered Pops
   named size below h (cannot n) t e = same-count e
-  named size below h (popped name rest) t =
+  named size below h (popped name rest) t e =
       opening (trimmed (name .bytes)) size (on rest)
-      (omega (arith, string-lay below name rest t, within-local good slot live .stack))
+      (omega (arith, string-lay below name rest t, within-local good slot live .stack)) e
 
   asked : (top : Popped) → Pops AnyNumber stack top
       → Does (withNumber top λ size below. withPopped (pop AnyString below) λ name rest. asks (opens (trimmed (name .bytes)) size (on rest)))
   unfolding carriedOut Pops
   asked (cannot n) t e = same-count e
-  asked (popped size below) t = named (number size) below (omega (arith, t .lay)) (pop AnyString below) (pop-pops AnyString below)
+  asked (popped size below) t e = named (number size) below (omega (arith, t .lay)) (pop AnyString below) (pop-pops AnyString below) e
 
   performed : (inside : Bool) → Does (unlessFaults inside 2 (reaches prog stack (p .loopstart) (p .pc) OpenFile))
   unfolding carriedOut
   performed false e = same-count e
-  performed true = asked (pop AnyNumber stack) (pop-pops AnyNumber stack)
+  performed true e = asked (pop AnyNumber stack) (pop-pops AnyNumber stack) e
 
   pub created-fresh : getD prog (p .pc) 0 ≡ 53 → Leaves (turned k slot clock disc)
   unfolding turned exec performs instructionOf operatorOf lookupOperator find

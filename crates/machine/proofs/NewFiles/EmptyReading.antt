@@ -6,7 +6,7 @@ use mathlib.Core.List.{List, [], _∷_, _++_, append-assoc}
 use native.Mathlib.Omega.{arith}
 use lib.Dec.{ltb}
 use lib.ListN.{length, getD, length-append, List·getD-eq-default}
-use borrow.Author.Tests.{le-leb, lt-ltb, ltb-false, ne-eqb}
+use borrow.Author.Tests.{le-leb, lt-ltb, ltb-false, ltb-true, ne-eqb}
 use Rattle.operator.specs.Instruction.{lookup as lookupOperator, operatorOf}
 use Rattle.store.specs.Directory.{contents}
 use Rattle.store.specs.Name.{trimmed}
@@ -29,7 +29,7 @@ byte-inside : (l : List ℕ) (i x : ℕ) → getD l i 0 ≡ suc x → i < length
 byte-inside l i x e = go (ltb i (length l)) refl
   where
     go : (t : Bool) → ltb i (length l) ≡ t → i < length l
-    go true h = search
+    go true h = ltb-true i (length l) h
     go false h =
         let z : getD l i 0 ≡ 0 = List·getD-eq-default l 0 (ltb-false i (length l) h) in
         absurd (omega arith)
