@@ -80,7 +80,7 @@ create-requires c κs =
     let t = c .before .before in
     let s = asked (told t) in
     let h = fits t in
-    (s .pre .1, (h .few, omega (arith, good-name-is (about (s .args .d)) (h .good) .short)), (h .placed .low, h .placed .high))
+    (s .pre .1, ((h .few, omega (arith, good-name-is (about (s .args .d)) (h .good) .short)), (h .placed .low, h .placed .high)))
 
 cast-open-run : tie.Need-cast-open-run
 cast-open-run c = let h = low (lent (c .before .before .before)) in omega arith
