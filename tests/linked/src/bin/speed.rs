@@ -8,7 +8,7 @@ mod archive;
 mod cpu_clock;
 
 use harness::call::{Call, Kernel, Second, State};
-use second::instruction::{INCREMENT, PRINT, SET};
+use second::instruction::{INCREMENT, OPEN, PRINT, SET};
 use second::layout::*;
 use second::{directory, records};
 use std::hint::black_box;
@@ -68,6 +68,11 @@ fn rows() -> Vec<Row> {
         Row::new("round, ten SETs", &set, &round),
         Row::new("round, ten PRINTs of FLOAT", &print, &round),
         Row::new("store, nine files there", &nine_files(&increment), &store),
+        Row::new(
+            "turn, OPEN of a new file of 862 bytes",
+            &one_byte_program(),
+            &Call::Turn { slot: 0, clock: 0, room: TURN_OUTPUT },
+        ),
     ]
 }
 
@@ -109,6 +114,20 @@ fn nine_files(state: &State) -> State {
     let mut state = state.clone();
     second::boot(&mut state.area).expect("the length is right");
     directory::remove(&mut state.disc, 4);
+    state
+}
+
+/// A process at OPEN, its program the one byte, the rest of the disc free and not zero: the longest turn.
+fn one_byte_program() -> State {
+    let mut state = State::zero();
+    second::format(&mut state.disc, &mut state.area).expect("the lengths are right");
+    state.disc[DATA_START..].fill(9);
+    second::store(&mut state.disc, b"p", &[OPEN]).expect("the disc is empty");
+    let record = records::all().next().expect("there are ten");
+    second::run(&state.disc, &mut state.area, b"p").expect("the slot is free");
+    let stack = [b'n', 0, 2, 3, 3, 94, 2];
+    state.area[record + STACK..record + STACK + stack.len()].copy_from_slice(&stack);
+    state.area[record + SP] = stack.len() as u8;
     state
 }
 
