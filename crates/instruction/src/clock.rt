@@ -9,7 +9,6 @@ use stack::ends::last_step;
 use stack::ends::push_item;
 use stack::ends::with_stack;
 use stack::tops::top_number;
-ghost use mathlib.Core.Path.{_≡_};
 ghost use Rattle.machine.specs.Exec.{delays, pushClock};
 ghost use Rattle.stack.specs.Steps.{Means, Ready};
 

@@ -43,7 +43,8 @@ use Rattle.literal_rows.specs.Programs.{BenchOnBytes, WaitsOnBytes}
 use Rattle.literal_rows.specs.Run.{Listings, RunOnBytes}
 
 rows : RunOnBytes × Listings × AreaRows × DiscRows × BenchOnBytes × WaitsOnBytes × NewFilesOnBytes
-unfolding RunOnBytes Listings AreaRows DiscRows BenchOnBytes WaitsOnBytes NewFilesOnBytes laid leftBy numbers turns answer otherAnswer formatAnswer
+unfolding RunOnBytes Listings AreaRows DiscRows BenchOnBytes WaitsOnBytes NewFilesOnBytes laid leftBy numbers turns answer otherAnswer
+    formatAnswer
     storeAnswer checked filesAnswer fileLine lookup index entryAt tab goodDisc goodFiles goodEntry goodField goodName besideEntry all
     pairs apart fits lowest place placeOf admission entered erased writtenAt readAt goodArea goodKernel goodHeader goodProcess goodLive
     goodRegisters goodFile isProgram otherId goodVariables goodVariable goodSize besideVariable kernelOf kernelBytes variablesOf flat any

@@ -1,5 +1,5 @@
--- Document 02, Q-8: the log of a plant, erased and created again by OPEN, or opened without erasing. The program lies at
--- 161 to 169, the log from 170 on.
+-- Document 02, Q-8: a plant's log, erased and created again by OPEN, or opened without erasing. The program lies at 161
+-- to 169, the log from 170 on.
 use Prim.Native.Nat.{ℕ}
 use mathlib.Core.Path.{_≡_}
 use mathlib.Core.List.{List, [], _∷_, _++_}

@@ -70,8 +70,8 @@ pub fn waits_keep_time()
     ensures { λ _. ⌜ WaitsKeepTime ⌝ }
 {}
 
-// Document 02, Q-8: READSTRING as the next instruction after an OPEN that creates its file gives the empty string, whatever
-// others do between, if nobody writes into the file.
+// Document 02, Q-8: READSTRING as the next instruction after an OPEN that creates its file gives the empty string,
+// whatever others do between, if nobody writes into the file.
 pub fn new_file_reads_empty()
     ensures { λ _. ⌜ NewFileReadsEmpty ⌝ }
 {}

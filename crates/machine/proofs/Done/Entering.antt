@@ -1,16 +1,14 @@
 -- A file that enters with its bytes, and one that goes, byte by byte.
 use Prim.Native.Nat.{ℕ, _+_, _-_, _≤_, _<_}
-use mathlib.Core.Path.{_≡_, refl, sym, ap, _∙_, subst}
+use mathlib.Core.Path.{_≡_, sym, ap, _∙_, subst}
 use mathlib.Core.Bool.{true}
 use mathlib.Core.List.{List}
-use mathlib.Core.Logic.{_⊎_, inl, inr}
+use mathlib.Core.Logic.{inl, inr}
 use native.Mathlib.Omega.{arith}
 use lib.ListN.{length, getD, getD-replicate}
-use Rattle.buffer.specs.Buffer.{part}
-use Rattle.place.specs.Place.{runFrom}
-use Rattle.store.specs.Directory.{contents, entryAt, goodDisc}
+use Rattle.store.specs.Directory.{goodDisc}
 use Rattle.store.specs.File.{erased, stored}
-use Rattle.store.specs.Layout.{countAt, entrySize}
+use Rattle.store.specs.Layout.{entrySize}
 use Rattle.store.specs.declared.Entry.{Entry}
 use Rattle.store.proofs.Admissions.{Admitted}
 use Rattle.store.proofs.Changes.{Present, erased-byte, erased-count, erased-moved, erased-vacated}

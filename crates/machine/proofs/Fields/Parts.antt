@@ -1,13 +1,30 @@
 -- Parts of buffers, byte by byte: two parts of the same bytes are the same, and a field of a part is a field of the buffer.
-use Prim.Native.Nat.{ℕ, _+_, _≤_, _<_}
-use mathlib.Core.Path.{_≡_, sym, ap, _∙_}
+use Prim.Native.Nat.{ℕ, suc, _+_, _≤_, _<_}
+use mathlib.Core.Path.{_≡_, refl, sym, ap, _∙_}
+use mathlib.Core.Bool.{Bool, true, false}
 use mathlib.Core.List.{List}
 use native.Mathlib.Nat.{add-assoc}
 use native.Mathlib.Omega.{arith}
-use lib.ListN.{length, getD, drop}
+use lib.Dec.{ltb}
+use lib.ListN.{length, getD, drop, List·getD-eq-default}
 use lib.Seq.{ext-getD, take-take}
+use borrow.Author.Tests.{ltb-false, ltb-true}
 use Rattle.buffer.specs.Buffer.{part, wordAt}
 use Rattle.buffer.proofs.Parts.{part-byte, part-length}
+use Rattle.variable.proofs.Views.{take-bound}
+
+-- a byte that is not 0 is one of the list
+pub byte-inside : (l : List ℕ) (i x : ℕ) → getD l i 0 ≡ suc x → i < length l
+byte-inside l i x e = go (ltb i (length l)) refl
+  where
+    go : (t : Bool) → ltb i (length l) ≡ t → i < length l
+    go true h = ltb-true i (length l) h
+    go false h = let z : getD l i 0 ≡ 0 = List·getD-eq-default l 0 (ltb-false i (length l) h) in absurd (omega arith)
+
+-- and of a part, one of the buffer
+pub byte-of : (l : List ℕ) (at n i x : ℕ) → getD (part l at n) i 0 ≡ suc x → getD l (at + i) 0 ≡ suc x
+byte-of l at n i x e =
+    sym (part-byte l at n i (omega (arith, byte-inside (part l at n) i x e, take-bound n (drop at l)))) ∙ e
 
 -- a part against a list
 module _ (l s : List ℕ) (at n : ℕ) where

@@ -12,7 +12,6 @@ use Rattle.buffer.specs.declared.Found.{Found}
 use Rattle.buffer.specs.declared.Found.the-variants.{At, Nowhere}
 use Rattle.buffer.proofs.Bools.{and-right}
 use Rattle.decimal.specs.Decimal.{decimal}
-use Rattle.place.specs.Place.{runFrom}
 use Rattle.store.specs.Answer.{Reported, fileLine, filesAnswer, reported, retrieveAnswer, retrieveAt}
 use Rattle.store.specs.Directory.{contents, entryAt, fileCount, files as entries, isDiscLength, lookup, runOf}
 use Rattle.store.specs.File.{unless}

@@ -1,18 +1,17 @@
 -- A file that a call neither erases nor writes into keeps its name, its place and its bytes.
-use Prim.Native.Nat.{ℕ, suc, _+_, _≤_, _<_}
+use Prim.Native.Nat.{ℕ, _+_, _≤_, _<_}
 use mathlib.Core.Path.{_≡_, refl, sym, ap, _∙_, subst, subst⁻¹, subst₂}
-use mathlib.Core.Bool.{Bool, true, false, _&&_, not}
+use mathlib.Core.Bool.{true, false, _&&_, not}
 use mathlib.Core.List.{List}
 use native.Mathlib.Nat.{add-zero}
 use native.Mathlib.Omega.{arith}
 use lib.Dec.{leb, ltb}
-use lib.ListN.{length, drop, getD, List·getD-eq-default}
-use borrow.Author.Tests.{ltb-false, ltb-true}
+use lib.ListN.{length}
+use borrow.Author.Tests.{ltb-true}
 use Rattle.buffer.specs.Buffer.{part}
 use Rattle.buffer.specs.declared.Found.{Found}
 use Rattle.buffer.specs.declared.Found.the-variants.{At, Nowhere}
 use Rattle.buffer.proofs.Bools.{and-left, and-right, true-not-false}
-use Rattle.buffer.proofs.Parts.{part-byte}
 use Rattle.place.specs.declared.Run.{Run}
 use Rattle.store.specs.Directory.{contents, entryAt, fileCount, goodDisc, isDiscLength, lookup, runOf}
 use Rattle.store.specs.File.{erased, stored, writtenAt}
@@ -26,7 +25,6 @@ use Rattle.store.proofs.Effects.{stored-contents}
 use Rattle.store.proofs.Goodness.{good-disc-is, good-entry-at}
 use Rattle.store.proofs.Invariant.{file-inside, present}
 use Rattle.store.proofs.Lookups.{Located, located-once, lookup-at}
-use Rattle.variable.proofs.Views.{take-bound}
 use Rattle.machine.specs.Answer.{Answer, Buffers, Other, store, retrieve, erase, files, freeSpace, list, Call, turn, round}
 use Rattle.machine.specs.Answer.{command, run, other, answer, eraseAt, otherAnswer}
 use Rattle.machine.specs.Area.{kernelOf}
@@ -44,6 +42,7 @@ use Rattle.machine.proofs.Changes.Change.{writes}
 use Rattle.machine.proofs.Changes.Directories.{Again, FileAt, open-at}
 use Rattle.machine.proofs.Demands.GoodCalls.{passes-good, turn-is-change}
 use Rattle.machine.proofs.Fields.Files.{entry-size, entry-start, located-named, named-located}
+use Rattle.machine.proofs.Fields.Parts.{byte-of}
 use Rattle.machine.proofs.Fields.Slots.{open-size-is, open-start-is}
 use Rattle.machine.proofs.Kept.OutsideKept.{erased-again, stored-again}
 use Rattle.machine.proofs.LeftAlone.Buffers.{call-leaves}
@@ -105,18 +104,6 @@ module _ {disc name : List ℕ} {i : ℕ} (n : Named disc name i) where
         (written-other-file disc m i offset bytes good h (here .inside) differ fits)
 
 -- ---- a turn
--- a byte that is not 0 is read inside the part
-byte-of : (l : List ℕ) (at n i x : ℕ) → getD (part l at n) i 0 ≡ suc x → getD l (at + i) 0 ≡ suc x
-byte-of l at n i x e = go (ltb i n) refl
-  where
-    go : (t : Bool) → ltb i n ≡ t → getD l (at + i) 0 ≡ suc x
-    go true h = sym (part-byte l at n i (ltb-true i n h)) ∙ e
-    go false h =
-        let size = take-bound n (drop at l) in
-        let past : n ≤ i = ltb-false i n h in
-        let z : getD (part l at n) i 0 ≡ 0 = List·getD-eq-default (part l at n) 0 (omega arith) in
-        absurd (omega arith)
-
 module _ (b : Buffers) (name : List ℕ) (i : ℕ) (n : Named (b .disc) name i) where
   abbrev Kept : Answer → Type 0
   Kept a = Remains (b .disc) (a .disc) name i

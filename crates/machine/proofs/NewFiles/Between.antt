@@ -1,7 +1,7 @@
 -- Whatever comes between leaves the process as OPEN left it, but for its state, and the bytes of its open file; or the process ends.
 use Prim.Native.Nat.{ℕ, _≤_, _<_}
 use mathlib.Core.Path.{_≡_, refl, sym, ap, subst, subst⁻¹, _∙_}
-use mathlib.Core.Bool.{Bool, true, false, _&&_, _||_, cond, not}
+use mathlib.Core.Bool.{Bool, true, false, _||_, cond, not}
 use mathlib.Core.List.{List, [], _∷_, _++_}
 use native.Mathlib.Omega.{arith}
 use lib.Dec.{eqb, leb}
@@ -12,7 +12,6 @@ use Rattle.buffer.specs.declared.Found.{Found}
 use Rattle.buffer.specs.declared.Found.the-variants.{At}
 use Rattle.buffer.proofs.Bools.{and-both, and-false-right, and-left, and-right, true-not-false}
 use Rattle.buffer.proofs.Disjunctions.{or-false-left, or-false-right}
-use Rattle.place.specs.declared.Run.{Run}
 use Rattle.store.specs.Directory.{contents, files}
 use Rattle.machine.specs.Answer.{Answer, Buffers, Call, turn, round, command, run, other, answer, commandAnswer}
 use Rattle.machine.specs.Area.{kernelBytes, kernelOf}
@@ -21,10 +20,10 @@ use Rattle.machine.specs.Ended.{ended}
 use Rattle.machine.specs.Limits.{slotCount, turnRoom}
 use Rattle.machine.specs.NewFile.{NoneMeddles, meddles, turnMeddles}
 use Rattle.machine.specs.Observation.{placeIn}
-use Rattle.machine.specs.Operations.{Command, Commanded, becomes, refused as denied, suspend, resume, kill, changed, commandAt, commanded}
+use Rattle.machine.specs.Operations.{Command, becomes, refused as denied, suspend, resume, kill, changed, commandAt, commanded}
 use Rattle.machine.specs.Refusals.{Passes}
 use Rattle.machine.specs.State.{isLive, isRunning, paused, processAt, running, slotOf, withProcess, withState}
-use Rattle.machine.specs.Suppositions.{isDoneBy, processIn, writeLands}
+use Rattle.machine.specs.Suppositions.{isDoneBy, writeLands}
 use Rattle.machine.specs.Trace.{Event, Storage, event, lending}
 use Rattle.machine.specs.declared.Kernel.{Kernel}
 use Rattle.machine.specs.declared.OpenFile.{OpenFile}
@@ -42,7 +41,7 @@ use Rattle.machine.proofs.Kept.OwnEnd.{ended-gone}
 use Rattle.machine.proofs.Kept.OwnKept.{own-good}
 use Rattle.machine.proofs.Operations.Commanding.{command-own}
 use Rattle.machine.proofs.Operations.FileAnswers.{opened-of}
-use Rattle.machine.proofs.Traces.CallEffects.{Effects, Elsewhere, Unwritten, call-effects, effects-contents, effects-gone}
+use Rattle.machine.proofs.Traces.CallEffects.{Elsewhere, Unwritten, call-effects, effects-contents, effects-gone}
 use Rattle.machine.proofs.Traces.CallEffects.{effects-untouched, isRound}
 use Rattle.machine.proofs.Traces.Chains.{Chain, Genuine}
 use Rattle.machine.proofs.Traces.Stepping.{Reports}

@@ -47,7 +47,7 @@ pub record Fresh (i : ℕ) (p : Process) (disc : List ℕ) : Type 0 where
   pub runs : isRunning p ≡ true
   pub some : 1 ≤ p .file .len
   pub first : p .file .offset ≡ 0
-  pub zeros : contents disc (fileRun (p .file)) ≡ zeros (p .file .len)
+  pub holds : contents disc (fileRun (p .file)) ≡ zeros (p .file .len)
   pub room : length (localOf p .stack) + 3 ≤ stackSize
 
 module _ {k : Kernel} {disc : List ℕ} (good : GoodState k disc) (slot clock : ℕ) (running : isRunning (processAt k slot) ≡ true) where
@@ -76,7 +76,7 @@ module _ {k : Kernel} {disc : List ℕ} (good : GoodState k disc) (slot clock : 
         runs = running;
         some = a .some;
         first = refl;
-        zeros = ap (λ (m : ℕ). contents (stored disc name (zeros n) s) (runFrom s m)) (sym (length-replicate n 0))
+        holds = ap (λ (m : ℕ). contents (stored disc name (zeros n) s) (runFrom s m)) (sym (length-replicate n 0))
             ∙ stored-data (zeros n) (good .sound) (zeros-admitted a);
         room = subst⁻¹ (λ (m : List ℕ). length m + 3 ≤ stackSize) (take-at (l .stack) _ (length (l .stack)) refl) room;
       }
@@ -118,7 +118,8 @@ module _ {k : Kernel} {disc : List ℕ} (good : GoodState k disc) (slot clock : 
       (omega (arith, string-lay below name rest t, within-local good slot live .stack)) e
 
   asked : (top : Popped) → Pops AnyNumber stack top
-      → Does (withNumber top λ size below. withPopped (pop AnyString below) λ name rest. asks (opens (trimmed (name .bytes)) size (on rest)))
+      → Does (withNumber top λ size below.
+      withPopped (pop AnyString below) λ name rest. asks (opens (trimmed (name .bytes)) size (on rest)))
   unfolding carriedOut Pops
   asked (cannot n) t e = same-count e
   asked (popped size below) t e = named (number size) below (omega (arith, t .lay)) (pop AnyString below) (pop-pops AnyString below) e

@@ -7,18 +7,16 @@ use lib.IntN.{ℤ, pos, negsuc}
 use lib.ListN.{length}
 use borrow.Author.Tests.{eqb-true}
 use Rattle.buffer.specs.Buffer.{zeros}
-use Rattle.buffer.specs.declared.Found.the-variants.{At}
 use Rattle.buffer.proofs.Bools.{true-not-false}
 use Rattle.store.specs.Directory.{contents, fileCount}
 use Rattle.machine.specs.Answer.{Answer, Buffers, Call, turn, answer, turnedAnswer}
 use Rattle.machine.specs.Area.{kernelOf}
 use Rattle.machine.specs.Beyond.{fileRun}
 use Rattle.machine.specs.NewFile.{Creates, Executes, NewFileReadsEmpty, ReadsEmpty, withEmptyString}
-use Rattle.machine.specs.Observation.{placeIn}
-use Rattle.machine.specs.Refusals.{MayTurn, Passes}
-use Rattle.machine.specs.State.{isRunning, processAt, running, withState}
+use Rattle.machine.specs.Refusals.{MayTurn}
+use Rattle.machine.specs.State.{processAt, running, withState}
 use Rattle.machine.specs.Suppositions.{isDoneBy, processIn}
-use Rattle.machine.specs.Trace.{Event, event, events, lending}
+use Rattle.machine.specs.Trace.{Event, event, lending}
 use Rattle.machine.specs.Turn.{Turned, turned}
 use Rattle.machine.specs.declared.Kernel.{Kernel}
 use Rattle.machine.specs.declared.Process.{Process}
@@ -105,7 +103,7 @@ module _ {i slot : ℕ} (opening reading : Event) (g : Genuine reading) (x : Exe
   reads same held =
       let fresh : Fresh i (processAt k slot) (reading .before .disc) =
       subst⁻¹ (λ (q : Process). Fresh i q (reading .before .disc)) same
-      (record { named = f .named; runs = f .runs; some = f .some; first = f .first; zeros = held; room = f .room }) in
+      (record { named = f .named; runs = f .runs; some = f .some; first = f .first; holds = held; room = f .room }) in
       let q = read-empty k slot (x .clock) (reading .before .disc) fresh (x .found) in
       record {
         before = same;
@@ -140,5 +138,5 @@ new-file-reads-empty s calls i slot earlier opening between reading later passes
     let p : Process = processIn (opening .after) slot in
     let f = opened-fresh (c .0) creates in
     let w = waits-until i slot p (zeros (p .file .len)) (f .named) (f .some) (kernelOf (opening .after .area)) (opening .after .disc)
-    between reading later (c .1) none (on (p .state) refl (running-live p (f .runs)) (f .zeros)) in
+    between reading later (c .1) none (on (p .state) refl (running-live p (f .runs)) (f .holds)) in
     waited-reads opening reading (w .1) reads f (w .0)
