@@ -7,9 +7,7 @@ use Rattle.buffer.specs.Buffer.{part}
 use Rattle.machine.specs.Answer.{Call, erase, other, run, store, turn}
 use Rattle.machine.specs.Trace.{Storage}
 use Rattle.literal_rows.specs.Calls.{formatted, leftBy}
-
-abbrev log : List ℕ
-log = 108 ∷ 111 ∷ 103 ∷ []
+use Rattle.literal_rows.specs.Run.{log}
 
 -- STRING "log", CHAR 4, OPEN, READSTRING
 abbrev reader : List ℕ

@@ -11,7 +11,7 @@ use Rattle.machine.specs.Trace.{Storage, lending}
 use Rattle.literal_rows.specs.Calls.{formatted, laid, leftBy, numbers}
 
 -- ---- names and files
-abbrev log : List ℕ
+abbrev pub log : List ℕ
 log = 108 ∷ 111 ∷ 103 ∷ []
 
 abbrev lamp : List ℕ

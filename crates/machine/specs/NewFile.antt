@@ -1,20 +1,20 @@
 -- A file that OPEN creates, and READSTRING as the next instruction of the same process.
 use Prim.Native.Nat.{ℕ, _+_}
 use mathlib.Core.Path.{_≡_}
-use mathlib.Core.Bool.{Bool, true, false, _&&_, _||_, not}
+use mathlib.Core.Bool.{Bool, true, false, _||_, not}
 use mathlib.Core.List.{List, [], _∷_, _++_}
 use lib.Dec.{eqb}
 use lib.IntN.{pos}
 use Rattle.buffer.specs.Lists.{all}
 use Rattle.buffer.specs.declared.Found.{Found}
 use Rattle.buffer.specs.declared.Found.the-variants.{At, Nowhere}
-use Rattle.machine.specs.Answer.{Call, turn, round, command, run, other}
+use Rattle.machine.specs.Answer.{Call, turn}
 use Rattle.machine.specs.Beyond.{advanced, fileRun}
 use Rattle.machine.specs.Fields.{filesOn}
 use Rattle.machine.specs.Observation.{placeIn}
 use Rattle.machine.specs.Refusals.{Passes}
 use Rattle.machine.specs.State.{localOf, withFile, withLocal}
-use Rattle.machine.specs.Suppositions.{executedBy, isDoneBy, processIn, writeLands}
+use Rattle.machine.specs.Suppositions.{executedBy, isDoneBy, ofDoneTurn, processIn, writeLands}
 use Rattle.machine.specs.Trace.{Event, Invocation, Storage, events}
 use Rattle.machine.specs.declared.Process.{Process}
 
@@ -27,24 +27,20 @@ pub record Executes (i slot byte : ℕ) (e : Event) : Type 0 where
   pub found : executedBy (e .before) slot ≡ byte
 
 -- an OPEN that leaves a file more on the disc
-pub record Creates (i slot : ℕ) (e : Event) : Type 0 where
+pub record OpensNew (i slot : ℕ) (e : Event) : Type 0 where
   pub opens : Executes i slot 53 e
   pub more : filesOn (e .after .disc) ≡ filesOn (e .before .disc) + 1
 
--- ---- what may come between: all but an instruction of the process and a write into the file that it has open
-abbrev pub turnMeddles : Found → ℕ → Event → Bool
-turnMeddles Nowhere slot e = false
-turnMeddles (At own) slot e = eqb own slot || writeLands (fileRun (processIn (e .before) own .file)) slot e
+-- ---- what may not come between: an instruction of the process, and a write into the file that it has open
+abbrev pub turnInterferes : Found → ℕ → Event → Bool
+turnInterferes Nowhere slot e = false
+turnInterferes (At own) slot e = eqb own slot || writeLands (fileRun (processIn (e .before) own .file)) slot e
 
-abbrev pub meddles : ℕ → Call → Event → Bool
-meddles i (turn slot clock) e = isDoneBy (e .number) && turnMeddles (placeIn (e .before) i) slot e
-meddles i (round clock) e = false
-meddles i (command c id) e = false
-meddles i (run name) e = false
-meddles i (other o) e = false
+abbrev pub interferes : ℕ → Call → Event → Bool
+interferes i c e = ofDoneTurn c e λ slot clock. turnInterferes (placeIn (e .before) i) slot e
 
-abbrev pub NoneMeddles : ℕ → List Event → Type 0
-NoneMeddles i es = all (λ e. not (meddles i (e .call) e)) es ≡ true
+abbrev pub NoneInterferes : ℕ → List Event → Type 0
+NoneInterferes i es = all (λ e. not (interferes i (e .call) e)) es ≡ true
 
 -- ---- what READSTRING then gives
 -- behind the instruction, a byte further in the file, the empty string on the stack: its zero, the length 1, the type 3
@@ -62,14 +58,14 @@ pub record ReadsEmpty (slot : ℕ) (opening reading : Event) : Type 0 where
   pub disc : reading .after .disc ≡ reading .before .disc
 
 -- Document 02, Q-8: "READSTRING as the next instruction after such an OPEN, with no write into the file between, gives
--- the empty string." In every run from good buffers, whatever calls come between.
+-- the empty string." In every run from good buffers; a run has neither format nor boot.
 unfoldable pub NewFileReadsEmpty : Type 0
 NewFileReadsEmpty =
     (s : Storage) (calls : List Invocation) (i slot : ℕ) (earlier : List Event) (opening : Event)
     (between : List Event) (reading : Event) (later : List Event)
     → Passes (s .disc) (s .area)
     → events calls s ≡ earlier ++ (opening ∷ (between ++ (reading ∷ later)))
-    → Creates i slot opening
-    → NoneMeddles i between
+    → OpensNew i slot opening
+    → NoneInterferes i between
     → Executes i slot 59 reading
     → ReadsEmpty slot opening reading

@@ -92,12 +92,16 @@ abbrev pub turnDisturbsAt : ℕ → Found → ℕ → ℕ → Event → Bool
 turnDisturbsAt i Nowhere slot clock e = false
 turnDisturbsAt i (At own) slot clock e = turnDisturbs i own slot clock e
 
+-- a test of a done turn; it holds of no other event
+abbrev pub ofDoneTurn : Call → Event → (ℕ → ℕ → Bool) → Bool
+ofDoneTurn (turn slot clock) e test = isDoneBy (e .number) && test slot clock
+ofDoneTurn (round clock) e test = false
+ofDoneTurn (command c id) e test = false
+ofDoneTurn (run name) e test = false
+ofDoneTurn (other o) e test = false
+
 abbrev pub disturbedBy : ℕ → Call → Event → Bool
-disturbedBy i (turn slot clock) e = isDoneBy (e .number) && turnDisturbsAt i (placeIn (e .before) i) slot clock e
-disturbedBy i (round clock) e = false
-disturbedBy i (command c id) e = false
-disturbedBy i (run name) e = false
-disturbedBy i (other o) e = false
+disturbedBy i c e = ofDoneTurn c e λ slot clock. turnDisturbsAt i (placeIn (e .before) i) slot clock e
 
 abbrev pub Undisturbed : ℕ → List Event → Type 0
 Undisturbed i es = all (λ e. not (disturbedBy i (e .call) e)) es ≡ true

@@ -33,7 +33,7 @@ pub record Admitted (disc name : List ℕ) (n s : ℕ) : Type 0 where
   pub lowest : placeOf disc n ≡ At s
   pub placed : Fits (taken disc) dataStart (length disc) n s
 
--- and so are that many zeros
+-- where n bytes are admitted, n zeros are
 pub zeros-admitted : {disc name : List ℕ} {n s : ℕ} → Admitted disc name n s → Admitted disc name (length (zeros n)) s
 zeros-admitted {disc} {name} {n} {s} a = subst⁻¹ (λ (m : ℕ). Admitted disc name m s) (length-replicate n 0) a
 

@@ -278,7 +278,7 @@ fn stack_of(area: &[u8], record: usize) -> Stack {
 fn new_file(disc: &[u8], after: &[u8]) -> &'static str {
     let found = &disc[directory::range(after, directory::count(disc))];
     match found.last() {
-        Some(byte) if *byte != 0 => "OPEN, a new file, its last byte not 0",
+        Some(byte) if *byte != 0 => "OPEN, a new file over a last byte that is not 0",
         _ if found.iter().any(|byte| *byte != 0) => "OPEN, a new file over bytes that are not 0",
         _ => "OPEN, a new file, zeros as found",
     }

@@ -45,7 +45,7 @@ const NEEDED: [(&str, u64); 29] = [
     ("OPEN, a file that exists", 1),
     ("OPEN, a new file, zeros as found", 1),
     ("OPEN, a new file over bytes that are not 0", 1),
-    ("OPEN, a new file, its last byte not 0", 1),
+    ("OPEN, a new file over a last byte that is not 0", 1),
     ("OPEN, refused by name", 1),
     ("OPEN, refused by size", 1),
     ("OPEN, refused by ten files", 1),

@@ -18,7 +18,7 @@ use Rattle.machine.specs.Area.{kernelBytes, kernelOf}
 use Rattle.machine.specs.Beyond.{fileRun}
 use Rattle.machine.specs.Ended.{ended}
 use Rattle.machine.specs.Limits.{slotCount, turnRoom}
-use Rattle.machine.specs.NewFile.{NoneMeddles, meddles, turnMeddles}
+use Rattle.machine.specs.NewFile.{NoneInterferes, interferes, turnInterferes}
 use Rattle.machine.specs.Observation.{placeIn}
 use Rattle.machine.specs.Operations.{Command, becomes, refused as denied, suspend, resume, kill, changed, commandAt, commanded}
 use Rattle.machine.specs.Refusals.{Passes}
@@ -159,11 +159,11 @@ module _ (i slot : ℕ) (p : Process) (bytes : List ℕ) (named : p .id ≡ i) (
             (turn-running b at clock passes room (lt-ltb at slotCount (live-below-ten good at (running-live (processAt k at) h))) h)
 
         -- what a turn that is done does not do
-        supposed : meddles i (turn at clock) e ≡ false → isRunning (processAt k at) ≡ true
+        supposed : interferes i (turn at clock) e ≡ false → isRunning (processAt k at) ≡ true
             → eqb slot at || writeLands (fileRun (processAt k slot .file)) at e ≡ false
-        supposed h r = subst (λ (f : Found). turnMeddles f at e ≡ false) place (and-false-right (isDoneBy (a .number)) _ (done r) h)
+        supposed h r = subst (λ (f : Found). turnInterferes f at e ≡ false) place (and-false-right (isDoneBy (a .number)) _ (done r) h)
 
-        own-turn : slot ≡ at → meddles i (turn at clock) e ≡ false → Left a
+        own-turn : slot ≡ at → interferes i (turn at clock) e ≡ false → Left a
         own-turn same h = go (isRunning (processAt k at)) refl
           where
             go : (r : Bool) → isRunning (processAt k at) ≡ r → Left a
@@ -174,14 +174,14 @@ module _ (i slot : ℕ) (p : Process) (bytes : List ℕ) (named : p .id ≡ i) (
                 (lt-ltb at slotCount (subst (λ (n : ℕ). n < slotCount) same (live-below-ten good slot live))) r)
                 as-it-was
 
-        no-write : meddles i (turn at clock) e ≡ false → isRunning (processAt k at) ≡ true
+        no-write : interferes i (turn at clock) e ≡ false → isRunning (processAt k at) ≡ true
             → NoWriteInto (fileRun (p .file)) at k (s .disc) (kernelOf (a .area))
         unfolding writeLands
         no-write h r byte alive start len =
             true-not-false (and-both (eq-eqb _ _ byte) (and-both alive (and-both (eq-eqb _ _ start) (eq-eqb _ _ len))))
             (subst (λ (f : OpenFile). writeLands (fileRun f) at e ≡ false) same-file (or-false-right (eqb slot at) _ (supposed h r)))
 
-        any-turn : meddles i (turn at clock) e ≡ false → Left a
+        any-turn : interferes i (turn at clock) e ≡ false → Left a
         any-turn h = go (eqb slot at) refl
           where
             go : (f : Bool) → eqb slot at ≡ f → Left a
@@ -196,7 +196,7 @@ module _ (i slot : ℕ) (p : Process) (bytes : List ℕ) (named : p .id ≡ i) (
           go false q = others (command c id) refl
               (record { turns = tt; commands = λ at. eqb-false id i q (sym (slot-at k id slot at .2) ∙ id-here) }) tt
 
-      one-call : (c : Call) (text : List ℕ) → Reports c out (answer c b) text → meddles i c (event c s (answer c b) text) ≡ false
+      one-call : (c : Call) (text : List ℕ) → Reports c out (answer c b) text → interferes i c (event c s (answer c b) text) ≡ false
           → Left (answer c b)
       one-call (turn at clock) text r h = any-turn at clock (r .turns .0) text h
       one-call (command c id) text r h = any-command c id
@@ -204,24 +204,24 @@ module _ (i slot : ℕ) (p : Process) (bytes : List ℕ) (named : p .id ≡ i) (
       one-call (run name) text r h = others (run name) refl (record { turns = tt; commands = tt }) tt
       one-call (other o) text r h = others (other o) refl (record { turns = tt; commands = tt }) tt
 
-    step : (c : Call) (text : List ℕ) → Reports c out (answer c b) text → meddles i c (event c s (answer c b) text) ≡ false
+    step : (c : Call) (text : List ℕ) → Reports c out (answer c b) text → interferes i c (event c s (answer c b) text) ≡ false
         → Kept k (s .disc) → Left (answer c b)
     step c text r h (on state here live held) = one-call state here live held c text r h
     step c text r h (off gone) = off (effects-gone good i c gone (call-effects s out passes c (r .single)))
 
   -- ---- the events between
   one-event : (k : Kernel) (disc : List ℕ) (e : Event) → kernelOf (e .before .area) ≡ k → e .before .disc ≡ disc
-      → Passes (e .before .disc) (e .before .area) → (g : Genuine e) → meddles i (e .call) e ≡ false → Kept k disc
+      → Passes (e .before .disc) (e .before .area) → (g : Genuine e) → interferes i (e .call) e ≡ false → Kept k disc
       → Kept (kernelOf (e .after .area)) (e .after .disc)
   one-event k disc e q d passes g h w =
       subst⁻¹ (λ (x : Event). Kept (kernelOf (x .after .area)) (x .after .disc)) (g .same)
       (step (e .before) (g .out) passes (e .call) (e .text) (g .reports)
-      (subst (λ (x : Event). meddles i (e .call) x ≡ false) (g .same) h)
+      (subst (λ (x : Event). interferes i (e .call) x ≡ false) (g .same) h)
       (subst⁻¹ (λ (x : Kernel). Kept x (e .before .disc)) q (subst⁻¹ (λ (l : List ℕ). Kept k l) d w)))
 
   -- the process waits until the event that follows them
   pub waits-until : (k : Kernel) (disc : List ℕ) (es : List Event) (last : Event) (later : List Event)
-      → Chain k disc (es ++ (last ∷ later)) → NoneMeddles i es → Kept k disc
+      → Chain k disc (es ++ (last ∷ later)) → NoneInterferes i es → Kept k disc
       → Kept (kernelOf (last .before .area)) (last .before .disc) × Genuine last
   unfolding Chain all
   waits-until k disc [] last later c none w = (
@@ -229,6 +229,6 @@ module _ (i slot : ℕ) (p : Process) (bytes : List ℕ) (named : p .id ≡ i) (
     c .3,
   )
   waits-until k disc (e ∷ es) last later c none w =
-      let quiet : Bool = not (meddles i (e .call) e) in
+      let quiet : Bool = not (interferes i (e .call) e) in
       waits-until (kernelOf (e .after .area)) (e .after .disc) es last later (c .4) (and-right quiet _ none)
       (one-event k disc e (c .0) (c .1) (c .2) (c .3) (not-true _ (and-left quiet _ none)) w)

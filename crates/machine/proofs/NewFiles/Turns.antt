@@ -12,7 +12,7 @@ use Rattle.store.specs.Directory.{contents, fileCount}
 use Rattle.machine.specs.Answer.{Answer, Buffers, Call, turn, answer, turnedAnswer}
 use Rattle.machine.specs.Area.{kernelOf}
 use Rattle.machine.specs.Beyond.{fileRun}
-use Rattle.machine.specs.NewFile.{Creates, Executes, NewFileReadsEmpty, ReadsEmpty, withEmptyString}
+use Rattle.machine.specs.NewFile.{Executes, NewFileReadsEmpty, OpensNew, ReadsEmpty, withEmptyString}
 use Rattle.machine.specs.Refusals.{MayTurn}
 use Rattle.machine.specs.State.{processAt, running, withState}
 use Rattle.machine.specs.Suppositions.{isDoneBy, processIn}
@@ -69,7 +69,7 @@ took {i} {slot} {byte} {e} g x =
     whole = turn-done b slot (x .clock) may
 
 -- ---- the two turns
-opened-fresh : {i slot : ℕ} {e : Event} → Genuine e → Creates i slot e → Fresh i (processIn (e .after) slot) (e .after .disc)
+opened-fresh : {i slot : ℕ} {e : Event} → Genuine e → OpensNew i slot e → Fresh i (processIn (e .after) slot) (e .after .disc)
 opened-fresh {i} {slot} {e} g x =
     subst (λ (n : ℕ). Fresh n (processIn (e .after) slot) (e .after .disc))
     (slot-at k i slot (sym (place-is-slot (e .before) i) ∙ x .opens .own) .2)

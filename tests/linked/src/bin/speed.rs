@@ -22,7 +22,7 @@ fn main() {
     let rows = rows();
     let measured = measure(&rows, calls);
     println!("{REPEATS} interleaved samples of {calls} calls, ns of processor time");
-    println!("ten live processes, 25 variables, ten files whose names differ in the last byte");
+    println!("ten live processes, 25 variables, ten files whose names differ in the last byte; for OPEN one file");
     println!("| call | first: least, median | second: least, median | first / second: median (least to greatest) |");
     println!("|---|---|---|---|");
     for (row, samples) in rows.iter().zip(&measured.rows) {
@@ -68,11 +68,7 @@ fn rows() -> Vec<Row> {
         Row::new("round, ten SETs", &set, &round),
         Row::new("round, ten PRINTs of FLOAT", &print, &round),
         Row::new("store, nine files there", &nine_files(&increment), &store),
-        Row::new(
-            "turn, OPEN of a new file of 862 bytes",
-            &one_byte_program(),
-            &Call::Turn { slot: 0, clock: 0, room: TURN_OUTPUT },
-        ),
+        Row::new("turn, OPEN of a new file of 862 bytes", &one_file(), &turn),
     ]
 }
 
@@ -88,18 +84,23 @@ fn full_state(code: &[u8], stack: &[u8]) -> State {
         second::store(&mut state.disc, &name, &data).expect("ten files of 86 bytes fit");
         second::run(&state.disc, &mut state.area, &name).expect("there are ten slots");
     }
+    fill(&mut state.area, stack);
+    state
+}
+
+/// Gives every process this stack, and fills the table of variables.
+fn fill(area: &mut [u8], stack: &[u8]) {
     for record in records::all() {
-        state.area[record + STACK..record + STACK + stack.len()].copy_from_slice(stack);
-        state.area[record + SP] = stack.len() as u8;
+        area[record + STACK..record + STACK + stack.len()].copy_from_slice(stack);
+        area[record + SP] = stack.len() as u8;
     }
     for index in 0..MAX_VARIABLES {
         let at = VARIABLES + index * VARIABLE_LEN;
         let (name, id) = (b'a' + (index / 10) as u8, 1 + index % 10);
-        state.area[at..at + 4].copy_from_slice(&[name, 2, 2 * index as u8, 2]);
-        set_word(&mut state.area, at + VARIABLE_ID, id);
+        area[at..at + 4].copy_from_slice(&[name, 2, 2 * index as u8, 2]);
+        set_word(area, at + VARIABLE_ID, id);
     }
-    state.area[VARIABLE_COUNT] = MAX_VARIABLES as u8;
-    state
+    area[VARIABLE_COUNT] = MAX_VARIABLES as u8;
 }
 
 /// The same with the process of slot 5 paused: a turn of it is refused after all tests, before anything is executed.
@@ -117,17 +118,17 @@ fn nine_files(state: &State) -> State {
     state
 }
 
-/// A process at OPEN, its program the one byte, the rest of the disc free and not zero: the longest turn.
-fn one_byte_program() -> State {
+/// Ten processes at OPEN, their program of one byte the only file, the rest of the disc not zero: the most zeros that one
+/// OPEN lays.
+fn one_file() -> State {
     let mut state = State::zero();
     second::format(&mut state.disc, &mut state.area).expect("the lengths are right");
     state.disc[DATA_START..].fill(9);
     second::store(&mut state.disc, b"p", &[OPEN]).expect("the disc is empty");
-    let record = records::all().next().expect("there are ten");
-    second::run(&state.disc, &mut state.area, b"p").expect("the slot is free");
-    let stack = [b'n', 0, 2, 3, 3, 94, 2];
-    state.area[record + STACK..record + STACK + stack.len()].copy_from_slice(&stack);
-    state.area[record + SP] = stack.len() as u8;
+    for _ in records::all() {
+        second::run(&state.disc, &mut state.area, b"p").expect("there are ten slots");
+    }
+    fill(&mut state.area, &[b'n', 0, 2, 3, 3, 94, 2]);
     state
 }
 
