@@ -8,3 +8,5 @@ pub mod Goodness
 pub mod Programs
 -- a log erased and created again
 pub mod NewFiles
+-- the law about new files is not empty
+pub mod NewFileExample

@@ -16,7 +16,7 @@ reader = 3 ∷ 108 ∷ 111 ∷ 103 ∷ 0 ∷ 1 ∷ 4 ∷ 53 ∷ 59 ∷ []
 abbrev tail : List ℕ
 tail = 97 ∷ 98 ∷ 0 ∷ 99 ∷ 100 ∷ []
 
-abbrev files : List Call
+abbrev pub files : List Call
 files = other (store (112 ∷ []) reader) ∷ other (store log tail) ∷ []
 
 abbrev reads : List Call

@@ -1,5 +1,6 @@
 // Literal rows: calls on bytes, against bytes written out at their offsets.
 ghost use Rattle.literal_rows.specs.Goodness.{AreaRows, DiscRows};
+ghost use Rattle.literal_rows.specs.NewFileExample.{NewFileExample};
 ghost use Rattle.literal_rows.specs.NewFiles.{NewFilesOnBytes};
 ghost use Rattle.literal_rows.specs.Programs.{BenchOnBytes, WaitsOnBytes};
 ghost use Rattle.literal_rows.specs.Run.{Listings, RunOnBytes};
@@ -37,4 +38,9 @@ pub fn waits_on_bytes()
 // Document 02, Q-8: a log erased and created again is zeros, one that was not erased keeps its bytes.
 pub fn new_files_on_bytes()
     ensures { λ _. ⌜ NewFilesOnBytes ⌝ }
+{}
+
+// Document 02, Q-8: the law about new files is not empty; a run in which all that it supposes holds.
+pub fn new_file_example()
+    ensures { λ _. ⌜ NewFileExample ⌝ }
 {}
