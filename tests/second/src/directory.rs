@@ -73,9 +73,9 @@ pub fn find(disc: &[u8], wanted: &[u8]) -> Option<usize> {
     (0..count(disc)).find(|&index| trimmed(name(disc, index)) == wanted)
 }
 
-/// "The file takes the lowest start that fits."
+/// Document 02, Q-10: "A new file or variable now goes at the start of the shortest free run that fits".
 pub fn place(disc: &[u8], length: usize) -> Option<usize> {
-    runs::lowest_start(DATA_START..DISC_LEN, ranges(disc), length)
+    runs::place(DATA_START..DISC_LEN, ranges(disc), length)
 }
 
 /// Adds an entry for a new name; *store*'s 8 and 9. Returns the file's start.

@@ -7,30 +7,22 @@ pub fn disjoint(a: &Range<usize>, b: &Range<usize>) -> bool {
     a.end <= b.start || b.end <= a.start
 }
 
-/// The starts that a lowest free run can have: the bottom, and past each taken range.
-fn starts(bottom: usize, taken: impl Iterator<Item = Range<usize>>) -> impl Iterator<Item = usize> {
-    std::iter::once(bottom).chain(taken.map(|range| range.end))
+/// The free runs between taken ranges that share no byte, from low to high: what lies before, between and past them.
+fn free_runs(bounds: Range<usize>, taken: impl Iterator<Item = Range<usize>>) -> impl Iterator<Item = Range<usize>> {
+    let mut taken: Vec<_> = taken.collect();
+    taken.sort_by_key(|range| range.start);
+    let starts = std::iter::once(bounds.start).chain(taken.clone().into_iter().map(|range| range.end));
+    let ends = taken.into_iter().map(|range| range.start).chain(std::iter::once(bounds.end));
+    starts.zip(ends).map(|(start, end)| start..end)
 }
 
-/// "takes the lowest start that fits", "the lowest fitting address".
-pub fn lowest_start<T>(bounds: Range<usize>, taken: T, length: usize) -> Option<usize>
-where
-    T: Iterator<Item = Range<usize>> + Clone,
-{
-    starts(bounds.start, taken.clone())
-        .filter(|&start| start + length <= bounds.end)
-        .filter(|&start| taken.clone().all(|range| disjoint(&range, &(start..start + length))))
-        .min()
+/// Document 02, Q-10: "the start of the shortest free run that fits, the lowest of equals".
+pub fn place(bounds: Range<usize>, taken: impl Iterator<Item = Range<usize>>, length: usize) -> Option<usize> {
+    // the first of the least
+    free_runs(bounds, taken).filter(|run| run.len() >= length).min_by_key(Range::len).map(|run| run.start)
 }
 
-/// "the longest free run": from each start to the next taken range or the end of the bounds.
-pub fn longest_run<T>(bounds: Range<usize>, taken: T) -> usize
-where
-    T: Iterator<Item = Range<usize>> + Clone,
-{
-    let free_bytes_from = |start| {
-        let next = taken.clone().map(|range| range.start).filter(|&next| next >= start).min();
-        next.unwrap_or(bounds.end) - start
-    };
-    starts(bounds.start, taken.clone()).map(free_bytes_from).max().unwrap_or(0)
+/// "the longest free run"
+pub fn longest_run(bounds: Range<usize>, taken: impl Iterator<Item = Range<usize>>) -> usize {
+    free_runs(bounds, taken).map(|run| run.len()).max().unwrap_or(0)
 }

@@ -58,13 +58,14 @@ pub fn free_all(area: &mut [u8], owner: usize) {
     }
 }
 
-/// "SET first frees the old variable, then takes the lowest fitting address."; "10 no variable entry or run".
+/// "SET first frees the old variable", and by document 02, Q-10, the new one goes "at the start of the shortest free run
+/// that fits"; "10 no variable entry or run".
 pub fn set(area: &mut [u8], name: u8, id: usize, kind: u8, bytes: &[u8]) -> Result<(), Fault> {
     let old = find(area, name, id);
     let kept = (0..count(area)).filter(|&index| Some(index) != old);
     need(kept.clone().count() < MAX_VARIABLES, Fault::NoVariableSpace)?;
     let taken = kept.map(|index| range(area, index));
-    let address = runs::lowest_start(0..MEMORY_LEN, taken, bytes.len()).ok_or(Fault::NoVariableSpace)?;
+    let address = runs::place(0..MEMORY_LEN, taken, bytes.len()).ok_or(Fault::NoVariableSpace)?;
     if let Some(index) = old {
         remove(area, index);
     }
