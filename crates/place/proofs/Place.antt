@@ -1,22 +1,24 @@
--- Laws of places: what is found is free and inside, nothing lower fits, none found means none fits; and the longest free run.
+-- Laws of places: what is found is free and inside, none found means none fits; and the longest free run. That it is the
+-- shortest run that fits is in FreeRuns.
 use Prim.Native.Nat.{ℕ, zero, suc, _+_, _-_, _≤_, _<_}
-use mathlib.Core.Path.{_≡_, refl, sym, ap, subst}
-use mathlib.Core.Bool.{Bool, true, false, _&&_, _||_, and-false}
+use mathlib.Core.Path.{_≡_, refl, sym, ap, _∙_}
+use mathlib.Core.Bool.{Bool, true, false, not, _&&_, _||_, and-false}
 use mathlib.Core.List.{List, append-assoc}
 use mathlib.Core.Logic.{_⊎_, inl, inr, ⊎-elim}
-use native.Mathlib.Nat.{not-suc-le-zero, le-of-suc-le-suc, eq-or-lt-of-le}
 use native.Mathlib.Omega.{arith}
 use lib.Dec.{leb}
-use lib.ListN.{length, getD, replicate, set, take}
+use lib.ListN.{length, replicate, set, take}
 use lib.Seq.{set-at, take-append-seam}
-use borrow.Author.Tests.{le-leb, lt-leb, leb-true, leb-false}
+use borrow.Author.Tests.{le-leb, lt-leb, leb-true, leb-false, not-true}
 use Rattle.buffer.specs.Lists.{all, tab}
 use Rattle.buffer.specs.declared.Found.{Found}
 use Rattle.buffer.specs.declared.Found.the-variants.{At, Nowhere}
-use Rattle.buffer.proofs.Bools.{and-left, and-right, true-not-false, not-true-is-false}
-use Rattle.buffer.proofs.Lists.{all-stop, all-take-next, all-weaker, tab-length, tab-more}
-use Rattle.place.specs.Place.{runFrom, noRun, maxRuns, filled, apart, fits, atOr, lowest, place, isAt, greaterOf, greatest, longest}
+use Rattle.buffer.proofs.Bools.{and-both, and-left, and-right, not-is-true, not-true-is-false, true-not-false}
+use Rattle.buffer.proofs.Lists.{all-weaker, tab-length, tab-more}
+use Rattle.place.specs.Place.{runFrom, noRun, maxRuns, filled, apart, fits, lowestFit, begins, freeFrom, place, isAt, longest}
 use Rattle.place.specs.declared.Run.{Run}
+use Rattle.place.proofs.Search.{Least, greatest-bound, greatest-holds, greatest-is, greatest-most, least-at, least-is, least-none}
+use Rattle.place.proofs.Search.{lowest-at, lowest-is, lowest-none, lowest-nowhere}
 
 -- ---- apart
 pub record Apart (u v : Run) : Type 0 where
@@ -93,121 +95,52 @@ module _ (runs : List Run) (lo hi n : ℕ) where
   unfolding fits
   fits-above s h = rw (lt-leb _ _ h) (and-false (leb lo s))
 
-  -- no start from s up to the end of a run that s meets is free
-  pub fits-not-before-end : (s i j : ℕ) (d : Run) → i < length runs → apart (runFrom s n) (getD runs i d) ≡ false → s ≤ j
-      → j < getD runs i d .start + getD runs i d .len → fits runs lo hi n j ≡ false
-  unfolding fits
-  fits-not-before-end s i j d h e a b =
-      let m = meet-is (runFrom s n) (getD runs i d) e in
-      let k : apart (runFrom j n) (getD runs i d) ≡ false =
-      is-meet (runFrom j n) (getD runs i d) (record { left = omega (arith, m .left); right = b }) in
-      rw (all-stop (apart (runFrom j n)) runs i d h k, and-false (leb (j + n) hi)) (and-false (leb lo j))
-
-  -- so none before that end is free, where none before s is
-  pub fits-none-before-end : (s i : ℕ) (d : Run) → i < length runs → apart (runFrom s n) (getD runs i d) ≡ false
-      → ((j : ℕ) → j < s → fits runs lo hi n j ≡ false) → (j : ℕ) → j < getD runs i d .start + getD runs i d .len
-      → fits runs lo hi n j ≡ false
-  fits-none-before-end s i d h e f j b = go (leb s j) refl
+module _ (runs : List Run) (lo hi n s : ℕ) (e : fits runs lo hi n s ≡ true) where
+  -- bytes among those that fit do
+  pub fits-inside : (m t : ℕ) → s ≤ t → t + m ≤ s + n → fits runs lo hi m t ≡ true
+  fits-inside m t a b =
+      let x = fits-is runs lo hi n s e in
+      is-fits runs lo hi m t
+      (record {
+        low = omega (arith, x .low);
+        high = omega (arith, x .high);
+        free =
+            all-weaker (apart (runFrom s n)) (apart (runFrom t m)) runs
+            (λ v h. is-apart (runFrom t m) v (inside v (apart-is (runFrom s n) v h))) (x .free);
+      })
     where
-      go : (t : Bool) → leb s j ≡ t → fits runs lo hi n j ≡ false
-      go true k = fits-not-before-end s i j d h e (leb-true _ _ k) b
-      go false k = f j (leb-false _ _ k)
+      inside : (v : Run) → Apart (runFrom s n) v → Apart (runFrom t m) v
+      inside v h =
+          record {
+            sides =
+                ⊎-elim (λ (w : s + n ≤ v .start). inl (omega arith)) (λ (w : v .start + v .len ≤ s). inr (omega arith))
+                (h .sides);
+          }
 
-  -- where none below s fits and s is too high, none fits
-  pub none-fits : (s : ℕ) → ((j : ℕ) → j < s → fits runs lo hi n j ≡ false) → hi < s + n → (j : ℕ) → fits runs lo hi n j ≡ false
-  none-fits s f h j = go (leb s j) refl
-    where
-      go : (t : Bool) → leb s j ≡ t → fits runs lo hi n j ≡ false
-      go true k = fits-above j (let x : s ≤ j = leb-true _ _ k in omega arith)
-      go false k = f j (leb-false _ _ k)
+  -- a low end is nothing but a bound
+  pub fits-from : (low : ℕ) → low ≤ s → fits runs low hi n s ≡ true
+  fits-from low h = let x = fits-is runs lo hi n s e in
+      is-fits runs low hi n s (record { low = h; high = x .high; free = x .free })
 
--- ---- a pass over the runs
--- after the first i of them: nothing below start fits, and where it has not moved it is apart from them
-pub record Pass (runs : List Run) (lo hi n from i start : ℕ) : Type 0 where
-  pub forward : from ≤ start
-  pub none : (j : ℕ) → j < start → fits runs lo hi n j ≡ false
-  pub clear : start ≡ from → all (apart (runFrom start n)) (take i runs) ≡ true
-
-module _ {runs : List Run} {lo hi n from i start : ℕ} (p : Pass runs lo hi n from i start) (d : Run) (inside : i < length runs) where
-  pub pass-apart : apart (runFrom start n) (getD runs i d) ≡ true → Pass runs lo hi n from (i + 1) start
-  pass-apart e =
-      record {
-        forward = p .forward;
-        none = p .none;
-        clear = λ same. all-take-next (apart (runFrom start n)) runs i d inside (p .clear same) e;
-      }
-
-  pub pass-meets : apart (runFrom start n) (getD runs i d) ≡ false
-      → Pass runs lo hi n from (i + 1) (getD runs i d .start + getD runs i d .len)
-  pass-meets e =
-      let m = meet-is _ _ e in
-      record {
-        forward = omega (arith, m .right, p .forward);
-        none = fits-none-before-end runs lo hi n start i d inside e (p .none);
-        clear = λ same. absurd (omega (arith, m .right, p .forward, same));
-      }
-
--- ---- the lowest number that a test holds of
-module _ (p : ℕ → Bool) where
-  lowest-is : (k m s : ℕ) → k ≤ s → s < k + m → p s ≡ true → ((j : ℕ) → j < s → p j ≡ false) → lowest p k m ≡ At s
-  unfolding lowest
-  lowest-is k zero s a b e f = absurd (omega arith)
-  lowest-is k (suc m) s a b e f =
-      ⊎-elim (λ (w : k ≡ s). rw (subst (λ (j : ℕ). p j ≡ true) (sym w) e) (ap At w))
-      (λ (w : k < s). rw (f k w) (lowest-is (suc k) m s w (omega arith) e f)) (eq-or-lt-of-le a)
-
-  lowest-nowhere : (k m : ℕ) → ((j : ℕ) → p j ≡ false) → lowest p k m ≡ Nowhere
-  unfolding lowest
-  lowest-nowhere k zero f = refl
-  lowest-nowhere k (suc m) f = rw (f k) (lowest-nowhere (suc k) m f)
-
-  record Lowest (k s : ℕ) : Type 0 where
-    holds : p s ≡ true
-    first : (j : ℕ) → k ≤ j → j < s → p j ≡ false
-
-  lowest-at : (k m s : ℕ) → lowest p k m ≡ At s → Lowest k s
-  unfolding lowest
-  lowest-at k zero s e = absurd (let z : _≡_ {A = ℕ} 0 1 = cc in omega arith)
-  lowest-at k (suc m) s e = go (p k) refl e (lowest-at (suc k) m s)
-    where
-      go : (b : Bool) → p k ≡ b → atOr b k (lowest p (suc k) m) ≡ At s → (lowest p (suc k) m ≡ At s → Lowest (suc k) s) → Lowest k s
-      go true q h r = let w : k ≡ s = cc in record { holds = subst (λ (j : ℕ). p j ≡ true) w q; first = λ j x y. absurd (omega arith) }
-      go false q h r = record {
-        holds = r h .holds;
-        first = λ j x y.
-            ⊎-elim (λ w. subst (λ (i : ℕ). p i ≡ false) w q) (λ w. r h .first j w y) (eq-or-lt-of-le x);
-      }
-
-  lowest-none : (k m : ℕ) → lowest p k m ≡ Nowhere → (j : ℕ) → k ≤ j → j < k + m → p j ≡ false
-  unfolding lowest
-  lowest-none k zero e j x y = absurd (omega arith)
-  lowest-none k (suc m) e j x y = go (p k) refl e (lowest-none (suc k) m)
-    where
-      go : (b : Bool) → p k ≡ b → atOr b k (lowest p (suc k) m) ≡ Nowhere
-          → (lowest p (suc k) m ≡ Nowhere → (i : ℕ) → suc k ≤ i → i < suc k + m → p i ≡ false) → p j ≡ false
-      go true q h r = absurd (let z : _≡_ {A = ℕ} 0 1 = cc in omega arith)
-      go false q h r = ⊎-elim (λ w. subst (λ (i : ℕ). p i ≡ false) w q) (λ w. r h j w (omega arith)) (eq-or-lt-of-le x)
-
--- ---- places
+-- ---- the lowest start that fits
 module _ (runs : List Run) (lo hi n : ℕ) where
-  -- what is found lies inside and is free
-  pub place-fits : (s : ℕ) → place runs lo hi n ≡ At s → Fits runs lo hi n s
-  unfolding place
-  place-fits s e = fits-is runs lo hi n s (lowest-at (fits runs lo hi n) lo (suc hi - lo) s e .holds)
+  pub lowest-fit-fits : (s : ℕ) → lowestFit runs lo hi n ≡ At s → fits runs lo hi n s ≡ true
+  unfolding lowestFit
+  lowest-fit-fits s e = lowest-at (fits runs lo hi n) lo (suc hi - lo) s e .holds
 
   -- nothing lower fits
-  pub place-lowest : (s j : ℕ) → place runs lo hi n ≡ At s → j < s → fits runs lo hi n j ≡ false
-  unfolding place
-  place-lowest s j e h = go (leb lo j) refl
+  pub lowest-fit-first : (s j : ℕ) → lowestFit runs lo hi n ≡ At s → j < s → fits runs lo hi n j ≡ false
+  unfolding lowestFit
+  lowest-fit-first s j e h = go (leb lo j) refl
     where
       go : (b : Bool) → leb lo j ≡ b → fits runs lo hi n j ≡ false
       go true k = lowest-at (fits runs lo hi n) lo (suc hi - lo) s e .first j (leb-true _ _ k) h
       go false k = fits-below runs lo hi n j (leb-false _ _ k)
 
   -- none found: none fits
-  pub no-place-none-fits : place runs lo hi n ≡ Nowhere → (j : ℕ) → fits runs lo hi n j ≡ false
-  unfolding place
-  no-place-none-fits e j = go (leb lo j) refl (leb (j + n) hi) refl
+  pub no-lowest-fit : lowestFit runs lo hi n ≡ Nowhere → (j : ℕ) → fits runs lo hi n j ≡ false
+  unfolding lowestFit
+  no-lowest-fit e j = go (leb lo j) refl (leb (j + n) hi) refl
     where
       go : (b : Bool) → leb lo j ≡ b → (c : Bool) → leb (j + n) hi ≡ c → fits runs lo hi n j ≡ false
       go false k c l = fits-below runs lo hi n j (leb-false _ _ k)
@@ -215,112 +148,134 @@ module _ (runs : List Run) (lo hi n : ℕ) where
       go true k true l = lowest-none (fits runs lo hi n) lo (suc hi - lo) e j (leb-true _ _ k) (let x : lo ≤ j = leb-true _ _ k in
           let y : j + n ≤ hi = leb-true _ _ l in omega arith)
 
-  -- the other way round: where a place is, there it is found
-  pub place-is : (s : ℕ) → fits runs lo hi n s ≡ true → ((j : ℕ) → j < s → fits runs lo hi n j ≡ false) → place runs lo hi n ≡ At s
-  unfolding place
-  place-is s e f =
+  -- the other way round
+  pub lowest-fit-is : (s : ℕ) → fits runs lo hi n s ≡ true → ((j : ℕ) → j < s → fits runs lo hi n j ≡ false)
+      → lowestFit runs lo hi n ≡ At s
+  unfolding lowestFit
+  lowest-fit-is s e f =
       let x = fits-is runs lo hi n s e in
       lowest-is (fits runs lo hi n) lo (suc hi - lo) s (x .low) (omega (arith, x .low, x .high)) e f
 
-  pub place-nowhere : ((j : ℕ) → fits runs lo hi n j ≡ false) → place runs lo hi n ≡ Nowhere
-  unfolding place
-  place-nowhere f = lowest-nowhere (fits runs lo hi n) lo (suc hi - lo) f
+  pub lowest-fit-nowhere : ((j : ℕ) → fits runs lo hi n j ≡ false) → lowestFit runs lo hi n ≡ Nowhere
+  unfolding lowestFit
+  lowest-fit-nowhere f = lowest-nowhere (fits runs lo hi n) lo (suc hi - lo) f
 
-  pub place-some : (s : ℕ) → fits runs lo hi n s ≡ true → isAt (place runs lo hi n) ≡ true
-  place-some s e = go (place runs lo hi n) refl
+  pub lowest-fit-some : (s : ℕ) → fits runs lo hi n s ≡ true → isAt (lowestFit runs lo hi n) ≡ true
+  lowest-fit-some s e = go (lowestFit runs lo hi n) refl
     where
-      go : (f : Found) → place runs lo hi n ≡ f → isAt f ≡ true
+      go : (f : Found) → lowestFit runs lo hi n ≡ f → isAt f ≡ true
       go (At k) h = refl
-      go Nowhere h = absurd (true-not-false e (no-place-none-fits h s))
+      go Nowhere h = absurd (true-not-false e (no-lowest-fit h s))
 
--- a shorter run has a place where a longer one has
-pub place-shorter : (runs : List Run) (lo hi m n : ℕ) → m ≤ n → isAt (place runs lo hi n) ≡ true → isAt (place runs lo hi m) ≡ true
-place-shorter runs lo hi m n h e = go (place runs lo hi n) refl e
-  where
-    go : (f : Found) → place runs lo hi n ≡ f → isAt f ≡ true → isAt (place runs lo hi m) ≡ true
-    go Nowhere k t = absurd (true-not-false t refl)
-    go (At s) k t =
-        let x = place-fits runs lo hi n s k in
-        place-some runs lo hi m s
-        (is-fits runs lo hi m s
-        (record {
-          low = x .low;
-          high = omega (arith, x .high);
-          free =
-              all-weaker (apart (runFrom s n)) (apart (runFrom s m)) runs
-              (λ v a. is-apart (runFrom s m) v (shorter v (apart-is (runFrom s n) v a))) (x .free);
-        }))
-      where
-        shorter : (v : Run) → Apart (runFrom s n) v → Apart (runFrom s m) v
-        shorter v a = record { sides = ⊎-elim (λ (w : s + n ≤ v .start). inl (omega arith)) (λ w. inr w) (a .sides) }
+-- ---- where a free run begins
+module _ (runs : List Run) (lo hi n : ℕ) where
+  pub begins-fits : (s : ℕ) → begins runs lo hi n s ≡ true → fits runs lo hi n s ≡ true
+  unfolding begins
+  begins-fits zero e = e
+  begins-fits (suc s) e = and-left (fits runs lo hi n (suc s)) (not (fits runs lo hi (suc n) s)) e
 
--- and a longer one has none where a shorter one has none
-pub place-longer : (runs : List Run) (lo hi m n : ℕ) → m ≤ n → isAt (place runs lo hi m) ≡ false → isAt (place runs lo hi n) ≡ false
-place-longer runs lo hi m n h e = not-true-is-false (isAt (place runs lo hi n)) (λ t. true-not-false (place-shorter runs lo hi m n h t) e)
+  pub begins-first : (s t : ℕ) → suc t ≡ s → begins runs lo hi n s ≡ true → fits runs lo hi (suc n) t ≡ false
+  unfolding begins
+  begins-first zero t w e = absurd (omega arith)
+  begins-first (suc s) t w e =
+      let same : s ≡ t = omega arith in
+      rw (← same) (not-true _ (and-right (fits runs lo hi n (suc s)) (not (fits runs lo hi (suc n) s)) e))
+
+  pub is-begins : (s : ℕ) → fits runs lo hi n s ≡ true → ((t : ℕ) → suc t ≡ s → fits runs lo hi (suc n) t ≡ false)
+      → begins runs lo hi n s ≡ true
+  unfolding begins
+  is-begins zero e f = e
+  is-begins (suc s) e f = and-both e (not-is-true (f s refl))
+
+  -- at the lowest start that fits one begins
+  pub lowest-begins : (s : ℕ) → lowestFit runs lo hi n ≡ At s → begins runs lo hi n s ≡ true
+  lowest-begins s e =
+      is-begins s (lowest-fit-fits runs lo hi n s e) λ t w.
+      not-true-is-false (fits runs lo hi (suc n) t) λ f.
+      true-not-false (fits-inside runs lo hi (suc n) t f n t (omega arith) (omega arith))
+      (lowest-fit-first runs lo hi n s t e (omega arith))
+
+-- ---- places
+module _ (runs : List Run) (lo hi n : ℕ) where
+  -- of the starts at which a free run of n bytes or more begins the one of the shortest, the lowest of equals
+  abbrev pub IsPlace : ℕ → Type 0
+  IsPlace s = Least (begins runs lo hi n) (freeFrom runs hi) lo (suc hi - lo) s
+
+  pub place-at : (s : ℕ) → place runs lo hi n ≡ At s → IsPlace s
+  unfolding place
+  place-at s e = least-at (begins runs lo hi n) (freeFrom runs hi) lo (suc hi - lo) s e
+
+  pub place-is : (s : ℕ) → IsPlace s → place runs lo hi n ≡ At s
+  unfolding place
+  place-is s l = least-is (begins runs lo hi n) (freeFrom runs hi) lo (suc hi - lo) s l
+
+  -- what is found lies inside and is free
+  pub place-fits : (s : ℕ) → place runs lo hi n ≡ At s → Fits runs lo hi n s
+  place-fits s e = fits-is runs lo hi n s (begins-fits runs lo hi n s (place-at s e .holds))
+
+  -- none found: none fits
+  pub no-place-none-fits : place runs lo hi n ≡ Nowhere → (j : ℕ) → fits runs lo hi n j ≡ false
+  unfolding place
+  no-place-none-fits e = go (lowestFit runs lo hi n) refl
+    where
+      go : (f : Found) → lowestFit runs lo hi n ≡ f → (j : ℕ) → fits runs lo hi n j ≡ false
+      go Nowhere h = no-lowest-fit runs lo hi n h
+      go (At s) h =
+          let x = fits-is runs lo hi n s (lowest-fit-fits runs lo hi n s h) in
+          absurd (true-not-false (lowest-begins runs lo hi n s h)
+          (least-none (begins runs lo hi n) (freeFrom runs hi) lo (suc hi - lo) e s (x .low) (omega (arith, x .low, x .high))))
+
+  pub place-nowhere : ((j : ℕ) → fits runs lo hi n j ≡ false) → place runs lo hi n ≡ Nowhere
+  place-nowhere f = go (place runs lo hi n) refl
+    where
+      go : (g : Found) → place runs lo hi n ≡ g → g ≡ Nowhere
+      go Nowhere e = refl
+      go (At s) e = absurd (true-not-false (is-fits runs lo hi n s (place-fits s e)) (f s))
+
+  -- document 02, Q-10: "'no run' is said as before"
+  pub place-found : isAt (place runs lo hi n) ≡ isAt (lowestFit runs lo hi n)
+  place-found = go (place runs lo hi n) refl
+    where
+      go : (f : Found) → place runs lo hi n ≡ f → isAt f ≡ isAt (lowestFit runs lo hi n)
+      go Nowhere e = ap isAt (sym (lowest-fit-nowhere runs lo hi n (no-place-none-fits e)))
+      go (At s) e = sym (lowest-fit-some runs lo hi n s (is-fits runs lo hi n s (place-fits s e)))
 
 -- ---- the longest free run
-module _ (p : ℕ → Bool) where
-  greatest-is : (n g : ℕ) → g ≤ n → ((0 < g) → p g ≡ true) → ((j : ℕ) → g < j → j ≤ n → p j ≡ false) → greatest p n ≡ g
-  unfolding greatest
-  greatest-is zero g a e f = omega arith
-  greatest-is (suc n) g a e f =
-      ⊎-elim (λ (w : g ≡ suc n). rw (subst (λ (k : ℕ). p k ≡ true) w (e (omega arith))) (sym w))
-      (λ w. rw (f (suc n) w (omega arith)) (greatest-is n g (le-of-suc-le-suc w) e (λ j x y. f j x (omega arith)))) (eq-or-lt-of-le a)
-
-  greatest-holds : (n : ℕ) → 0 < greatest p n → p (greatest p n) ≡ true
-  unfolding greatest
-  greatest-holds zero h = absurd (not-suc-le-zero h)
-  greatest-holds (suc n) h = go (p (suc n)) refl h (greatest-holds n)
-    where
-      go : (b : Bool) → p (suc n) ≡ b → 0 < greaterOf b (suc n) (greatest p n) → (0 < greatest p n → p (greatest p n) ≡ true)
-          → p (greaterOf b (suc n) (greatest p n)) ≡ true
-      go true q x r = q
-      go false q x r = r x
-
-  greatest-bound : (n : ℕ) → greatest p n ≤ n
-  unfolding greatest
-  greatest-bound zero = omega arith
-  greatest-bound (suc n) = go (p (suc n)) (greatest-bound n)
-    where
-      go : (b : Bool) → greatest p n ≤ n → greaterOf b (suc n) (greatest p n) ≤ suc n
-      go true h = omega arith
-      go false h = omega arith
-
-  greatest-most : (n j : ℕ) → greatest p n < j → j ≤ n → p j ≡ false
-  unfolding greatest
-  greatest-most zero j h k = absurd (omega arith)
-  greatest-most (suc n) j h k = go (p (suc n)) refl h (greatest-most n j)
-    where
-      go : (b : Bool) → p (suc n) ≡ b → greaterOf b (suc n) (greatest p n) < j → (greatest p n < j → j ≤ n → p j ≡ false) → p j ≡ false
-      go true q x r = absurd (omega arith)
-      go false q x r = ⊎-elim (λ w. subst (λ (i : ℕ). p i ≡ false) (sym w) q) (λ w. r x (le-of-suc-le-suc w)) (eq-or-lt-of-le k)
+-- a longer run fits nowhere where a shorter one fits nowhere
+pub longer-fits-nowhere : (runs : List Run) (lo hi m n : ℕ) → m ≤ n → isAt (lowestFit runs lo hi m) ≡ false
+    → isAt (lowestFit runs lo hi n) ≡ false
+longer-fits-nowhere runs lo hi m n h e = go (lowestFit runs lo hi n) refl
+  where
+    go : (f : Found) → lowestFit runs lo hi n ≡ f → isAt f ≡ false
+    go Nowhere k = refl
+    go (At s) k =
+        absurd (true-not-false
+        (lowest-fit-some runs lo hi m s
+        (fits-inside runs lo hi n s (lowest-fit-fits runs lo hi n s k) m s (omega arith) (omega arith))) e)
 
 module _ (runs : List Run) (lo hi : ℕ) where
-  pub longest-is : (g : ℕ) → g ≤ hi - lo → (0 < g → isAt (place runs lo hi g) ≡ true)
-      → ((j : ℕ) → g < j → j ≤ hi - lo → isAt (place runs lo hi j) ≡ false) → longest runs lo hi ≡ g
+  pub longest-is : (g : ℕ) → g ≤ hi - lo → (0 < g → isAt (lowestFit runs lo hi g) ≡ true)
+      → ((j : ℕ) → g < j → j ≤ hi - lo → isAt (lowestFit runs lo hi j) ≡ false) → longest runs lo hi ≡ g
   unfolding longest
-  longest-is g a e f = greatest-is (λ n. isAt (place runs lo hi n)) (hi - lo) g a e f
+  longest-is g a e f = greatest-is (λ n. isAt (lowestFit runs lo hi n)) (hi - lo) g a e f
 
   pub longest-bound : longest runs lo hi ≤ hi - lo
   unfolding longest
-  longest-bound = greatest-bound (λ n. isAt (place runs lo hi n)) (hi - lo)
+  longest-bound = greatest-bound (λ n. isAt (lowestFit runs lo hi n)) (hi - lo)
 
   -- a run of that length has a place
   pub longest-fits : 0 < longest runs lo hi → isAt (place runs lo hi (longest runs lo hi)) ≡ true
   unfolding longest
-  longest-fits h = greatest-holds (λ n. isAt (place runs lo hi n)) (hi - lo) h
+  longest-fits h = place-found runs lo hi (longest runs lo hi) ∙ greatest-holds (λ n. isAt (lowestFit runs lo hi n)) (hi - lo) h
 
   -- no longer one has
   pub longest-most : lo ≤ hi → (n : ℕ) → longest runs lo hi < n → place runs lo hi n ≡ Nowhere
   unfolding longest
-  longest-most b n h = go (place runs lo hi n) refl
-    where
-      go : (f : Found) → place runs lo hi n ≡ f → f ≡ Nowhere
-      go Nowhere e = refl
-      go (At s) e =
-          let x = place-fits runs lo hi n s e in
-          absurd (true-not-false (ap isAt e)
-          (greatest-most (λ k. isAt (place runs lo hi k)) (hi - lo) n h (omega (arith, x .low, x .high))))
+  longest-most b n h = place-nowhere runs lo hi n λ s.
+      not-true-is-false (fits runs lo hi n s) λ e.
+      let x = fits-is runs lo hi n s e in
+      true-not-false (lowest-fit-some runs lo hi n s e)
+      (greatest-most (λ k. isAt (lowestFit runs lo hi k)) (hi - lo) n h (omega (arith, x .low, x .high)))
 
 -- ---- runs in an array
 -- one more turn of a loop that puts the runs f 0, f 1, .. into it

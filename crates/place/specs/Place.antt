@@ -1,12 +1,14 @@
 -- Places for runs of bytes. Files on the disc and variables in memory are placed by the same definitions.
 use Prim.Native.Nat.{ℕ, zero, suc, _+_, _-_}
-use mathlib.Core.Bool.{Bool, true, false, _&&_, _||_}
+use mathlib.Core.Bool.{Bool, true, false, cond, not, _&&_, _||_}
 use mathlib.Core.List.{List, _++_}
 use lib.Dec.{leb}
 use lib.ListN.{length, replicate}
 use Rattle.buffer.specs.Lists.{all}
 use Rattle.buffer.specs.declared.Found.{Found}
 use Rattle.buffer.specs.declared.Found.the-variants.{At, Nowhere}
+use Rattle.place.specs.declared.NextRun.{NextRun}
+use Rattle.place.specs.declared.NextRun.the-variants.{Free, NoneLeft}
 use Rattle.place.specs.declared.Run.{Run}
 
 -- as many runs as may be taken: ten files, or 25 variables and the ten runs that a later request holds back
@@ -40,13 +42,9 @@ unfoldable pub lowest : (ℕ → Bool) → ℕ → ℕ → Found
 lowest p k zero = Nowhere
 lowest p k (suc m) = atOr (p k) k (lowest p (suc k) m)
 
--- Document 01: "The file takes the lowest start that fits."
-unfoldable pub place : List Run → ℕ → ℕ → ℕ → Found
-place runs lo hi n = lowest (fits runs lo hi n) lo (suc hi - lo)
-
-abbrev pub isAt : Found → Bool
-isAt (At k) = true
-isAt Nowhere = false
+-- the lowest start that fits
+unfoldable pub lowestFit : List Run → ℕ → ℕ → ℕ → Found
+lowestFit runs lo hi n = lowest (fits runs lo hi n) lo (suc hi - lo)
 
 abbrev pub greaterOf : Bool → ℕ → ℕ → ℕ
 greaterOf true n m = n
@@ -57,6 +55,48 @@ unfoldable pub greatest : (ℕ → Bool) → ℕ → ℕ
 greatest p zero = 0
 greatest p (suc n) = greaterOf (p (suc n)) (suc n) (greatest p n)
 
+-- ---- free runs
+-- how many bytes from start on are free
+unfoldable pub freeFrom : List Run → ℕ → ℕ → ℕ
+freeFrom runs hi start = greatest (λ n. fits runs start hi n start) (hi - start)
+
+-- a free run of at least n bytes begins at start: they fit, and not with a byte more before them
+unfoldable pub begins : List Run → ℕ → ℕ → ℕ → ℕ → Bool
+begins runs lo hi n zero = fits runs lo hi n 0
+begins runs lo hi n (suc s) = fits runs lo hi n (suc s) && not (fits runs lo hi (suc n) s)
+
+-- k if it is to be taken and no larger than what was found above it
+abbrev pub lesser : Bool → (ℕ → ℕ) → ℕ → Found → Found
+lesser false size k f = f
+lesser true size k Nowhere = At k
+lesser true size k (At j) = At (cond (leb (size k) (size j)) k j)
+
+-- of the m numbers from k on that p holds of the one of the least size, the lowest of equals
+unfoldable pub least : (ℕ → Bool) → (ℕ → ℕ) → ℕ → ℕ → Found
+least p size k zero = Nowhere
+least p size k (suc m) = lesser (p k) size k (least p size (suc k) m)
+
+-- the end of the free bytes from start on, where v is taken too; up to end they were free so far
+abbrev pub endBy : ℕ → ℕ → Run → ℕ
+endBy start end v = cond (leb (v .start) start || leb end (v .start)) end (v .start)
+
+-- Document 02, Q-10: "A new file or variable now goes at the start of the shortest free run that fits, the lowest of
+-- equals."
+unfoldable pub place : List Run → ℕ → ℕ → ℕ → Found
+place runs lo hi n = least (begins runs lo hi n) (freeFrom runs hi) lo (suc hi - lo)
+
+-- the first free run from lo on that n bytes fit in, from its start up to its end
+abbrev pub upToEnd : List Run → ℕ → Found → NextRun
+upToEnd runs hi (At s) = Free s (s + freeFrom runs hi s)
+upToEnd runs hi Nowhere = NoneLeft
+
+abbrev pub nextRun : List Run → ℕ → ℕ → ℕ → NextRun
+nextRun runs lo hi n = upToEnd runs hi (lowestFit runs lo hi n)
+
+abbrev pub isAt : Found → Bool
+isAt (At k) = true
+isAt Nowhere = false
+
 -- Document 01: "Free space: the longest free run"
 unfoldable pub longest : List Run → ℕ → ℕ → ℕ
-longest runs lo hi = greatest (λ n. isAt (place runs lo hi n)) (hi - lo)
+longest runs lo hi = greatest (λ n. isAt (lowestFit runs lo hi n)) (hi - lo)
