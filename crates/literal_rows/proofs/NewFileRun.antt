@@ -9,7 +9,7 @@ use borrow.Author.Tests.{ltb-true}
 use Rattle.buffer.specs.Lists.{all, any, flat, index, keep, pairs, same, tab}
 use Rattle.operator.specs.Instruction.{lookup as lookupOperator, operatorOf, includes}
 use Rattle.number.specs.Value.{numberOf}
-use Rattle.place.specs.Place.{apart, fits, lowest, place}
+use Rattle.place.specs.Place.{apart, begins, fits, freeFrom, greatest, least, place}
 use Rattle.store.specs.Answer.{checked, storeAnswer}
 use Rattle.store.specs.Directory.{beside as besideEntry, entryAt, goodDisc, goodEntry, goodFiles, lookup}
 use Rattle.store.specs.File.{admission, entered, erased, placeOf, writtenAt}
@@ -41,7 +41,7 @@ use Rattle.literal_rows.specs.NewFileExample.{NewFileExample, between, c
 computed : Passes (formatted .disc) (formatted .area) × (ltb 6 (length trace) ≡ true) × (ltb 5 (length (drop 7 trace)) ≡ true)
     × OpensNew 1 0 opening × NoneInterferes 1 between × Executes 1 0 59 reading
 unfolding trace events turnEvents placeIn writeLands turnsOf turnIfRunning answer otherAnswer formatAnswer storeAnswer checked lookup
-    index entryAt tab goodDisc goodFiles goodEntry goodField goodName besideEntry all pairs apart fits lowest place placeOf admission
+    index entryAt tab goodDisc goodFiles goodEntry goodField goodName besideEntry all pairs apart begins fits freeFrom greatest least place placeOf admission
     entered erased writtenAt goodArea goodKernel goodHeader goodProcess goodLive goodRegisters goodFile isProgram otherId goodVariables
     kernelOf kernelBytes variablesOf flat any keep ended turned carriedOut answered owned exec performs find instructionOf operatorOf
     lookupOperator includes settle pop popNumber popString wellFormed trimmed same numberOf commanded starting endedSlot slotOf inUse

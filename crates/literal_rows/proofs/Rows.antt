@@ -14,7 +14,7 @@ use Rattle.operator.specs.Instruction.{lookup as lookupOperator, operatorOf, in
 use Rattle.number.specs.Text.{textOf}
 use Rattle.operator.specs.Unary.{unary}
 use Rattle.number.specs.Value.{numberOf}
-use Rattle.place.specs.Place.{apart, fits, lowest, place}
+use Rattle.place.specs.Place.{apart, begins, fits, freeFrom, greatest, least, place}
 use Rattle.store.specs.Answer.{checked, fileLine, filesAnswer, storeAnswer}
 use Rattle.store.specs.Directory.{beside as besideEntry, entryAt, goodDisc, goodEntry, goodFiles, lookup}
 use Rattle.store.specs.File.{admission, entered, erased, placeOf, readAt, writtenAt}
@@ -46,7 +46,7 @@ rows : RunOnBytes × Listings × AreaRows × DiscRows × BenchOnBytes × WaitsOn
 unfolding RunOnBytes Listings AreaRows DiscRows BenchOnBytes WaitsOnBytes NewFilesOnBytes laid leftBy numbers turns answer otherAnswer
     formatAnswer
     storeAnswer checked filesAnswer fileLine lookup index entryAt tab goodDisc goodFiles goodEntry goodField goodName besideEntry all
-    pairs apart fits lowest place placeOf admission entered erased writtenAt readAt goodArea goodKernel goodHeader goodProcess goodLive
+    pairs apart begins fits freeFrom greatest least place placeOf admission entered erased writtenAt readAt goodArea goodKernel goodHeader goodProcess goodLive
     goodRegisters goodFile isProgram otherId goodVariables goodVariable goodSize besideVariable kernelOf kernelBytes variablesOf flat any
     keep ended turned carriedOut answered owned freed assigned placeFor placing added exec performs find instructionOf operatorOf
     lookupOperator includes operates settle pop popNumber popString wellFormed trimmed same unary binary whole wrapped wholeBits

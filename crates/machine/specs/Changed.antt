@@ -8,6 +8,7 @@ use mathlib.Core.Logic.{_⊎_}
 use lib.ListN.{length, getD, replicate}
 use Rattle.buffer.specs.Buffer.{overwrite, part}
 use Rattle.place.specs.Place.{fits}
+use Rattle.place.specs.ShortestFit.{ShortestFit}
 use Rattle.store.specs.Layout.{countAt, entrySize, nameSize}
 use Rattle.variable.specs.Limits.{memorySize}
 use Rattle.variable.specs.Table.{counted, runOf}
@@ -67,11 +68,12 @@ pub record Starts (disc area name : List ℕ) (slot : ℕ) (after : Kernel) : Ty
 abbrev pub CannotStart : (disc area name : List ℕ) → Type 0
 CannotStart disc area name = ((i : ℕ) → Ended area i → ⊥) ⊎ (NoFile disc name ⊎ (nextId area ≡ idLimit))
 
--- Document 01: "SET first frees the old variable, then takes the lowest fitting address."
+-- Document 01: "SET first frees the old variable"; document 02, Q-10: "at the start of the shortest free run that fits,
+-- the lowest of equals"
 pub record Assigns (before : Variables) (name id kind : ℕ) (bytes : List ℕ) (after : Variables) : Type 0 where
   pub address : ℕ
-  pub lowest : Lowest
-      (λ a. fits (map runOf (othersThan name id before)) 0 memorySize (length bytes) a ≡ true) address
+  pub placed : ShortestFit
+      (λ n a. fits (map runOf (othersThan name id before)) 0 memorySize n a ≡ true) (length bytes) address
   pub entries : counted after
       ≡ othersThan name id before
       ++ (record { name = name; kind = kind; address = address; size = length bytes; owner = id } ∷ [])

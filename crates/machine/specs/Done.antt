@@ -6,12 +6,13 @@ use mathlib.Core.List.{List}
 use lib.IntN.{pos}
 use lib.ListN.{length, getD}
 use Rattle.buffer.specs.Buffer.{overwrite, part}
+use Rattle.place.specs.ShortestFit.{ShortestFit}
 use Rattle.machine.specs.Answer.{Answer, Buffers, command, run, other, store, retrieve, erase, files, freeSpace}
 use Rattle.machine.specs.Answer.{list, answer, bootAnswer, formatAnswer}
 use Rattle.machine.specs.Area.{kernelOf}
 use Rattle.machine.specs.Changed.{Enters, Leaves, Starts}
 use Rattle.machine.specs.Ending.{Touched}
-use Rattle.machine.specs.Fields.{Free, HasId, Lowest, Named, filesText, nextId, processesText, sizeOf, startOf}
+use Rattle.machine.specs.Fields.{Free, HasId, Named, filesText, nextId, processesText, sizeOf, startOf}
 use Rattle.machine.specs.Limits.{areaLength, nextAt}
 use Rattle.machine.specs.Operations.{Command, suspend, resume, kill}
 use Rattle.machine.specs.Refusals.{stateOf}
@@ -19,13 +20,13 @@ use Rattle.machine.specs.State.{paused, processAt, running, withState}
 use Rattle.machine.specs.declared.Kernel.{Kernel}
 
 -- ---- files
--- Document 01: "The file takes the lowest start that fits."
+-- Document 02, Q-10: "at the start of the shortest free run that fits, the lowest of equals"
 abbrev pub StoreDone : Type 0
 StoreDone =
     (b : Buffers) (name bytes : List ℕ) (n : ℕ) → let a = answer (other (store name bytes)) b in
     a .number ≡ pos n
     → (n ≡ 0)
-    × ((start : ℕ) × Lowest (Free (b .disc) (length bytes)) start × Enters (b .disc) (a .disc) name bytes start)
+    × ((start : ℕ) × ShortestFit (Free (b .disc)) (length bytes) start × Enters (b .disc) (a .disc) name bytes start)
 
 -- "Returns the length, its bytes written."
 abbrev pub RetrieveDone : Type 0

@@ -15,7 +15,7 @@ use Rattle.store.specs.Name.{trimmed}
 use Rattle.machine.specs.Limits.{nextAt, recordSize, recordsAt, slotCount}
 use Rattle.machine.specs.State.{paused, running}
 
--- Document 01: "Takes the lowest ended slot", "the lowest start that fits"
+-- Document 01: "Takes the lowest ended slot"
 abbrev pub Lowest : (ℕ → Type 0) → ℕ → Type 0
 Lowest P n = P n × ((m : ℕ) → m < n → P m → ⊥)
 

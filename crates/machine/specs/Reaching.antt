@@ -11,6 +11,7 @@ use Rattle.buffer.specs.Buffer.{overwrite, part, zeros}
 use Rattle.float.specs.declared.whole.Size.the-variants.{Is}
 use Rattle.number.specs.Compare.{equals}
 use Rattle.number.specs.Value.{numberOf}
+use Rattle.place.specs.ShortestFit.{ShortestFit}
 use Rattle.store.specs.Layout.{maxFiles}
 use Rattle.machine.specs.Answer.{Buffers}
 use Rattle.machine.specs.AtPc.{AtPc, NumberOnTop, Onward, SameDisc, StringOnTop, ValueOnTop, ahead, byteAhead}
@@ -58,11 +59,12 @@ module _ (b : Buffers) (slot clock : ℕ) where
       (record { start = startOf (b .disc) i; len = sizeOf (b .disc) i; offset = 0 })
       × SameDisc b slot clock
 
-  -- of another. Document 02, Q-8: "OPEN now fills a file it creates with zeros."
+  -- of another. Document 02, Q-8: "OPEN now fills a file it creates with zeros."; Q-10: "A new file or variable now
+  -- goes at the start of the shortest free run that fits, the lowest of equals."
   abbrev pub Creates : List ℕ → List ℕ → ℕ → Type 0
   Creates rest text n =
       IsName text × (filesOn (b .disc) < maxFiles)
-      × ((start : ℕ) × Lowest (Free (b .disc) n) start
+      × ((start : ℕ) × ShortestFit (Free (b .disc)) n start
       × Onward b slot clock (pcIn b slot + 1) rest (record { start = start; len = n; offset = 0 })
       × Enters (b .disc) (turnAnswer b slot clock .disc) text (zeros n) start)
 

@@ -3,22 +3,33 @@
 use Prim.Native.Nat.{ℕ, zero, suc, _+_, _-_, _≤_, _<_}
 use mathlib.Core.Path.{_≡_, refl, sym, ap, _∙_}
 use mathlib.Core.Bool.{Bool, true, false, not, _&&_, _||_, and-false}
-use mathlib.Core.List.{List, append-assoc}
+use mathlib.Core.List.{List, [], _∷_, append-assoc, map}
 use mathlib.Core.Logic.{_⊎_, inl, inr, ⊎-elim}
+use native.Mathlib.Nat.{eq-or-lt-of-le}
 use native.Mathlib.Omega.{arith}
-use lib.Dec.{leb}
+use lib.Dec.{eqb, leb}
 use lib.ListN.{length, replicate, set, take}
 use lib.Seq.{set-at, take-append-seam}
-use borrow.Author.Tests.{le-leb, lt-leb, leb-true, leb-false, not-true}
+use borrow.Author.Tests.{eqb-false, le-leb, lt-leb, leb-true, leb-false, not-true}
 use Rattle.buffer.specs.Lists.{all, tab}
 use Rattle.buffer.specs.declared.Found.{Found}
 use Rattle.buffer.specs.declared.Found.the-variants.{At, Nowhere}
 use Rattle.buffer.proofs.Bools.{and-both, and-left, and-right, not-is-true, not-true-is-false, true-not-false}
 use Rattle.buffer.proofs.Lists.{all-weaker, tab-length, tab-more}
-use Rattle.place.specs.Place.{runFrom, noRun, maxRuns, filled, apart, fits, lowestFit, begins, freeFrom, place, isAt, longest}
+use Rattle.buffer.proofs.Tables.{all-map}
+use Rattle.place.specs.Place.{runFrom, noRun, maxRuns, filled, apart, fits, lowestFit, begins, freeFrom, starts, place, isAt, longest}
 use Rattle.place.specs.declared.Run.{Run}
-use Rattle.place.proofs.Search.{Least, greatest-bound, greatest-holds, greatest-is, greatest-most, least-at, least-is, least-none}
+use Rattle.place.proofs.Search.{Before, greatest-bound, greatest-holds, greatest-is, greatest-most, lacks, least-at, least-none}
 use Rattle.place.proofs.Search.{lowest-at, lowest-is, lowest-none, lowest-nowhere}
+
+-- two tests together
+pub all-both : {A : Type 0} (p q r : A → Bool) (l : List A) → ((x : A) → p x ≡ true → q x ≡ true → r x ≡ true) → all p l ≡ true
+    → all q l ≡ true → all r l ≡ true
+unfolding all
+all-both p q r [] h a b = refl
+all-both p q r (x ∷ l) h a b =
+    and-both (h x (and-left (p x) (all p l) a) (and-left (q x) (all q l) b))
+    (all-both p q r l h (and-right (p x) (all p l) a) (and-right (q x) (all q l) b))
 
 -- ---- apart
 pub record Apart (u v : Run) : Type 0 where
@@ -172,20 +183,20 @@ module _ (runs : List Run) (lo hi n : ℕ) where
   pub begins-fits : (s : ℕ) → begins runs lo hi n s ≡ true → fits runs lo hi n s ≡ true
   unfolding begins
   begins-fits zero e = e
-  begins-fits (suc s) e = and-left (fits runs lo hi n (suc s)) (not (fits runs lo hi (suc n) s)) e
+  begins-fits (suc s) e = and-right (not (fits runs lo hi (suc n) s)) (fits runs lo hi n (suc s)) e
 
   pub begins-first : (s t : ℕ) → suc t ≡ s → begins runs lo hi n s ≡ true → fits runs lo hi (suc n) t ≡ false
   unfolding begins
   begins-first zero t w e = absurd (omega arith)
   begins-first (suc s) t w e =
       let same : s ≡ t = omega arith in
-      rw (← same) (not-true _ (and-right (fits runs lo hi n (suc s)) (not (fits runs lo hi (suc n) s)) e))
+      rw (← same) (not-true _ (and-left (not (fits runs lo hi (suc n) s)) (fits runs lo hi n (suc s)) e))
 
   pub is-begins : (s : ℕ) → fits runs lo hi n s ≡ true → ((t : ℕ) → suc t ≡ s → fits runs lo hi (suc n) t ≡ false)
       → begins runs lo hi n s ≡ true
   unfolding begins
   is-begins zero e f = e
-  is-begins (suc s) e f = and-both e (not-is-true (f s refl))
+  is-begins (suc s) e f = and-both (not-is-true (f s refl)) e
 
   -- at the lowest start that fits one begins
   pub lowest-begins : (s : ℕ) → lowestFit runs lo hi n ≡ At s → begins runs lo hi n s ≡ true
@@ -197,33 +208,79 @@ module _ (runs : List Run) (lo hi n : ℕ) where
 
 -- ---- places
 module _ (runs : List Run) (lo hi n : ℕ) where
+  -- a free run begins at lo or where a taken run ends, nowhere else
+  begins-at-start : (s : ℕ) → begins runs lo hi n s ≡ true → lacks s (starts runs lo) ≡ false
+  unfolding all
+  begins-at-start s b = not-true-is-false (lacks s (starts runs lo)) λ none.
+      let other = not-true (eqb lo s) (and-left (not (eqb lo s)) (lacks s (map (λ v. v .start + v .len) runs)) none) in
+      let ends = sym (all-map (λ k. not (eqb k s)) (λ v. v .start + v .len) runs)
+      ∙ and-right (not (eqb lo s)) (lacks s (map (λ v. v .start + v .len) runs)) none in
+      let x = fits-is runs lo hi n s (begins-fits runs lo hi n s b) in
+      let up : lo < s = above lo s (x .low) (eqb-false lo s other) in
+      true-not-false
+      (is-fits runs lo hi (suc n) (s - 1)
+      (record {
+        low = omega arith;
+        high = omega (arith, x .high);
+        free =
+            all-both (λ v. not (eqb (v .start + v .len) s)) (apart (runFrom s n)) (apart (runFrom (s - 1) (suc n))) runs
+            (λ v h k. is-apart (runFrom (s - 1) (suc n)) v (wider s up v (eqb-false _ _ (not-true _ h)) (apart-is (runFrom s n) v k))) ends
+            (x .free);
+      }))
+      (begins-first runs lo hi n s (s - 1) (omega arith) b)
+    where
+      above : (k j : ℕ) → k ≤ j → (k ≡ j → ⊥) → k < j
+      above k j h d = ⊎-elim (λ w. absurd (d w)) (λ w. w) (eq-or-lt-of-le h)
+
+      wider : (s : ℕ) → lo < s → (v : Run) → (v .start + v .len ≡ s → ⊥) → Apart (runFrom s n) v → Apart (runFrom (s - 1) (suc n)) v
+      wider s up v d a =
+          record {
+            sides =
+                ⊎-elim (λ (w : s + n ≤ v .start). inl (omega arith))
+                (λ (w : v .start + v .len ≤ s). let l = above _ _ w d in inr (omega arith)) (a .sides);
+          }
+
   -- of the starts at which a free run of n bytes or more begins the one of the shortest, the lowest of equals
-  abbrev pub IsPlace : ℕ → Type 0
-  IsPlace s = Least (begins runs lo hi n) (freeFrom runs hi) lo (suc hi - lo) s
+  pub record IsPlace (s : ℕ) : Type 0 where
+    pub begun : begins runs lo hi n s ≡ true
+    pub before : (j : ℕ) → begins runs lo hi n j ≡ true → Before (freeFrom runs hi) s j
 
   pub place-at : (s : ℕ) → place runs lo hi n ≡ At s → IsPlace s
   unfolding place
-  place-at s e = least-at (begins runs lo hi n) (freeFrom runs hi) lo (suc hi - lo) s e
+  place-at s e =
+      let l = least-at (begins runs lo hi n) (freeFrom runs hi) (starts runs lo) s e in
+      record { begun = l .holds; before = λ j b. l .before j (begins-at-start j b) b }
 
-  pub place-is : (s : ℕ) → IsPlace s → place runs lo hi n ≡ At s
+  pub no-place-none-begins : place runs lo hi n ≡ Nowhere → (s : ℕ) → begins runs lo hi n s ≡ false
   unfolding place
-  place-is s l = least-is (begins runs lo hi n) (freeFrom runs hi) lo (suc hi - lo) s l
+  no-place-none-begins e s = not-true-is-false (begins runs lo hi n s) λ b.
+      true-not-false b (least-none (begins runs lo hi n) (freeFrom runs hi) (starts runs lo) e s (begins-at-start s b))
+
+  -- there is only one such
+  pub place-is : (s : ℕ) → IsPlace s → place runs lo hi n ≡ At s
+  place-is s l = go (place runs lo hi n) refl
+    where
+      go : (f : Found) → place runs lo hi n ≡ f → f ≡ At s
+      go Nowhere e = absurd (true-not-false (l .begun) (no-place-none-begins e s))
+      go (At t) e =
+          let o = place-at t e in
+          let a = l .before t (o .begun) in
+          let b = o .before s (l .begun) in
+          let c : t ≤ s = b .first (a .small) in
+          let d : s ≤ t = a .first (b .small) in
+          ap At (omega arith)
 
   -- what is found lies inside and is free
   pub place-fits : (s : ℕ) → place runs lo hi n ≡ At s → Fits runs lo hi n s
-  place-fits s e = fits-is runs lo hi n s (begins-fits runs lo hi n s (place-at s e .holds))
+  place-fits s e = fits-is runs lo hi n s (begins-fits runs lo hi n s (place-at s e .begun))
 
   -- none found: none fits
   pub no-place-none-fits : place runs lo hi n ≡ Nowhere → (j : ℕ) → fits runs lo hi n j ≡ false
-  unfolding place
   no-place-none-fits e = go (lowestFit runs lo hi n) refl
     where
       go : (f : Found) → lowestFit runs lo hi n ≡ f → (j : ℕ) → fits runs lo hi n j ≡ false
       go Nowhere h = no-lowest-fit runs lo hi n h
-      go (At s) h =
-          let x = fits-is runs lo hi n s (lowest-fit-fits runs lo hi n s h) in
-          absurd (true-not-false (lowest-begins runs lo hi n s h)
-          (least-none (begins runs lo hi n) (freeFrom runs hi) lo (suc hi - lo) e s (x .low) (omega (arith, x .low, x .high))))
+      go (At s) h = absurd (true-not-false (lowest-begins runs lo hi n s h) (no-place-none-begins e s))
 
   pub place-nowhere : ((j : ℕ) → fits runs lo hi n j ≡ false) → place runs lo hi n ≡ Nowhere
   place-nowhere f = go (place runs lo hi n) refl

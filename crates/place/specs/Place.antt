@@ -1,8 +1,8 @@
 -- Places for runs of bytes. Files on the disc and variables in memory are placed by the same definitions.
 use Prim.Native.Nat.{ℕ, zero, suc, _+_, _-_}
 use mathlib.Core.Bool.{Bool, true, false, cond, not, _&&_, _||_}
-use mathlib.Core.List.{List, _++_}
-use lib.Dec.{leb}
+use mathlib.Core.List.{List, [], _∷_, _++_, map}
+use lib.Dec.{eqb, leb, ltb}
 use lib.ListN.{length, replicate}
 use Rattle.buffer.specs.Lists.{all}
 use Rattle.buffer.specs.declared.Found.{Found}
@@ -60,21 +60,28 @@ greatest p (suc n) = greaterOf (p (suc n)) (suc n) (greatest p n)
 unfoldable pub freeFrom : List Run → ℕ → ℕ → ℕ
 freeFrom runs hi start = greatest (λ n. fits runs start hi n start) (hi - start)
 
--- a free run of at least n bytes begins at start: they fit, and not with a byte more before them
+-- a free run of at least n bytes begins at start: no more fit with the byte before, and they do
 unfoldable pub begins : List Run → ℕ → ℕ → ℕ → ℕ → Bool
 begins runs lo hi n zero = fits runs lo hi n 0
-begins runs lo hi n (suc s) = fits runs lo hi n (suc s) && not (fits runs lo hi (suc n) s)
+begins runs lo hi n (suc s) = not (fits runs lo hi (suc n) s) && fits runs lo hi n (suc s)
 
--- k if it is to be taken and no larger than what was found above it
+-- only there can one begin: at lo, or where a taken run ends
+abbrev pub starts : List Run → ℕ → List ℕ
+starts runs lo = lo ∷ map (λ v. v .start + v .len) runs
+
+-- the smaller of two numbers' sizes, the lower of equals
+abbrev pub precedes : (ℕ → ℕ) → ℕ → ℕ → Bool
+precedes size k j = ltb (size k) (size j) || (eqb (size k) (size j) && leb k j)
+
 abbrev pub lesser : Bool → (ℕ → ℕ) → ℕ → Found → Found
 lesser false size k f = f
 lesser true size k Nowhere = At k
-lesser true size k (At j) = At (cond (leb (size k) (size j)) k j)
+lesser true size k (At j) = At (cond (precedes size k j) k j)
 
--- of the m numbers from k on that p holds of the one of the least size, the lowest of equals
-unfoldable pub least : (ℕ → Bool) → (ℕ → ℕ) → ℕ → ℕ → Found
-least p size k zero = Nowhere
-least p size k (suc m) = lesser (p k) size k (least p size (suc k) m)
+-- of these numbers that p holds of the one of the least size, the lowest of equals
+unfoldable pub least : (ℕ → Bool) → (ℕ → ℕ) → List ℕ → Found
+least p size [] = Nowhere
+least p size (k ∷ ks) = lesser (p k) size k (least p size ks)
 
 -- the end of the free bytes from start on, where v is taken too; up to end they were free so far
 abbrev pub endBy : ℕ → ℕ → Run → ℕ
@@ -83,7 +90,7 @@ endBy start end v = cond (leb (v .start) start || leb end (v .start)) end (v .st
 -- Document 02, Q-10: "A new file or variable now goes at the start of the shortest free run that fits, the lowest of
 -- equals."
 unfoldable pub place : List Run → ℕ → ℕ → ℕ → Found
-place runs lo hi n = least (begins runs lo hi n) (freeFrom runs hi) lo (suc hi - lo)
+place runs lo hi n = least (begins runs lo hi n) (freeFrom runs hi) (starts runs lo)
 
 -- the first free run from lo on that n bytes fit in, from its start up to its end
 abbrev pub upToEnd : List Run → ℕ → Found → NextRun

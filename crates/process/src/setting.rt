@@ -16,8 +16,8 @@ ghost use Rattle.machine.specs.Turn.{carriedOut};
 ghost use Rattle.process.specs.Stepping.{Stepping, left, leftBy, stackOf};
 ghost use Rattle.stack.specs.Steps.{about, keeping};
 
-// Document 01: "SET first frees the old variable, then takes the lowest fitting address."; fault 10: "no variable entry
-// or run". A SET that finds no place ends its process and changes no variable but its own.
+// Document 01: "SET first frees the old variable"; fault 10: "no variable entry or run". Its place is that of document
+// 02, Q-10. A SET that finds no place ends its process and changes no variable but its own.
 pub fn set_variable(area: &mut [u8], slot: usize, p: Process, d: Step, name: u8, kind: u8)
     requires { ⌜ Stepping (now area) slot p d × (1 ≤ d .len) ⌝ }
     ensures { λ _. ⌜ ((disc : List ℕ) → left disc (now (area .exit))

@@ -30,7 +30,7 @@ pub record Admitted (disc name : List ℕ) (n s : ℕ) : Type 0 where
   pub some : 1 ≤ n
   pub few : fileCount disc < maxFiles
   pub new : lookup disc name ≡ Nowhere
-  pub lowest : placeOf disc n ≡ At s
+  pub found : placeOf disc n ≡ At s
   pub placed : Fits (taken disc) dataStart (length disc) n s
 
 -- where n bytes are admitted, n zeros are
@@ -75,7 +75,7 @@ module _ (disc name : List ℕ) (n : ℕ) where
             some = leb-true 1 n (and-left (leb 1 n) (leb n (length disc - dataStart)) q);
             few = ltb-true (fileCount disc) maxFiles r;
             new = t;
-            lowest = u;
+            found = u;
             placed = place-fits (taken disc) dataStart (length disc) n s u;
           }
 

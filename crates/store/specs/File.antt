@@ -26,7 +26,7 @@ unless false refusal rest = refusal
 abbrev pub goodSize : List ℕ → ℕ → Bool
 goodSize disc n = leb 1 n && leb n (length disc - dataStart)
 
--- Document 01: "The file takes the lowest start that fits."
+-- Document 02, Q-10: "at the start of the shortest free run that fits, the lowest of equals"
 unfoldable pub placeOf : List ℕ → ℕ → Found
 placeOf disc n = place (taken disc) dataStart (length disc) n
 

@@ -84,7 +84,7 @@ assignAt (Address a) v w name id x =
 assignAt NoEntry v w name id x = record { placing = NoEntry; variables = v }
 assignAt NoRun v w name id x = record { placing = NoRun; variables = v }
 
--- Document 01: "SET first frees the old variable, then takes the lowest fitting address." A SET that finds no place
+-- Document 01: "SET first frees the old variable"; its place is that of document 02, Q-10. A SET that finds no place
 -- changes nothing.
 unfoldable pub assigned : Variables → ℕ → ℕ → Value → Assigned
 assigned v name id x =

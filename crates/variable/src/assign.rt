@@ -43,6 +43,7 @@ fn taken_runs(entries: [Variable; MAX_VARIABLES], count: usize) -> [Run; MAX_RUN
 
 // Document 01, fault 10: "no variable entry or run"
 fn place_for(runs: [Run; MAX_RUNS], used: usize, n: usize) -> Placing
+    requires { ⌜ 1 ≤ n ⌝ }
     ensures { λ r. ⌜ r ≡ placing (take used runs) lowEnd highEnd used entryLimit n ⌝ }
 {
     if ENTRY_LIMIT <= used {
@@ -97,7 +98,8 @@ fn add(v: Variables, e: Variable, x: Value) -> Variables
     }
 }
 
-// Document 01: "SET first frees the old variable, then takes the lowest fitting address."
+// Document 01: "SET first frees the old variable"; document 02, Q-10: "at the start of the shortest free run that fits,
+// the lowest of equals".
 pub fn assign(v: Variables, name: u8, owner: u16, x: Value) -> Assigned
     requires { ⌜ (v .count ≤ maxVariables) × (1 ≤ x .size) × (x .size ≤ valueSize) ⌝ }
     ensures { λ r. ⌜ r ≡ assigned v name owner x ⌝ }

@@ -43,7 +43,7 @@ use Rattle.machine.specs.Tests.{onDisc as firstTwo, otherTests, someFile
 use Rattle.machine.specs.Turn.{turned}
 use Rattle.machine.specs.declared.Kernel.{Kernel}
 use Rattle.machine.proofs.Fields.Files.{entry-size, lookup-named, lookup-no-file, named-lookup, no-place-none-free}
-use Rattle.machine.proofs.Fields.Files.{placed-lowest}
+use Rattle.machine.proofs.Fields.Files.{placed-free}
 use Rattle.machine.proofs.Fields.Listings.{files-text, list-text}
 use Rattle.machine.proofs.Fields.Names.{good-is-name, is-name-good}
 use Rattle.machine.proofs.Fields.Slots.{ended-slot-lowest, has-id-slot, in-use-is, is-in-use, next-is, no-ended-slot, slot-has-id}
@@ -187,7 +187,7 @@ module _ (b : Buffers) where
           (fails refl (λ h. no-place-none-free (b .disc) (length bytes) q (h .0) (h .1)))
       new fit Nowhere e (At s) q =
           holds-then (lookup-no-file (b .disc) (fit .long) (fit .good) name e)
-          (holds-then (s, placed-lowest (b .disc) (length bytes) s q .0) (done 0 refl))
+          (holds-then (s, placed-free (b .disc) (length bytes) s q) (done 0 refl))
 
   retrieve-decided : (name : List ℕ) → Decided (otherTests (retrieve name) b) b (answer (other (retrieve name)) b)
   unfolding answer otherAnswer retrieveAnswer

@@ -10,6 +10,7 @@ use Rattle.buffer.specs.Buffer.{overwrite, part}
 use Rattle.buffer.specs.Lists.{flat}
 use Rattle.buffer.specs.declared.Found.{Found}
 use Rattle.buffer.specs.declared.Found.the-variants.{At, Nowhere}
+use Rattle.place.specs.ShortestFit.{ShortestFit}
 use Rattle.store.specs.Answer.{Reported, fileLine, filesAnswer, reported, retrieveAnswer, retrieveAt}
 use Rattle.store.specs.Directory.{contents, entryAt, files as entries, lookup, runOf}
 use Rattle.store.specs.File.{unless}
@@ -23,11 +24,11 @@ use Rattle.store.proofs.Lookups.{lookup-at}
 use Rattle.machine.specs.Answer.{Answer, answer, eraseAt, otherAnswer}
 use Rattle.machine.specs.Changed.{Enters, Leaves}
 use Rattle.machine.specs.Done.{EraseDone, FilesDone, FreeSpaceDone, RetrieveDone, StoreDone}
-use Rattle.machine.specs.Fields.{Free, Lowest, Named, sizeOf, startOf}
+use Rattle.machine.specs.Fields.{Free, Named, sizeOf, startOf}
 use Rattle.machine.specs.Operations.{inUse}
 use Rattle.machine.specs.Refusals.{Passes, stateOf}
 use Rattle.machine.proofs.Done.Entering.{erased-leaves, stored-enters}
-use Rattle.machine.proofs.Fields.Files.{entry-size, entry-start, lookup-named, no-place-none-free, placed-lowest}
+use Rattle.machine.proofs.Fields.Files.{entry-size, entry-start, lookup-named, no-place-none-free, placed-free, placed-shortest}
 use Rattle.machine.proofs.Fields.Listings.{files-text}
 use Rattle.machine.proofs.Operations.Tests.{below-not-done, done-test, done-tests}
 
@@ -36,9 +37,11 @@ unfolding answer otherAnswer
 store-done b name bytes n =
     store-cases (b .disc) name bytes
     (λ u. u .number ≡ pos n → (n ≡ 0)
-    × ((start : ℕ) × Lowest (Free (b .disc) (length bytes)) start × Enters (b .disc) (u .disc) name bytes start))
+    × ((start : ℕ) × ShortestFit (Free (b .disc)) (length bytes) start × Enters (b .disc) (u .disc) name bytes start))
     (λ r d h. absurd (refused-not-done r n h))
-    (λ s l g a h. let zero : n ≡ 0 = cc in (zero, (s, placed-lowest (b .disc) (length bytes) s (a .lowest), stored-enters bytes g a)))
+    (λ s l g a h.
+    let zero : n ≡ 0 = cc in
+    (zero, (s, placed-shortest (b .disc) (length bytes) s (a .some) (a .found), stored-enters bytes g a)))
 
 -- ---- what is written into the output
 written : (fit : Bool) (m n : ℕ) (out after : List ℕ)
@@ -98,6 +101,6 @@ erase-done b name n = done-tests Erased b n _ λ passes. found passes (lookup (b
 pub free-space-done : FreeSpaceDone
 unfolding answer otherAnswer
 free-space-done b n e = (
-  (λ some. let s = free-space-fits (b .disc) n e some in (s .0, placed-lowest (b .disc) n (s .0) (s .1) .0)),
+  (λ some. let s = free-space-fits (b .disc) n e some in (s .0, placed-free (b .disc) n (s .0) (s .1))),
   λ m start longer. no-place-none-free (b .disc) m (free-space-most (b .disc) n e m longer) start,
 )

@@ -12,14 +12,16 @@ use Rattle.buffer.specs.declared.Found.the-variants.{At, Nowhere}
 use Rattle.buffer.proofs.Bools.{true-not-false}
 use Rattle.buffer.proofs.Tables.{all-map, all-tab-at, all-tab-each}
 use Rattle.place.specs.Place.{apart, fits, runFrom}
-use Rattle.place.proofs.Place.{apart-is, fits-is, is-apart, is-fits, no-place-none-fits, place-fits, place-lowest}
+use Rattle.place.specs.ShortestFit.{ShortestFit}
+use Rattle.place.proofs.FreeRuns.{place-shortest-fit, shortest-fit-as}
+use Rattle.place.proofs.Place.{apart-is, fits-is, is-apart, is-fits, no-place-none-fits, place-fits}
 use Rattle.store.specs.Directory.{Readable, entryAt, fileCount, files, goodDisc, isDiscLength, lookup, runOf, taken}
 use Rattle.store.specs.File.{placeOf}
 use Rattle.store.specs.Layout.{dataStart, entrySize, nameSize}
 use Rattle.store.specs.declared.Entry.{Entry}
 use Rattle.store.proofs.Checks.{readable}
 use Rattle.store.proofs.Lookups.{Located, lookup-at, lookup-is, lookup-none}
-use Rattle.machine.specs.Fields.{Free, Lowest, Named, NoFile, entryStart, sizeOf, startOf}
+use Rattle.machine.specs.Fields.{Free, Named, NoFile, entryStart, sizeOf, startOf}
 use Rattle.machine.proofs.Fields.Names.{good-is-name, is-name-good, padded-spells, spells-padded}
 use Rattle.machine.proofs.Fields.Parts.{part-first, part-word}
 
@@ -102,13 +104,16 @@ module _ (disc : List ℕ) (n : ℕ) where
             (record { sides = subst₂ (Sides s) (sym (entry-start disc i)) (sym (entry-size disc i)) (f .clear i h) }));
       })
 
-  pub placed-lowest : (s : ℕ) → placeOf disc n ≡ At s → Lowest (Free disc n) s
+  pub placed-free : (s : ℕ) → placeOf disc n ≡ At s → Free disc n s
   unfolding placeOf
-  placed-lowest s e = (
-    fits-free s (is-fits (taken disc) dataStart (length disc) n s (place-fits (taken disc) dataStart (length disc) n s e)),
-    λ m h f. true-not-false (free-fits m f) (place-lowest (taken disc) dataStart (length disc) n s m e h),
-  )
+  placed-free s e = fits-free s (is-fits (taken disc) dataStart (length disc) n s (place-fits (taken disc) dataStart (length disc) n s e))
 
   pub no-place-none-free : placeOf disc n ≡ Nowhere → (s : ℕ) → Free disc n s → ⊥
   unfolding placeOf
   no-place-none-free e s f = true-not-false (free-fits s f) (no-place-none-fits (taken disc) dataStart (length disc) n e s)
+
+pub placed-shortest : (disc : List ℕ) (n s : ℕ) → 1 ≤ n → placeOf disc n ≡ At s → ShortestFit (Free disc) n s
+unfolding placeOf
+placed-shortest disc n s some e =
+    shortest-fit-as (λ m t. fits (taken disc) dataStart (length disc) m t ≡ true) (Free disc) (fits-free disc) (free-fits disc) n s
+    (place-shortest-fit (taken disc) dataStart (length disc) n s some e)

@@ -35,7 +35,7 @@ use Rattle.machine.proofs.Changes.Replaced.{put-at}
 use Rattle.machine.proofs.Demands.GoodCalls.{passes-good}
 use Rattle.machine.proofs.Demands.Openings.{new-file-refused}
 use Rattle.machine.proofs.Done.Entering.{stored-enters}
-use Rattle.machine.proofs.Fields.Files.{entry-size, entry-start, lookup-named, lookup-no-file, placed-lowest}
+use Rattle.machine.proofs.Fields.Files.{entry-size, entry-start, lookup-named, lookup-no-file, placed-shortest}
 use Rattle.machine.proofs.Fields.Names.{good-is-name}
 use Rattle.machine.proofs.Reaching.Finding.{Does, at, close-found, open-found}
 use Rattle.machine.proofs.Reaching.Going.{broken-by, carried-on, continued, live}
@@ -88,8 +88,8 @@ module _ (b : Buffers) (slot clock : ℕ) where
           let on = continued b slot clock (a .may) r does pc rest (opened (runFrom s n)) (stored (b .disc) text (zeros n) s) h in
           let enters = subst⁻¹ (λ (after : List ℕ). Enters (b .disc) after text (zeros n) s) (on .1)
           (stored-enters (zeros n) (good .sound) (zeros-admitted d)) in
-          let lowest = placed-lowest (b .disc) n s (d .lowest) in
-          inr (n, fit, (good-is-name text (d .good), d .few, (s, lowest, on .0, enters)))
+          let placed = placed-shortest (b .disc) n s (d .some) (d .found) in
+          inr (n, fit, (good-is-name text (d .good), d .few, (s, placed, on .0, enters)))
 
       sized : lookup (b .disc) text ≡ Nowhere → (s : Size) → newFileSize (b .disc) size ≡ s
           → answered k slot (b .disc) r ≡ created k slot (b .disc) s text l → NewFile rest text size

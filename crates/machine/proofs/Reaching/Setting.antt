@@ -1,4 +1,4 @@
--- SET: it lacks space, or the variable is at the lowest address that fits.
+-- SET: it lacks space, or the variable is at the start of the shortest free run that fits.
 use Prim.Native.Nat.{ℕ, _+_, _≤_, _<_}
 use mathlib.Core.Path.{_≡_, refl, sym, ap, subst, subst⁻¹, _∙_}
 use mathlib.Core.Bool.{Bool, true, false}
@@ -12,12 +12,13 @@ use Rattle.buffer.specs.Buffer.{overwrite}
 use Rattle.buffer.specs.Lists.{tab}
 use Rattle.buffer.specs.declared.Found.{Found}
 use Rattle.buffer.specs.declared.Found.the-variants.{At, Nowhere}
-use Rattle.buffer.proofs.Bools.{true-not-false}
 use Rattle.buffer.proofs.Kept.{any-at}
 use Rattle.buffer.proofs.Lists.{tab-at, tab-length}
 use Rattle.place.specs.Place.{fits, place}
 use Rattle.place.specs.declared.Run.{Run}
-use Rattle.place.proofs.Place.{is-fits, place-fits, place-lowest}
+use Rattle.place.specs.ShortestFit.{ShortestFit}
+use Rattle.place.proofs.FreeRuns.{place-shortest-fit}
+use Rattle.place.proofs.Place.{is-fits}
 use Rattle.variable.specs.Assign.{addressOr, added, assigned, entryLimit, highEnd, ifEntry, lowEnd, newVariable, placeFor, placing}
 use Rattle.variable.specs.Assign.{takenRuns, valueBytes, valueOf}
 use Rattle.variable.specs.Limits.{maxVariables, memorySize}
@@ -39,7 +40,6 @@ use Rattle.machine.specs.AtPc.{Onward, SameDisc, ValueOnTop, byteAhead, 
 use Rattle.machine.specs.Changed.{Assigns}
 use Rattle.machine.specs.Effect.{assigns}
 use Rattle.machine.specs.Ending.{unplaced}
-use Rattle.machine.specs.Fields.{Lowest}
 use Rattle.machine.specs.AtPc.{fileIn}
 use Rattle.machine.specs.Reaching.{Faults, SetExactly}
 use Rattle.machine.specs.Refusals.{stateOf}
@@ -86,22 +86,20 @@ module _ (v : Variables) (name id kind : ℕ) (bytes : List ℕ) (a : ℕ)
   unfolding placeFor
   found = placing-place (takenRuns w) lowEnd highEnd (w .count) entryLimit (length bytes) a placed
 
-  lowest : Lowest (λ s. fits (map runOf (othersThan name id v)) 0 memorySize (length bytes) s ≡ true) a
-  lowest =
-      subst (λ (l : List Variable). Lowest (λ s. fits (map runOf l) 0 memorySize (length bytes) s ≡ true) a) others-are (
-        is-fits (takenRuns w) lowEnd highEnd (length bytes) a (place-fits (takenRuns w) lowEnd highEnd (length bytes) a found),
-        λ m h f. true-not-false f (place-lowest (takenRuns w) lowEnd highEnd (length bytes) a m found h),
-      )
+  shortest : 1 ≤ length bytes → ShortestFit (λ n s. fits (map runOf (othersThan name id v)) 0 memorySize n s ≡ true) (length bytes) a
+  shortest some =
+      subst (λ (l : List Variable). ShortestFit (λ n s. fits (map runOf l) 0 memorySize n s ≡ true) (length bytes) a) others-are
+      (place-shortest-fit (takenRuns w) lowEnd highEnd (length bytes) a some found)
 
-  is-assigned : Shaped v → v .count ≤ maxVariables → Assigns v name id kind bytes (assigned v name id (valueOf kind bytes) .variables)
+  is-assigned : 1 ≤ length bytes → Shaped v → v .count ≤ maxVariables → Assigns v name id kind bytes (assigned v name id (valueOf kind bytes) .variables)
   unfolding w x added
-  is-assigned shaped few =
+  is-assigned some shaped few =
       let sized : length (valueBytes x) ≡ length bytes = ap length (value-made kind bytes) in
       let whole = assigned-is v name id x shaped few sized a done in
       let r = place-address w (length bytes) a placed in
       record {
         address = a;
-        lowest = lowest;
+        placed = shortest some;
         entries =
             ap counted whole
             ∙ added-counted w (newVariable name id x a) (valueBytes x) (freed-shaped v (isOf name id) few shaped) (r .0) (r .1) sized
@@ -123,7 +121,9 @@ module _ (v : Variables) (name id kind : ℕ) (bytes : List ℕ) (a : ℕ)
         any-at (fits (map runOf (othersThan name id v)) 0 memorySize (length bytes)) (tab (λ s. s) memorySize) a 0
             (omega (arith, tab-length (λ s. s) memorySize))
             (subst⁻¹ (λ (s : ℕ). fits (map runOf (othersThan name id v)) 0 memorySize (length bytes) s ≡ true)
-            (tab-at (λ s. s) memorySize a 0 low) (lowest .0)),
+            (tab-at (λ s. s) memorySize a 0 low)
+            (subst (λ (l : List Variable). fits (map runOf l) 0 memorySize (length bytes) a ≡ true) others-are
+            (is-fits (takenRuns w) lowEnd highEnd (length bytes) a (r .1)))),
       )
 
 -- ---- the turn
@@ -193,6 +193,6 @@ module _ (b : Buffers) (slot clock : ℕ) where
                 (put-at k slot q (live b slot (a .may))),
             disc-left b slot clock (a .may) t leaves,
             subst⁻¹ (λ (j : Kernel). Assigns (k .variables) name id kind bytes (j .variables)) (state-left b slot clock (a .may) t leaves)
-                (is-assigned (k .variables) name id kind bytes s e (good .sized .variables)
+                (is-assigned (k .variables) name id kind bytes s e (value-some top) (good .sized .variables)
                 (good-variables-is (liveIds k) (k .variables) table .few)),
           )
