@@ -6,8 +6,9 @@ use second::instruction::{DELAYUNTIL, FORK, OPEN, SET, WAITUNTILDONE};
 use second::layout::*;
 use second::number::{FLOAT_TYPE, NUMBERS, WHOLES};
 use second::stack::Stack;
-use second::{directory, records, variables};
+use second::{directory, records, runs, variables};
 use std::collections::BTreeMap;
+use std::ops::Range;
 
 /// The refusals that each operation can give, read off document 01.
 pub const REFUSALS: [&[u8]; 14] = [
@@ -113,8 +114,12 @@ impl Coverage {
     pub fn record(&mut self, call: &Call, before: &State, after: &Outcome) {
         let answer = if after.number < 0 { after.number.unsigned_abs() as u8 } else { 0 };
         *self.answers.entry((call.operation(), answer)).or_default() += 1;
-        if let (Call::Turn { slot, clock, .. }, 0) = (call, answer) {
-            self.record_turn(records::record(*slot as usize), *clock, before, &after.state);
+        match (call, answer) {
+            (Call::Turn { slot, clock, .. }, 0) => {
+                self.record_turn(records::record(*slot as usize), *clock, before, &after.state)
+            }
+            (Call::Store { .. }, 0) => self.record_file("store", &after.state.disc),
+            _ => {}
         }
     }
 
@@ -131,9 +136,46 @@ impl Coverage {
         if let Some(situation) = situation {
             self.reach(situation);
         }
+        match (opcode, fault) {
+            (Some(SET), 0) => self.record_variable(&after.area),
+            (Some(OPEN), 0) if directory::count(&before.disc) < directory::count(&after.disc) => {
+                self.record_file("OPEN", &after.disc)
+            }
+            _ => {}
+        }
         let stays = !ended && word(&after.area, record + PC) == word(&before.area, record + PC);
         if let (true, Some(opcode @ (DELAYUNTIL | WAITUNTILDONE))) = (stays, opcode) {
             *self.stays.entry(opcode).or_default() += 1;
+        }
+    }
+
+    /// Counts where the directory's last file went.
+    fn record_file(&mut self, by: &str, disc: &[u8]) {
+        let ranges: Vec<_> = directory::ranges(disc).collect();
+        self.record_place(by, DATA_START..DISC_LEN, &ranges);
+    }
+
+    /// Counts where the table's last variable went.
+    fn record_variable(&mut self, area: &[u8]) {
+        let ranges: Vec<_> = (0..variables::count(area)).map(|index| variables::range(area, index)).collect();
+        self.record_place("SET", 0..MEMORY_LEN, &ranges);
+    }
+
+    /// Counts where the last of these ranges went among the others, by document 01's "lowest start that fits" and by
+    /// document 02, Q-10: "the shortest free run that fits, the lowest of equals".
+    fn record_place(&mut self, by: &str, bounds: Range<usize>, ranges: &[Range<usize>]) {
+        let Some((new, taken)) = ranges.split_last() else { return };
+        let fitting: Vec<_> =
+            runs::free_runs(bounds, taken.iter().cloned()).filter(|run| run.len() >= new.len()).collect();
+        let Some(shortest) = fitting.iter().map(Range::len).min() else { return };
+        if fitting[0].len() > shortest {
+            self.reach(&format!("{by}, a lower run fits that is longer"));
+        }
+        if fitting.iter().filter(|run| run.len() == shortest).count() > 1 {
+            self.reach(&format!("{by}, two of the shortest runs"));
+        }
+        if shortest > new.len() {
+            self.reach(&format!("{by}, the shortest run is longer than needed"));
         }
     }
 

@@ -35,7 +35,16 @@ const STATES: u64 = 1300;
 const PAIRS: u64 = 500;
 
 /// What must have been reached, at least, in one pass, beside the tables.
-const NEEDED: [(&str, u64); 29] = [
+const NEEDED: [(&str, u64); 38] = [
+    ("store, a lower run fits that is longer", 1),
+    ("store, two of the shortest runs", 1),
+    ("store, the shortest run is longer than needed", 1),
+    ("OPEN, a lower run fits that is longer", 1),
+    ("OPEN, two of the shortest runs", 1),
+    ("OPEN, the shortest run is longer than needed", 1),
+    ("SET, a lower run fits that is longer", 1),
+    ("SET, two of the shortest runs", 1),
+    ("SET, the shortest run is longer than needed", 1),
     ("DELAYUNTIL, x at the clock", 1),
     ("DELAYUNTIL, x 1 ahead", 1),
     ("DELAYUNTIL, x 32,767 ahead", 1),

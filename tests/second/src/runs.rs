@@ -8,7 +8,10 @@ pub fn disjoint(a: &Range<usize>, b: &Range<usize>) -> bool {
 }
 
 /// The free runs between taken ranges that share no byte, from low to high: what lies before, between and past them.
-fn free_runs(bounds: Range<usize>, taken: impl Iterator<Item = Range<usize>>) -> impl Iterator<Item = Range<usize>> {
+pub fn free_runs(
+    bounds: Range<usize>,
+    taken: impl Iterator<Item = Range<usize>>,
+) -> impl Iterator<Item = Range<usize>> {
     let mut taken: Vec<_> = taken.collect();
     taken.sort_by_key(|range| range.start);
     let starts = std::iter::once(bounds.start).chain(taken.clone().into_iter().map(|range| range.end));
