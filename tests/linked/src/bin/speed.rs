@@ -68,6 +68,8 @@ fn rows() -> Vec<Row> {
         Row::new("round, ten SETs", &set, &round),
         Row::new("round, ten PRINTs of FLOAT", &print, &round),
         Row::new("store, nine files there", &nine_files(&increment), &store),
+        Row::new("turn, SET, a free run after each variable", &splintered(&set, false), &turn),
+        Row::new("turn, SET, the same from high to low", &splintered(&set, true), &turn),
         Row::new("turn, OPEN of a new file of 862 bytes", &one_file(), &turn),
     ]
 }
@@ -101,6 +103,17 @@ fn fill(area: &mut [u8], stack: &[u8]) {
         set_word(area, at + VARIABLE_ID, id);
     }
     area[VARIABLE_COUNT] = MAX_VARIABLES as u8;
+}
+
+/// The same with eight free bytes after each variable, so that SET looks at every free run; the table's order is that of
+/// the addresses or the other way round.
+fn splintered(state: &State, downwards: bool) -> State {
+    let mut state = state.clone();
+    for index in 0..MAX_VARIABLES {
+        let place = if downwards { MAX_VARIABLES - 1 - index } else { index };
+        state.area[VARIABLES + index * VARIABLE_LEN + 2] = 10 * place as u8;
+    }
+    state
 }
 
 /// The same with the process of slot 5 paused: a turn of it is refused after all tests, before anything is executed.
