@@ -55,8 +55,8 @@ use lib.Dec.{eqb}
 use lib.IntN.{ℤ, pos, negsuc}
 use Rattle.buffer.specs.Buffer.{overwrite}
 use Rattle.buffer.specs.Lists.{same}
-use Rattle.place.proofs.Place.{longest-is, place-longer}
-use Rattle.place.specs.Place.{isAt, longest, place}
+use Rattle.place.proofs.Place.{longer-fits-nowhere, longest-is}
+use Rattle.place.specs.Place.{isAt, longest, lowestFit}
 use Rattle.place.specs.declared.Run.{Run}
 use Rattle.machine.specs.Answer.{Answer, Buffers}
 
@@ -84,8 +84,8 @@ abbrev pub says : Answer → Buffers → ℤ → List (ℕ × List ℕ) → List
 says a b n disc area out = sameNumber (a .number) n && (same (a .disc) (laid disc (b .disc)) && (same (a .area) (laid area (b .area)) && same (a .out) (laid out (b .out))))
 
 -- the longest free run takes more steps than one declaration may; by its law: a run of g has a place, one of g + 1 has none
-pub free-run : (runs : List Run) (lo hi g : ℕ) → g ≤ hi - lo → (0 < g → isAt (place runs lo hi g) ≡ true) → isAt (place runs lo hi (suc g)) ≡ false → longest runs lo hi ≡ g
-free-run runs lo hi g a e f = longest-is runs lo hi g a e (λ j x y. place-longer runs lo hi (suc g) j x f)
+pub free-run : (runs : List Run) (lo hi g : ℕ) → g ≤ hi - lo → (0 < g → isAt (lowestFit runs lo hi g) ≡ true) → isAt (lowestFit runs lo hi (suc g)) ≡ false → longest runs lo hi ≡ g
+free-run runs lo hi g a e f = longest-is runs lo hi g a e (λ j x y. longer-fits-nowhere runs lo hi (suc g) j x f)
 """
 
 
