@@ -198,7 +198,7 @@ int32_t arduinos_format(uint8_t *disc, size_t disc_len, uint8_t *area, size_t ar
    Refused: WRONG_LENGTH. */
 int32_t arduinos_boot(uint8_t *area, size_t area_len);
 
-/* Stores data as a new file, at the lowest place that is long enough. Returns 0.
+/* Stores data as a new file, at the start of the shortest free run that is long enough, the lowest of equals. Returns 0.
    Refused: WRONG_LENGTH, BAD_DISC, BAD_NAME, BAD_SIZE, DIRECTORY_FULL, NAME_EXISTS, NO_SPACE. */
 int32_t arduinos_store(uint8_t *disc, size_t disc_len, const uint8_t *name, size_t name_len, const uint8_t *data,
                        size_t data_len);

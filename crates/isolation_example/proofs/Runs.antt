@@ -80,8 +80,8 @@ started i n calls rest c =
 runs : Computed 1 1 alone restAlone × Computed 5 12 beside restBeside × (length (watch 1 restAlone) ≡ 11)
     × (getD (observations (notRefused (watch 1 restAlone))) 7 (declined (pos 0)) ≡ printed)
 unfolding none restAlone restBeside placeIn givesOut lacksSpace turnDisturbs writeLands events turnEvents watch answer otherAnswer
-    storeAnswer checked
-    lookup index entryAt tab goodDisc goodFiles goodEntry goodField goodName besideEntry all pairs apart begins fits freeFrom greatest least place placeOf admission
+    storeAnswer checked lookup index entryAt tab goodDisc goodFiles goodEntry goodField goodName besideEntry all pairs apart
+    begins fits freeFrom greatest least place placeOf admission
     entered erased writtenAt readAt goodArea goodKernel goodHeader goodProcess goodLive goodRegisters goodFile isProgram otherId
     goodVariables goodVariable goodSize besideVariable kernelOf kernelBytes variablesOf flat inUse any keep ended turned carriedOut answered
     owned freed assigned placeFor placing added assignedCells exec performs find instructionOf operatorOf lookupOperator includes operates

@@ -46,7 +46,8 @@ rows : RunOnBytes × Listings × AreaRows × DiscRows × BenchOnBytes × WaitsOn
 unfolding RunOnBytes Listings AreaRows DiscRows BenchOnBytes WaitsOnBytes NewFilesOnBytes laid leftBy numbers turns answer otherAnswer
     formatAnswer
     storeAnswer checked filesAnswer fileLine lookup index entryAt tab goodDisc goodFiles goodEntry goodField goodName besideEntry all
-    pairs apart begins fits freeFrom greatest least place placeOf admission entered erased writtenAt readAt goodArea goodKernel goodHeader goodProcess goodLive
+    pairs apart begins fits freeFrom greatest least place placeOf admission
+    entered erased writtenAt readAt goodArea goodKernel goodHeader goodProcess goodLive
     goodRegisters goodFile isProgram otherId goodVariables goodVariable goodSize besideVariable kernelOf kernelBytes variablesOf flat any
     keep ended turned carriedOut answered owned freed assigned placeFor placing added exec performs find instructionOf operatorOf
     lookupOperator includes operates settle pop popNumber popString wellFormed trimmed same unary binary whole wrapped wholeBits

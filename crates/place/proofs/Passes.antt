@@ -1,7 +1,7 @@
 -- The search of the next free run: passes over the taken runs. After the first i of them nothing below start fits, and where start has
 -- not moved the bytes from it up to end are apart from them.
-use Prim.Native.Nat.{ℕ, suc, _+_, _-_, _≤_, _<_}
-use mathlib.Core.Path.{_≡_, refl, ap, _∙_, subst}
+use Prim.Native.Nat.{ℕ, _+_, _-_, _≤_, _<_}
+use mathlib.Core.Path.{_≡_, refl, ap, _∙_}
 use mathlib.Core.Bool.{Bool, true, false, cond, and-false, _||_}
 use mathlib.Core.List.{List}
 use mathlib.Core.Logic.{⊎-elim, inl, inr}
@@ -15,12 +15,11 @@ use Rattle.buffer.proofs.Lists.{all-stop, all-take-next, all-weaker}
 use Rattle.buffer.specs.declared.Found.{Found}
 use Rattle.buffer.specs.declared.Found.the-variants.{At, Nowhere}
 use Rattle.place.specs.Place.{apart, endBy, fits, freeFrom, lowestFit, nextRun, runFrom, upToEnd}
-use Rattle.place.specs.declared.NextRun.{NextRun}
 use Rattle.place.specs.declared.NextRun.the-variants.{Free, NoneLeft}
 use Rattle.place.specs.declared.Run.{Run}
 use Rattle.place.proofs.FreeRuns.{free-from-is}
-use Rattle.place.proofs.Place.{Apart, apart-is, fits-above, fits-inside, fits-is, is-apart, is-apart-left, is-apart-right, is-fits, is-meet}
-use Rattle.place.proofs.Place.{lowest-fit-is, meet-is}
+use Rattle.place.proofs.Place.{Apart, apart-is, fits-above, fits-inside, is-apart, is-apart-left, is-apart-right, is-fits}
+use Rattle.place.proofs.Place.{is-meet, lowest-fit-is, meet-is}
 
 -- ---- starts that are passed over
 module _ (runs : List Run) (lo hi n : ℕ) where

@@ -1,5 +1,5 @@
--- What a place is, by document 02, Q-10: "the start of the shortest free run that fits, the lowest of equals". `Free n s`
--- says that the n bytes from s on are free.
+-- What a place is, by document 02, Q-10: "the start of the shortest free run that fits, the lowest of equals".
+-- `Free n s` says that the n bytes from s on are free.
 use Prim.Native.Nat.{ℕ, _+_, _≤_}
 use mathlib.Core.Path.{_≡_}
 

@@ -91,7 +91,8 @@ module _ (v : Variables) (name id kind : ℕ) (bytes : List ℕ) (a : ℕ)
       subst (λ (l : List Variable). ShortestFit (λ n s. fits (map runOf l) 0 memorySize n s ≡ true) (length bytes) a) others-are
       (place-shortest-fit (takenRuns w) lowEnd highEnd (length bytes) a some found)
 
-  is-assigned : 1 ≤ length bytes → Shaped v → v .count ≤ maxVariables → Assigns v name id kind bytes (assigned v name id (valueOf kind bytes) .variables)
+  is-assigned : 1 ≤ length bytes → Shaped v → v .count ≤ maxVariables
+      → Assigns v name id kind bytes (assigned v name id (valueOf kind bytes) .variables)
   unfolding w x added
   is-assigned some shaped few =
       let sized : length (valueBytes x) ≡ length bytes = ap length (value-made kind bytes) in
