@@ -55,6 +55,15 @@ unfolding all
 all-weaker p q [] h e = refl
 all-weaker p q (x ∷ l) h e = and-both (h x (and-left (p x) (all p l) e)) (all-weaker p q l h (and-right (p x) (all p l) e))
 
+-- what two tests give together
+pub all-both : {A : Type 0} (p q r : A → Bool) (l : List A) → ((x : A) → p x ≡ true → q x ≡ true → r x ≡ true) → all p l ≡ true
+    → all q l ≡ true → all r l ≡ true
+unfolding all
+all-both p q r [] h a b = refl
+all-both p q r (x ∷ l) h a b =
+    and-both (h x (and-left (p x) (all p l) a) (and-left (q x) (all q l) b))
+    (all-both p q r l h (and-right (p x) (all p l) a) (and-right (q x) (all q l) b))
+
 -- ---- pairs
 module _ {A : Type 0} (r : A → A → Bool) where
   pub pairs-snoc : (l : List A) (x : A) → pairs r (l ++ (x ∷ [])) ≡ pairs r l && all (λ y. r y x) l

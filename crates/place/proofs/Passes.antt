@@ -1,4 +1,4 @@
--- The search of the next free run: passes over the taken runs. After the first i of them nothing below start fits, and where start has
+-- The loops of `next_run`: passes over the taken runs. After the first i of them nothing below start fits, and where start has
 -- not moved the bytes from it up to end are apart from them.
 use Prim.Native.Nat.{ℕ, _+_, _-_, _≤_, _<_}
 use mathlib.Core.Path.{_≡_, refl, ap, _∙_}
@@ -14,17 +14,18 @@ use Rattle.buffer.specs.Lists.{all}
 use Rattle.buffer.proofs.Lists.{all-stop, all-take-next, all-weaker}
 use Rattle.buffer.specs.declared.Found.{Found}
 use Rattle.buffer.specs.declared.Found.the-variants.{At, Nowhere}
-use Rattle.place.specs.Place.{apart, endBy, fits, freeFrom, lowestFit, nextRun, runFrom, upToEnd}
+use Rattle.place.specs.NextRun.{endBy, nextRun, upToEnd}
+use Rattle.place.specs.Place.{apart, fits, freeFrom, lowestFit, runFrom}
 use Rattle.place.specs.declared.NextRun.the-variants.{Free, NoneLeft}
 use Rattle.place.specs.declared.Run.{Run}
-use Rattle.place.proofs.FreeRuns.{free-from-is}
+use Rattle.place.proofs.ShortestFit.{free-from-is}
 use Rattle.place.proofs.Place.{Apart, apart-is, fits-above, fits-inside, is-apart, is-apart-left, is-apart-right, is-fits}
 use Rattle.place.proofs.Place.{is-meet, lowest-fit-is, meet-is}
 
 -- ---- starts that are passed over
 module _ (runs : List Run) (lo hi n : ℕ) where
   -- no start from s up to the end of a run that s meets is free
-  pub fits-not-before-end : (s i j : ℕ) (d : Run) → i < length runs → apart (runFrom s n) (getD runs i d) ≡ false → s ≤ j
+  fits-not-before-end : (s i j : ℕ) (d : Run) → i < length runs → apart (runFrom s n) (getD runs i d) ≡ false → s ≤ j
       → j < getD runs i d .start + getD runs i d .len → fits runs lo hi n j ≡ false
   unfolding fits
   fits-not-before-end s i j d h e a b =
@@ -34,7 +35,7 @@ module _ (runs : List Run) (lo hi n : ℕ) where
       rw (all-stop (apart (runFrom j n)) runs i d h k, and-false (leb (j + n) hi)) (and-false (leb lo j))
 
   -- so none before that end is free, where none before s is
-  pub fits-none-before-end : (s i : ℕ) (d : Run) → i < length runs → apart (runFrom s n) (getD runs i d) ≡ false
+  fits-none-before-end : (s i : ℕ) (d : Run) → i < length runs → apart (runFrom s n) (getD runs i d) ≡ false
       → ((j : ℕ) → j < s → fits runs lo hi n j ≡ false) → (j : ℕ) → j < getD runs i d .start + getD runs i d .len
       → fits runs lo hi n j ≡ false
   fits-none-before-end s i d h e f j b = go (leb s j) refl
@@ -63,7 +64,7 @@ module _ (runs : List Run) (lo hi n : ℕ) (some : 1 ≤ n) (i start end : ℕ) 
   v = getD runs i d
 
   -- one run more: it lies below start, above end, or its start is the new end
-  pub reach-next : apart (runFrom start n) (getD runs i d) ≡ true → Reach runs lo hi n i start end
+  reach-next : apart (runFrom start n) (getD runs i d) ≡ true → Reach runs lo hi n i start end
       → Reach runs lo hi n (i + 1) start (endBy start end (getD runs i d))
   unfolding v fits
   reach-next e r = go (leb (v .start) start) refl (leb end (v .start)) refl

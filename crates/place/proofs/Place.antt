@@ -3,7 +3,7 @@
 use Prim.Native.Nat.{ℕ, zero, suc, _+_, _-_, _≤_, _<_}
 use mathlib.Core.Path.{_≡_, refl, sym, ap, _∙_}
 use mathlib.Core.Bool.{Bool, true, false, not, _&&_, _||_, and-false}
-use mathlib.Core.List.{List, [], _∷_, append-assoc, map}
+use mathlib.Core.List.{List, append-assoc, map}
 use mathlib.Core.Logic.{_⊎_, inl, inr, ⊎-elim}
 use native.Mathlib.Nat.{eq-or-lt-of-le}
 use native.Mathlib.Omega.{arith}
@@ -15,21 +15,12 @@ use Rattle.buffer.specs.Lists.{all, tab}
 use Rattle.buffer.specs.declared.Found.{Found}
 use Rattle.buffer.specs.declared.Found.the-variants.{At, Nowhere}
 use Rattle.buffer.proofs.Bools.{and-both, and-left, and-right, not-is-true, not-true-is-false, true-not-false}
-use Rattle.buffer.proofs.Lists.{all-weaker, tab-length, tab-more}
+use Rattle.buffer.proofs.Lists.{all-both, all-weaker, tab-length, tab-more}
 use Rattle.buffer.proofs.Tables.{all-map}
 use Rattle.place.specs.Place.{runFrom, noRun, maxRuns, filled, apart, fits, lowestFit, begins, freeFrom, starts, place, isAt, longest}
 use Rattle.place.specs.declared.Run.{Run}
-use Rattle.place.proofs.Search.{Before, greatest-bound, greatest-holds, greatest-is, greatest-most, lacks, least-at, least-none}
-use Rattle.place.proofs.Search.{lowest-at, lowest-is, lowest-none, lowest-nowhere}
-
--- two tests together
-pub all-both : {A : Type 0} (p q r : A → Bool) (l : List A) → ((x : A) → p x ≡ true → q x ≡ true → r x ≡ true) → all p l ≡ true
-    → all q l ≡ true → all r l ≡ true
-unfolding all
-all-both p q r [] h a b = refl
-all-both p q r (x ∷ l) h a b =
-    and-both (h x (and-left (p x) (all p l) a) (and-left (q x) (all q l) b))
-    (all-both p q r l h (and-right (p x) (all p l) a) (and-right (q x) (all q l) b))
+use Rattle.place.proofs.Numbers.{Before, greatest-bound, greatest-holds, greatest-is, greatest-most, lacks, least-at, least-none}
+use Rattle.place.proofs.Numbers.{lowest-at, lowest-is, lowest-none, lowest-nowhere}
 
 -- ---- apart
 pub record Apart (u v : Run) : Type 0 where
@@ -171,7 +162,7 @@ module _ (runs : List Run) (lo hi n : ℕ) where
   unfolding lowestFit
   lowest-fit-nowhere f = lowest-nowhere (fits runs lo hi n) lo (suc hi - lo) f
 
-  pub lowest-fit-some : (s : ℕ) → fits runs lo hi n s ≡ true → isAt (lowestFit runs lo hi n) ≡ true
+  lowest-fit-some : (s : ℕ) → fits runs lo hi n s ≡ true → isAt (lowestFit runs lo hi n) ≡ true
   lowest-fit-some s e = go (lowestFit runs lo hi n) refl
     where
       go : (f : Found) → lowestFit runs lo hi n ≡ f → isAt f ≡ true
@@ -199,7 +190,7 @@ module _ (runs : List Run) (lo hi n : ℕ) where
   is-begins (suc s) e f = and-both (not-is-true (f s refl)) e
 
   -- at the lowest start that fits one begins
-  pub lowest-begins : (s : ℕ) → lowestFit runs lo hi n ≡ At s → begins runs lo hi n s ≡ true
+  lowest-begins : (s : ℕ) → lowestFit runs lo hi n ≡ At s → begins runs lo hi n s ≡ true
   lowest-begins s e =
       is-begins s (lowest-fit-fits runs lo hi n s e) λ t w.
       not-true-is-false (fits runs lo hi (suc n) t) λ f.
@@ -209,7 +200,7 @@ module _ (runs : List Run) (lo hi n : ℕ) where
 -- ---- places
 module _ (runs : List Run) (lo hi n : ℕ) where
   -- a free run begins at lo or where a taken run ends, nowhere else
-  begins-at-start : (s : ℕ) → begins runs lo hi n s ≡ true → lacks s (starts runs lo) ≡ false
+  pub begins-at-start : (s : ℕ) → begins runs lo hi n s ≡ true → lacks s (starts runs lo) ≡ false
   unfolding all
   begins-at-start s b = not-true-is-false (lacks s (starts runs lo)) λ none.
       let other = not-true (eqb lo s) (and-left (not (eqb lo s)) (lacks s (map (λ v. v .start + v .len) runs)) none) in
@@ -251,7 +242,7 @@ module _ (runs : List Run) (lo hi n : ℕ) where
       let l = least-at (begins runs lo hi n) (freeFrom runs hi) (starts runs lo) s e in
       record { begun = l .holds; before = λ j b. l .before j (begins-at-start j b) b }
 
-  pub no-place-none-begins : place runs lo hi n ≡ Nowhere → (s : ℕ) → begins runs lo hi n s ≡ false
+  no-place-none-begins : place runs lo hi n ≡ Nowhere → (s : ℕ) → begins runs lo hi n s ≡ false
   unfolding place
   no-place-none-begins e s = not-true-is-false (begins runs lo hi n s) λ b.
       true-not-false b (least-none (begins runs lo hi n) (freeFrom runs hi) (starts runs lo) e s (begins-at-start s b))

@@ -7,8 +7,6 @@ use lib.ListN.{length, replicate}
 use Rattle.buffer.specs.Lists.{all}
 use Rattle.buffer.specs.declared.Found.{Found}
 use Rattle.buffer.specs.declared.Found.the-variants.{At, Nowhere}
-use Rattle.place.specs.declared.NextRun.{NextRun}
-use Rattle.place.specs.declared.NextRun.the-variants.{Free, NoneLeft}
 use Rattle.place.specs.declared.Run.{Run}
 
 -- as many runs as may be taken: ten files, or 25 variables and the ten runs that a later request holds back
@@ -60,16 +58,17 @@ greatest p (suc n) = greaterOf (p (suc n)) (suc n) (greatest p n)
 unfoldable pub freeFrom : List Run → ℕ → ℕ → ℕ
 freeFrom runs hi start = greatest (λ n. fits runs start hi n start) (hi - start)
 
--- a free run of at least n bytes begins at start: no more fit with the byte before, and they do
+-- a free run of n bytes or more begins at start: n bytes fit from there on, and not together with the byte before
 unfoldable pub begins : List Run → ℕ → ℕ → ℕ → ℕ → Bool
 begins runs lo hi n zero = fits runs lo hi n 0
 begins runs lo hi n (suc s) = not (fits runs lo hi (suc n) s) && fits runs lo hi n (suc s)
 
--- only there can one begin: at lo, or where a taken run ends
+-- A free run begins at lo or where a taken run ends, nowhere else (law `begins-at-start`). `place` is taken over these
+-- numbers alone so that it can be computed; that it is the least over all numbers are the laws `place-at`, `place-is`.
 abbrev pub starts : List Run → ℕ → List ℕ
 starts runs lo = lo ∷ map (λ v. v .start + v .len) runs
 
--- the smaller of two numbers' sizes, the lower of equals
+-- k has the smaller size, or the same and is no higher
 abbrev pub precedes : (ℕ → ℕ) → ℕ → ℕ → Bool
 precedes size k j = ltb (size k) (size j) || (eqb (size k) (size j) && leb k j)
 
@@ -83,22 +82,10 @@ unfoldable pub least : (ℕ → Bool) → (ℕ → ℕ) → List ℕ → Found
 least p size [] = Nowhere
 least p size (k ∷ ks) = lesser (p k) size k (least p size ks)
 
--- the end of the free bytes from start on, where v is taken too; up to end they were free so far
-abbrev pub endBy : ℕ → ℕ → Run → ℕ
-endBy start end v = cond (leb (v .start) start || leb end (v .start)) end (v .start)
-
 -- Document 02, Q-10: "A new file or variable now goes at the start of the shortest free run that fits, the lowest of
 -- equals."
 unfoldable pub place : List Run → ℕ → ℕ → ℕ → Found
 place runs lo hi n = least (begins runs lo hi n) (freeFrom runs hi) (starts runs lo)
-
--- the first free run from lo on that n bytes fit in, from its start up to its end
-abbrev pub upToEnd : List Run → ℕ → Found → NextRun
-upToEnd runs hi (At s) = Free s (s + freeFrom runs hi s)
-upToEnd runs hi Nowhere = NoneLeft
-
-abbrev pub nextRun : List Run → ℕ → ℕ → ℕ → NextRun
-nextRun runs lo hi n = upToEnd runs hi (lowestFit runs lo hi n)
 
 abbrev pub isAt : Found → Bool
 isAt (At k) = true

@@ -32,7 +32,7 @@ pub fn sizes() {
 }
 
 // Document 01: "files of 100, 100, 100, the second erased: 100 bytes go to 261, 101 to 461"
-pub fn lowest_start() {
+pub fn starts_in_gap() {
     let disc = discs::with_gap();
     let equal = discs::with(disc, b"equal", &[4u8; 100]);
     printing::line(b"start of 100 bytes", discs::start_of(equal, 2));

@@ -5,7 +5,7 @@ mod print;
 
 fn main() {
     cases::sizes();
-    cases::lowest_start();
+    cases::starts_in_gap();
     cases::ten_files();
     cases::refused_stores();
     cases::wrong_lengths();

@@ -13,7 +13,7 @@ use Rattle.buffer.proofs.Bools.{true-not-false}
 use Rattle.buffer.proofs.Tables.{all-map, all-tab-at, all-tab-each}
 use Rattle.place.specs.Place.{apart, fits, runFrom}
 use Rattle.place.specs.ShortestFit.{ShortestFit}
-use Rattle.place.proofs.FreeRuns.{place-shortest-fit, shortest-fit-as}
+use Rattle.place.proofs.ShortestFit.{place-shortest-fit, shortest-fit-as}
 use Rattle.place.proofs.Place.{apart-is, fits-is, is-apart, is-fits, no-place-none-fits, place-fits}
 use Rattle.store.specs.Directory.{Readable, entryAt, fileCount, files, goodDisc, isDiscLength, lookup, runOf, taken}
 use Rattle.store.specs.File.{placeOf}

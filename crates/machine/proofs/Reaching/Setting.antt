@@ -17,7 +17,7 @@ use Rattle.buffer.proofs.Lists.{tab-at, tab-length}
 use Rattle.place.specs.Place.{fits, place}
 use Rattle.place.specs.declared.Run.{Run}
 use Rattle.place.specs.ShortestFit.{ShortestFit}
-use Rattle.place.proofs.FreeRuns.{place-shortest-fit}
+use Rattle.place.proofs.ShortestFit.{place-shortest-fit}
 use Rattle.place.proofs.Place.{is-fits}
 use Rattle.variable.specs.Assign.{addressOr, added, assigned, entryLimit, highEnd, ifEntry, lowEnd, newVariable, placeFor, placing}
 use Rattle.variable.specs.Assign.{takenRuns, valueBytes, valueOf}

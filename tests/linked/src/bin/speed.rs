@@ -70,6 +70,7 @@ fn rows() -> Vec<Row> {
         Row::new("store, nine files there", &nine_files(&increment), &store),
         Row::new("turn, SET, a free run after each variable", &splintered(&set, false), &turn),
         Row::new("turn, SET, the same from high to low", &splintered(&set, true), &turn),
+        Row::new("free space, ten files", &increment, &Call::FreeSpace),
         Row::new("turn, OPEN of a new file of 862 bytes", &one_file(), &turn),
     ]
 }
