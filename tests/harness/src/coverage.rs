@@ -157,7 +157,9 @@ impl Coverage {
 
     /// Counts where the table's last variable went.
     fn record_variable(&mut self, area: &[u8]) {
-        let ranges: Vec<_> = (0..variables::count(area)).map(|index| variables::range(area, index)).collect();
+        // a broken promise may count more than there can be
+        let count = variables::count(area).min(MAX_VARIABLES);
+        let ranges: Vec<_> = (0..count).map(|index| variables::range(area, index)).collect();
         self.record_place("SET", 0..MEMORY_LEN, &ranges);
     }
 
