@@ -24,7 +24,7 @@ use Rattle.operator.specs.Unary.{unary}
 use Rattle.number.specs.Value.{numberOf}
 use Rattle.place.specs.Place.{apart, begins, fits, freeFrom, greatest, least, place}
 use Rattle.store.specs.Answer.{checked, storeAnswer}
-use Rattle.store.specs.Directory.{beside as besideEntry, entryAt, goodDisc, goodEntry, goodFiles, lookup}
+use Rattle.store.specs.Directory.{beside as besideEntry, entryAt, goodDisc, goodEntry, goodFiles, isDiscLength, lookup}
 use Rattle.store.specs.File.{admission, entered, erased, placeOf, readAt, writtenAt}
 use Rattle.store.specs.Name.{goodField, goodName, trimmed}
 use Rattle.variable.specs.Assign.{assignedCells, added, assigned, placeFor, placing}
@@ -80,7 +80,7 @@ started i n calls rest c =
 runs : Computed 1 1 alone restAlone × Computed 5 12 beside restBeside × (length (watch 1 restAlone) ≡ 11)
     × (getD (observations (notRefused (watch 1 restAlone))) 7 (declined (pos 0)) ≡ printed)
 unfolding none restAlone restBeside placeIn givesOut lacksSpace turnDisturbs writeLands events turnEvents watch answer otherAnswer
-    storeAnswer checked lookup index entryAt tab goodDisc goodFiles goodEntry goodField goodName besideEntry all pairs apart
+    storeAnswer checked isDiscLength lookup index entryAt tab goodDisc goodFiles goodEntry goodField goodName besideEntry all pairs apart
     begins fits freeFrom greatest least place placeOf admission
     entered erased writtenAt readAt goodArea goodKernel goodHeader goodProcess goodLive goodRegisters goodFile isProgram otherId
     goodVariables goodVariable goodSize besideVariable kernelOf kernelBytes variablesOf flat inUse any keep ended turned carriedOut answered

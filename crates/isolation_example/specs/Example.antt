@@ -6,7 +6,7 @@ use mathlib.Core.Path.{_≡_}
 use mathlib.Core.List.{List, [], _∷_}
 use lib.IntN.{pos}
 use lib.ListN.{drop, getD, length, replicate}
-use Rattle.store.specs.Layout.{discLength}
+use Rattle.store.specs.Layout.{shortDisc}
 use Rattle.machine.specs.Answer.{Call, turn, round, command, run, other, store, booted}
 use Rattle.machine.specs.Isolation.{Started}
 use Rattle.machine.specs.Limits.{roundRoom}
@@ -33,7 +33,7 @@ abbrev pub starter : List ℕ
 starter = 3 ∷ 99 ∷ 0 ∷ 68 ∷ 67 ∷ []
 
 abbrev pub empty : Storage
-empty = record { disc = replicate discLength 0; area = booted }
+empty = record { disc = replicate shortDisc 0; area = booted }
 
 abbrev pub lend : Call → Invocation
 lend c = record { call = c; out = replicate roundRoom 0 }

@@ -11,7 +11,7 @@ use Rattle.operator.specs.Instruction.{lookup as lookupOperator, operatorOf, in
 use Rattle.number.specs.Value.{numberOf}
 use Rattle.place.specs.Place.{apart, begins, fits, freeFrom, greatest, least, place}
 use Rattle.store.specs.Answer.{checked, storeAnswer}
-use Rattle.store.specs.Directory.{beside as besideEntry, entryAt, goodDisc, goodEntry, goodFiles, lookup}
+use Rattle.store.specs.Directory.{beside as besideEntry, entryAt, goodDisc, goodEntry, goodFiles, isDiscLength, lookup}
 use Rattle.store.specs.File.{admission, entered, erased, placeOf, writtenAt}
 use Rattle.store.specs.Name.{goodField, goodName, trimmed}
 use Rattle.variable.specs.Good.{goodVariables}
@@ -40,7 +40,7 @@ use Rattle.literal_rows.specs.NewFileExample.{NewFileExample, between, c
 
 computed : Passes (formatted .disc) (formatted .area) × (ltb 6 (length trace) ≡ true) × (ltb 5 (length (drop 7 trace)) ≡ true)
     × OpensNew 1 0 opening × NoneInterferes 1 between × Executes 1 0 59 reading
-unfolding trace events turnEvents placeIn writeLands turnsOf turnIfRunning answer otherAnswer formatAnswer storeAnswer checked lookup
+unfolding trace events turnEvents placeIn writeLands turnsOf turnIfRunning answer otherAnswer formatAnswer storeAnswer checked isDiscLength lookup
     index entryAt tab goodDisc goodFiles goodEntry goodField goodName besideEntry all pairs apart begins fits freeFrom
     greatest least place placeOf admission
     entered erased writtenAt goodArea goodKernel goodHeader goodProcess goodLive goodRegisters goodFile isProgram otherId goodVariables

@@ -16,7 +16,7 @@ use Rattle.operator.specs.Unary.{unary}
 use Rattle.number.specs.Value.{numberOf}
 use Rattle.place.specs.Place.{apart, begins, fits, freeFrom, greatest, least, place}
 use Rattle.store.specs.Answer.{checked, fileLine, filesAnswer, storeAnswer}
-use Rattle.store.specs.Directory.{beside as besideEntry, entryAt, goodDisc, goodEntry, goodFiles, lookup}
+use Rattle.store.specs.Directory.{beside as besideEntry, entryAt, goodDisc, goodEntry, goodFiles, isDiscLength, lookup}
 use Rattle.store.specs.File.{admission, entered, erased, placeOf, readAt, writtenAt}
 use Rattle.store.specs.Name.{goodField, goodName, trimmed}
 use Rattle.variable.specs.Assign.{added, assigned, placeFor, placing}
@@ -37,15 +37,15 @@ use Rattle.machine.specs.Ended.{ended}
 use Rattle.machine.specs.State.{endedSlot, slotOf}
 use Rattle.machine.specs.Turn.{carriedOut, turned}
 use Rattle.literal_rows.specs.Calls.{laid, leftBy, numbers}
-use Rattle.literal_rows.specs.Goodness.{AreaRows, DiscRows}
+use Rattle.literal_rows.specs.Goodness.{AreaRows, DiscRows, LongDiscRows}
 use Rattle.literal_rows.specs.NewFiles.{NewFilesOnBytes}
 use Rattle.literal_rows.specs.Programs.{BenchOnBytes, WaitsOnBytes}
 use Rattle.literal_rows.specs.Run.{Listings, RunOnBytes}
 
-rows : RunOnBytes × Listings × AreaRows × DiscRows × BenchOnBytes × WaitsOnBytes × NewFilesOnBytes
-unfolding RunOnBytes Listings AreaRows DiscRows BenchOnBytes WaitsOnBytes NewFilesOnBytes laid leftBy numbers turns answer otherAnswer
+rows : RunOnBytes × Listings × AreaRows × DiscRows × LongDiscRows × BenchOnBytes × WaitsOnBytes × NewFilesOnBytes
+unfolding RunOnBytes Listings AreaRows DiscRows LongDiscRows BenchOnBytes WaitsOnBytes NewFilesOnBytes laid leftBy numbers turns answer otherAnswer
     formatAnswer
-    storeAnswer checked filesAnswer fileLine lookup index entryAt tab goodDisc goodFiles goodEntry goodField goodName besideEntry all
+    storeAnswer checked isDiscLength filesAnswer fileLine lookup index entryAt tab goodDisc goodFiles goodEntry goodField goodName besideEntry all
     pairs apart begins fits freeFrom greatest least place placeOf admission
     entered erased writtenAt readAt goodArea goodKernel goodHeader goodProcess goodLive
     goodRegisters goodFile isProgram otherId goodVariables goodVariable goodSize besideVariable kernelOf kernelBytes variablesOf flat any
@@ -56,6 +56,7 @@ unfolding RunOnBytes Listings AreaRows DiscRows BenchOnBytes WaitsOnBytes NewFil
 rows = (
   (refl, refl, refl),
   (refl, refl, refl, refl),
+  (refl, refl),
   (refl, refl),
   (refl, refl),
   (refl, (refl, (refl, (refl, (refl, (refl, (refl, (refl, (refl, (refl, (refl, (refl, (refl, tt))))))))))))),
@@ -75,11 +76,14 @@ area-rows-hold = rows .2
 pub disc-rows-hold : DiscRows
 disc-rows-hold = rows .3
 
+pub long-disc-rows-hold : LongDiscRows
+long-disc-rows-hold = rows .4
+
 pub bench-holds : BenchOnBytes
-bench-holds = rows .4
+bench-holds = rows .5
 
 pub waits-hold : WaitsOnBytes
-waits-hold = rows .5
+waits-hold = rows .6
 
 pub new-files-hold : NewFilesOnBytes
-new-files-hold = rows .6
+new-files-hold = rows .7

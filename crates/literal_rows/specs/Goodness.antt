@@ -2,8 +2,8 @@
 use Prim.Native.Nat.{ℕ}
 use mathlib.Core.Path.{_≡_}
 use mathlib.Core.Bool.{Bool, true, not}
-use mathlib.Core.List.{List, [], _∷_}
-use lib.ListN.{set}
+use mathlib.Core.List.{List, [], _∷_, _++_}
+use lib.ListN.{replicate, set}
 use Rattle.buffer.specs.Lists.{all}
 use Rattle.store.specs.Directory.{goodDisc}
 use Rattle.machine.specs.Answer.{goodArea}
@@ -71,3 +71,19 @@ discBad =
 
 unfoldable pub DiscRows : Type 0
 DiscRows = (all discWith discGood ≡ true) × (all (λ row. not (discWith row)) discBad ≡ true)
+
+-- ---- the same files on a long disc, the last one of 3,840 bytes and as many as its low byte says, from 188 on. Document
+-- 02, Q-2: "data ending at 1023 or 4095"
+abbrev pub longWith : ℕ × ℕ → Bool
+longWith row = goodDisc (set (set (discBytes ++ replicate 3072 0) 47 15) (row .0) (row .1))
+
+abbrev pub longGood : List (ℕ × ℕ)
+longGood =
+    -- up to the last byte; less than that; by the high byte, past 1023
+    (46, 68) ∷ (46, 0) ∷ (47, 4) ∷ (47, 14) ∷ []
+
+abbrev pub longBad : List (ℕ × ℕ)
+longBad = (46, 69) ∷ (46, 255) ∷ (47, 15) ∷ (47, 16) ∷ (47, 255) ∷ []
+
+unfoldable pub LongDiscRows : Type 0
+LongDiscRows = (all longWith longGood ≡ true) × (all (λ row. not (longWith row)) longBad ≡ true)

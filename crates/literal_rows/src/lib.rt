@@ -1,5 +1,5 @@
 // Literal rows: calls on bytes, against bytes written out at their offsets.
-ghost use Rattle.literal_rows.specs.Goodness.{AreaRows, DiscRows};
+ghost use Rattle.literal_rows.specs.Goodness.{AreaRows, DiscRows, LongDiscRows};
 ghost use Rattle.literal_rows.specs.NewFileExample.{NewFileExample};
 ghost use Rattle.literal_rows.specs.NewFiles.{NewFilesOnBytes};
 ghost use Rattle.literal_rows.specs.Programs.{BenchOnBytes, WaitsOnBytes};
@@ -23,6 +23,11 @@ pub fn area_rows()
 // The same of that disc.
 pub fn disc_rows()
     ensures { λ _. ⌜ DiscRows ⌝ }
+{}
+
+// Document 02, Q-2: the files of that disc on a long one, up to its last byte and past it.
+pub fn long_disc_rows()
+    ensures { λ _. ⌜ LongDiscRows ⌝ }
 {}
 
 // Document 01's bench cases K1 to K11 through the calls store, run and turn.

@@ -16,7 +16,7 @@ use Rattle.operator.specs.Unary.{unary}
 use Rattle.number.specs.Value.{numberOf}
 use Rattle.place.specs.Place.{apart, begins, fits, freeFrom, greatest, least, place}
 use Rattle.store.specs.Answer.{checked, storeAnswer}
-use Rattle.store.specs.Directory.{beside, entryAt, goodDisc, goodEntry, goodFiles, lookup}
+use Rattle.store.specs.Directory.{beside, entryAt, goodDisc, goodEntry, goodFiles, isDiscLength, lookup}
 use Rattle.store.specs.File.{admission, entered, erased, placeOf, writtenAt}
 use Rattle.store.specs.Name.{goodField, goodName, trimmed}
 use Rattle.variable.specs.Assign.{assignedCells, added, assigned, placeFor, placing}
@@ -40,7 +40,7 @@ rows-hold : Every cases × Every misreadings × Every waits × Every delays
 unfolding turns after single exec instructionOf operatorOf lookupOperator includes operates settle pop wellFormed trimmed same unary binary
     whole wrapped wholeBits convertedFloat numberOf textOf printedOf wholeOf lastDigits ofBits ofFields trailingZeros answer otherAnswer
     formatAnswer
-    storeAnswer checked lookup index entryAt tab flat goodDisc goodFiles goodEntry goodField goodName beside all pairs apart begins fits
+    storeAnswer checked isDiscLength lookup index entryAt tab flat goodDisc goodFiles goodEntry goodField goodName beside all pairs apart begins fits
     freeFrom greatest least place placeOf admission entered erased writtenAt goodArea goodKernel goodHeader goodProcess otherId
     goodVariables kernelOf inUse any
     keep ended turned owned freed assigned placeFor placing added assignedCells
@@ -61,7 +61,7 @@ rows-hold = (
                 (refl, refl),
                 (
                   (refl, refl),
-                  ((refl, refl), ((refl, refl), ((refl, refl), ((refl, refl), ((refl, refl), (refl, (refl, tt))))))),
+                  ((refl, refl), ((refl, refl), ((refl, refl), ((refl, refl), ((refl, refl), ((refl, refl), ((refl, refl), tt))))))),
                 ),
               ),
             ),

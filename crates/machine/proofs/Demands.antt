@@ -11,3 +11,4 @@ pub mod Booted
 pub mod TurnCalls
 pub mod EndFaults
 pub mod Lengths
+pub mod DiscLengths

@@ -8,7 +8,7 @@ use lib.ListN.{length, replicate}
 use Rattle.buffer.specs.declared.Found.{Found}
 use Rattle.buffer.specs.declared.Found.the-variants.{At, Nowhere}
 use Rattle.store.specs.Directory.{entryAt, lookup}
-use Rattle.store.specs.Layout.{dataStart, discLength}
+use Rattle.store.specs.Layout.{dataStart, longDisc, shortDisc}
 use Rattle.store.specs.Name.{padded}
 use Rattle.store.specs.declared.Entry.{Entry}
 use Rattle.machine.specs.Answer.{Answer, Buffers, Call, other, store, answer, booted, formatAnswer}
@@ -86,8 +86,9 @@ unfoldable pub after : List Call → Buffers → Buffers
 after [] b = b
 after (c ∷ cs) b = after cs (buffersOf (answer c b))
 
-abbrev pub formatted : Buffers
-formatted = buffersOf (formatAnswer (record { disc = replicate discLength 0; area = replicate areaLength 0; out = [] }))
+-- from a disc of that length
+abbrev pub formatted : ℕ → Buffers
+formatted disc = buffersOf (formatAnswer (record { disc = replicate disc 0; area = replicate areaLength 0; out = [] }))
 
 -- n bytes under a name of one letter
 abbrev pub storing : ℕ → ℕ → Call
@@ -102,13 +103,17 @@ startAt disc Nowhere = Nowhere
 abbrev pub startOf : List ℕ → ℕ → Found
 startOf disc letter = startAt disc (lookup disc (letter ∷ []))
 
+-- on a disc of that length n bytes stored after these calls go to that start
+abbrev pub goesTo : (disc : ℕ) → List Call → (n start : ℕ) → Type 0
+goesTo disc calls n start = startOf (after (storing 110 n ∷ []) (after calls (formatted disc)) .disc) 110 ≡ At start
+
 -- ---- a row, and when it holds
 pub data Row : Type 0 where
   -- a program, the clock of each turn, and what is seen after them
   runsAt : (program clocks : List ℕ) → Result → Row
   -- n turns of the kernel alone: to the single process "fault 10 never comes"
   runsInKernel : (program : List ℕ) (n : ℕ) → Result → Row
-  -- calls on formatted buffers; n bytes stored after them go to that start
+  -- calls on formatted buffers, the disc short or long; n bytes stored after them go to that start
   stores : (calls : List Call) (n start : ℕ) → Row
 
 -- n turns of a program that does not look at the clock
@@ -118,7 +123,7 @@ runs program n seen = runsAt program (replicate n 0) seen
 abbrev pub RowHolds : Row → Type 0
 RowHolds (runsAt program clocks seen) = (alone program clocks ≡ seen) × (inKernel program clocks ≡ seen)
 RowHolds (runsInKernel program n seen) = inKernel program (replicate n 0) ≡ seen
-RowHolds (stores calls n start) = startOf (after (storing 110 n ∷ []) (after calls formatted) .disc) 110 ≡ At start
+RowHolds (stores calls n start) = goesTo shortDisc calls n start × goesTo longDisc calls n start
 
 abbrev pub Every : List Row → Type 0
 Every [] = Unit

@@ -36,6 +36,8 @@ pub mod Faults
 pub mod Reaching
 pub mod Done
 pub mod LeftAlone
+-- a disc of either length
+pub mod DiscLengths
 -- a wait keeps its time
 pub mod Waiting
 -- a file that OPEN creates reads empty

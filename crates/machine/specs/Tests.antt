@@ -7,8 +7,8 @@ use mathlib.Core.List.{List}
 use mathlib.Core.Logic.{_⊎_}
 use lib.IntN.{pos, negℤ}
 use lib.ListN.{length}
-use Rattle.store.specs.Directory.{goodDisc}
-use Rattle.store.specs.Layout.{dataStart, discLength, maxFiles}
+use Rattle.store.specs.Directory.{DiscLength, goodDisc}
+use Rattle.store.specs.Layout.{dataStart, maxFiles}
 use Rattle.machine.specs.Answer.{Answer, Buffers, Call, Other, turn, round, command, run, other, store, retrieve}
 use Rattle.machine.specs.Answer.{erase, files, freeSpace, list, answer, bootAnswer, formatAnswer, goodArea}
 use Rattle.machine.specs.Fields.{Ended, Free, HasId, IsName, Named, NoFile, Uses, filesOn, filesText, nextId}
@@ -25,13 +25,13 @@ pub data Tests : Type 1 where
 -- ---- document 01's 1 to 3, which come first
 abbrev pub onDisc : Buffers → Tests → Tests
 onDisc b rest =
-    test 1 (length (b .disc) ≡ discLength)
+    test 1 (DiscLength (length (b .disc)))
     (test 2 (goodDisc (b .disc) ≡ true)
     rest)
 
 abbrev pub onBoth : Buffers → Tests → Tests
 onBoth b rest =
-    test 1 ((length (b .disc) ≡ discLength) × (length (b .area) ≡ areaLength))
+    test 1 (DiscLength (length (b .disc)) × (length (b .area) ≡ areaLength))
     (test 2 (goodDisc (b .disc) ≡ true)
     (test 3 (goodArea (b .disc) (b .area) ≡ true)
     rest))
@@ -90,7 +90,7 @@ tests (other o) b = otherTests o b
 
 -- Document 01: "format and boot try only 1"
 abbrev pub formatTests : Buffers → Tests
-formatTests b = test 1 ((length (b .disc) ≡ discLength) × (length (b .area) ≡ areaLength)) passed
+formatTests b = test 1 (DiscLength (length (b .disc)) × (length (b .area) ≡ areaLength)) passed
 
 abbrev pub bootTests : Buffers → Tests
 bootTests b = test 1 (length (b .area) ≡ areaLength) passed

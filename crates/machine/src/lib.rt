@@ -12,6 +12,7 @@ use variable::Variables;
 ghost use Rattle.machine.specs.Cases.{Bench, Delays, Misreadings};
 ghost use Rattle.machine.specs.Demands.{BytesKept, EventsAreCalls, FaultTouchesOwn, GoodKept, LengthsKept};
 ghost use Rattle.machine.specs.Demands.{PlacesRefusedOnly, RoundIsTurns, TurnOutputBound};
+ghost use Rattle.machine.specs.DiscLengths.{EitherLength};
 ghost use Rattle.machine.specs.Done.{DoneExactly};
 ghost use Rattle.machine.specs.Isolation.{Isolation};
 ghost use Rattle.machine.specs.LeftAlone.{LeavesAlone};
@@ -74,6 +75,11 @@ pub fn waits_keep_time()
 // whatever others do between, if nobody writes into the file.
 pub fn new_file_reads_empty()
     ensures { λ _. ⌜ NewFileReadsEmpty ⌝ }
+{}
+
+// Document 02, Q-2: what an empty disc of either length takes, and that of other lengths nothing new is said.
+pub fn either_length()
+    ensures { λ _. ⌜ EitherLength ⌝ }
 {}
 
 // Demand 3 in one piece: nothing but its own turns and commands shifts a process's stack, variables, place, output or

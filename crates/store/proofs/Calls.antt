@@ -24,7 +24,7 @@ use Rattle.store.specs.declared.Answer.the-variants.{Done, Refused}
 use Rattle.store.specs.declared.Refusal.{Refusal}
 use Rattle.store.specs.declared.Refusal.the-variants.{WrongLength, BadDisc, ShortOutput, BadName, BadSize, NameExists, DirectoryFull}
 use Rattle.store.specs.declared.Refusal.the-variants.{NoRun, NoSuchFile}
-use Rattle.store.proofs.Checks.{by-checks, disc-length-is}
+use Rattle.store.proofs.Checks.{by-checks, disc-bounds}
 use Rattle.store.proofs.Admissions.{Admitted, Denial, admitted, denied}
 
 -- ---- numbers
@@ -97,4 +97,4 @@ module _ (disc : List ℕ) (n : ℕ) where
   unfolding placeOf
   free-space-most e m h =
       let f = free-space-is e in
-      longest-most (taken disc) dataStart (length disc) (disc-length-is (length disc) (f .0) .low) m (omega (arith, f .1))
+      longest-most (taken disc) dataStart (length disc) (disc-bounds (length disc) (f .0) .low) m (omega (arith, f .1))

@@ -1,7 +1,9 @@
 -- The disc: its directory and its files.
 use Prim.Native.Nat.{ℕ, _+_, _*_, _≤_}
-use mathlib.Core.Bool.{Bool, true, false, _&&_, not}
+use mathlib.Core.Path.{_≡_}
+use mathlib.Core.Bool.{Bool, true, false, _&&_, _||_, not}
 use mathlib.Core.List.{List, _++_, map}
+use mathlib.Core.Logic.{_⊎_}
 use lib.Dec.{eqb, leb}
 use lib.ListN.{length, getD, take}
 use Rattle.buffer.specs.Buffer.{part, wordAt, wordBytes}
@@ -10,13 +12,18 @@ use Rattle.buffer.specs.declared.Found.{Found}
 use Rattle.buffer.specs.declared.Found.the-variants.{Nowhere}
 use Rattle.place.specs.Place.{apart}
 use Rattle.place.specs.declared.Run.{Run}
-use Rattle.store.specs.Layout.{countAt, dataStart, discLength, entrySize, maxFiles, nameSize}
+use Rattle.store.specs.Layout.{countAt, dataStart, entrySize, longDisc, maxFiles, nameSize, shortDisc}
 use Rattle.store.specs.Name.{goodField, goodName, padded}
 use Rattle.store.specs.declared.Entry.{Entry}
 
--- Document 01: "Disc, 1,024 bytes."
-abbrev pub isDiscLength : ℕ → Bool
-isDiscLength n = eqb n discLength
+-- Document 02, Q-2: "Either length is now a disc". No other definition speaks of a length in numbers, and no proof opens
+-- this one but those of proofs/Checks.antt.
+unfoldable pub isDiscLength : ℕ → Bool
+isDiscLength n = eqb n shortDisc || eqb n longDisc
+
+-- the same as a statement
+abbrev pub DiscLength : ℕ → Type 0
+DiscLength n = (n ≡ shortDisc) ⊎ (n ≡ longDisc)
 
 -- Document 01: "Ten directory entries of 16 bytes from 0: name 12, start 2, length 2."
 abbrev pub entryOf : List ℕ → Entry

@@ -6,8 +6,12 @@
 use Prim.Native.Nat.{ℕ}
 
 -- Document 01: "Disc, 1,024 bytes."
-abbrev pub discLength : ℕ
-discLength = 1024
+abbrev pub shortDisc : ℕ
+shortDisc = 1024
+
+-- Document 02, Q-2: "The jib board has 4,096 bytes."
+abbrev pub longDisc : ℕ
+longDisc = 4096
 
 -- Document 01: "Ten directory entries of 16 bytes from 0: name 12, start 2, length 2."
 abbrev pub maxFiles : ℕ
@@ -27,7 +31,7 @@ maxName = 11
 abbrev pub countAt : ℕ
 countAt = 160
 
--- Document 01: "Data lie at 161 to 1023"
+-- Document 01: "Data lie at 161 to 1023"; Q-2: "data ending at 1023 or 4095", which is where the disc ends
 abbrev pub dataStart : ℕ
 dataStart = 161
 

@@ -4,11 +4,12 @@
 use crate::Checked;
 use crate::Refusal;
 use crate::layout::DATA_START;
-use crate::layout::DISC_LENGTH;
 use crate::layout::ENTRY_SIZE;
+use crate::layout::LONG_DISC;
 use crate::layout::MAX_FILES;
 use crate::layout::MAX_NAME;
 use crate::layout::NAME_SIZE;
+use crate::layout::SHORT_DISC;
 use buffer::bytes::four_at;
 use buffer::bytes::word_at;
 use place::Run;
@@ -26,11 +27,11 @@ ghost use Rattle.store.specs.Directory.{beside, entryAt, goodDisc, goodE
 ghost use Rattle.store.specs.Layout.{dataStart, maxFiles, nameSize};
 ghost use Rattle.store.specs.Name.{goodField, isNameByte};
 
-// Document 01: "Disc, 1,024 bytes."
+// Document 02, Q-2: "Either length is now a disc".
 pub fn is_disc_length(n: usize) -> bool
     ensures { λ r. ⌜ r ≡ isDiscLength n ⌝ }
 {
-    n == DISC_LENGTH
+    (n == SHORT_DISC) | (n == LONG_DISC)
 }
 
 // A byte of a name, or a zero with another behind it.

@@ -1,5 +1,7 @@
 // The disc in numbers; specs/Layout.antt has the sentences of document 01.
-pub const DISC_LENGTH: usize = 1024;
+pub const SHORT_DISC: usize = 1024;
+
+pub const LONG_DISC: usize = 4096;
 
 pub const MAX_FILES: usize = 10;
 

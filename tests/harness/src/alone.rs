@@ -22,7 +22,8 @@ enum Fed {
 /// The name of the process's program; neighbours know it too, so that some of them write into it.
 const PROGRAM: &[u8] = b"worker0";
 
-/// Two runs of one program among different neighbours; all that the process shows must be equal in both.
+/// Two runs of one program among different neighbours, on discs of any length; all that the process shows must be equal
+/// in both.
 pub fn compare_pair(comparison: &mut Comparison, unit: u64) -> Compared<()> {
     let mut random = comparison.begin("pairs", unit);
     let (limit, length) = (random.between(10, 90), random.between(10, 50));
@@ -58,7 +59,12 @@ fn run_among(
     fed: &[Fed],
     random: &mut Random,
 ) -> Compared<Option<Vec<Step>>> {
-    let mut run = Run { state: State::zero(), tracking: Tracking::default(), id: 0, random };
+    let mut run = Run {
+        state: State::zero(*random.pick(&[SHORT_DISC, LONG_DISC])),
+        tracking: Tracking::default(),
+        id: 0,
+        random,
+    };
     run.tracking.call(comparison, &mut run.state, &Call::Format)?;
     let store = Call::Store { name: PROGRAM.to_vec(), data: code.to_vec() };
     run.tracking.call(comparison, &mut run.state, &store)?;

@@ -109,7 +109,7 @@ fn list_need(state: &State) -> usize {
 }
 
 fn retrieve_need(disc: &[u8], name: &[u8]) -> usize {
-    let mut output = vec![0; DISC_LEN];
+    let mut output = vec![0; LONG_DISC];
     second::retrieve(disc, name, &mut output).unwrap_or(30) as usize
 }
 
@@ -118,10 +118,10 @@ pub fn data(disc: &[u8], random: &mut Random) -> Vec<u8> {
     let free = second::free_space(disc).unwrap_or(100) as usize;
     let limit = random.between(10, 90);
     let length = match random.below(10) {
-        0 => *random.pick(&[0, 862, 863, 864, 865, 1000, 1024, 65_535, 65_536, 65_537]),
+        0 => *random.pick(&[0, 862, 863, 864, 865, 1024, 3934, 3935, 3936, 3937, 4096, 65_535, 65_536, 65_537]),
         1 => free,
         2 => free + 1,
-        3 => random.between(0, 863),
+        3 => random.between(0, disc.len()),
         4 => random.between(1, 10),
         _ => return program(Reach::Everything, limit, random),
     };

@@ -1,6 +1,6 @@
 //! A call of one operation, the buffers it works on, and the kernels that answer it.
 
-use second::layout::{AREA_LEN, DISC_LEN};
+use second::layout::AREA_LEN;
 use second::number;
 use std::fmt;
 
@@ -12,8 +12,8 @@ pub struct State {
 }
 
 impl State {
-    pub fn zero() -> State {
-        State { disc: vec![0; DISC_LEN], area: vec![0; AREA_LEN] }
+    pub fn zero(disc_len: usize) -> State {
+        State { disc: vec![0; disc_len], area: vec![0; AREA_LEN] }
     }
 }
 

@@ -2,6 +2,7 @@
 
 use crate::call::{literal, Call, State};
 use crate::comparison::{Answered, Compared, Comparison};
+use second::layout::{LONG_DISC, SHORT_DISC};
 
 /// What the output holds before a call unless a case says otherwise.
 const OUTPUT_BYTE: u8 = 0xEE;
@@ -22,9 +23,10 @@ enum Buffer {
     Output,
 }
 
-/// A named case.
+/// A named case, tried on a disc of each of these lengths.
 pub struct Case {
     pub name: String,
+    discs: Vec<usize>,
     lines: Vec<(usize, Line)>,
 }
 
@@ -36,20 +38,31 @@ pub fn parse(text: &str) -> Result<Vec<Case>, String> {
             continue;
         }
         if let Some(name) = line.strip_prefix("case ") {
-            cases.push(Case { name: name.to_string(), lines: Vec::new() });
+            cases.push(Case { name: name.to_string(), discs: vec![SHORT_DISC, LONG_DISC], lines: Vec::new() });
             continue;
         }
-        let parsed = parse_line(line).ok_or_else(|| format!("line {number} is not understood: {line}"))?;
         let case = cases.last_mut().ok_or_else(|| format!("line {number} stands before any case"))?;
-        case.lines.push((number, parsed));
+        let wrong = || format!("line {number} is not understood: {line}");
+        match line.strip_prefix("discs ") {
+            Some(lengths) if case.lines.is_empty() => case.discs = numbers(lengths).ok_or_else(wrong)?,
+            _ => case.lines.push((number, parse_line(line).ok_or_else(wrong)?)),
+        }
     }
     Ok(cases)
+}
+
+fn numbers(text: &str) -> Option<Vec<usize>> {
+    text.split(' ').map(|number| number.parse().ok()).collect()
 }
 
 /// Makes the calls of a case on both kernels and compares the answers with those written down.
 pub fn compare_case(comparison: &mut Comparison, case: &Case, index: u64) -> Compared<()> {
     comparison.begin("cases", index);
-    let mut state = State::zero();
+    case.discs.iter().try_for_each(|&length| compare_on(comparison, case, length))
+}
+
+fn compare_on(comparison: &mut Comparison, case: &Case, disc_len: usize) -> Compared<()> {
+    let mut state = State::zero(disc_len);
     let mut output = None;
     let mut answered = Answered { number: 0, output: Vec::new() };
     for (number, line) in &case.lines {
@@ -63,7 +76,13 @@ pub fn compare_case(comparison: &mut Comparison, case: &Case, index: u64) -> Com
                 let lent = output.take().unwrap_or_else(|| vec![OUTPUT_BYTE; call.room()]);
                 answered = comparison.call_with_output(&mut state, call, lent)?;
                 if answered.number != *expected {
-                    return Err(wrong(comparison, case, *number, format!("{call} answers {}", answered.number)));
+                    return Err(wrong(
+                        comparison,
+                        case,
+                        disc_len,
+                        *number,
+                        format!("{call} answers {}", answered.number),
+                    ));
                 }
             }
             Line::Expect { buffer, at, bytes } => {
@@ -74,7 +93,7 @@ pub fn compare_case(comparison: &mut Comparison, case: &Case, index: u64) -> Com
                 };
                 let found = found.get(*at..at + bytes.len()).unwrap_or(&[]);
                 if found != bytes {
-                    return Err(wrong(comparison, case, *number, format!("found {}", literal(found))));
+                    return Err(wrong(comparison, case, disc_len, *number, format!("found {}", literal(found))));
                 }
             }
         }
@@ -83,8 +102,17 @@ pub fn compare_case(comparison: &mut Comparison, case: &Case, index: u64) -> Com
     Ok(())
 }
 
-fn wrong(comparison: &Comparison, case: &Case, line: usize, what: String) -> Box<crate::comparison::Difference> {
-    comparison.broken(format!("# case {}, line {line}: both kernels differ from the case: {what}", case.name))
+fn wrong(
+    comparison: &Comparison,
+    case: &Case,
+    disc_len: usize,
+    line: usize,
+    what: String,
+) -> Box<crate::comparison::Difference> {
+    comparison.broken(format!(
+        "# case {} on a disc of {disc_len}, line {line}: both kernels differ from the case: {what}",
+        case.name
+    ))
 }
 
 fn buffer_of(state: &mut State, disc: bool) -> &mut Vec<u8> {

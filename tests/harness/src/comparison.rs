@@ -3,6 +3,7 @@
 use crate::call::{literal, Call, Kernel, Second, State};
 use crate::coverage::Coverage;
 use crate::random::Random;
+use second::layout::AREA_LEN;
 use std::fmt;
 
 /// Bytes on either side of each lent buffer that must survive.
@@ -187,8 +188,12 @@ fn first_differences(first: &Outcome, second: &Outcome) -> String {
 /// The call as a case of a case file, with what the second implementation answers.
 fn as_case(before: &State, call: &Call, output: &[u8], second: &Outcome) -> String {
     let mut text = String::from("case differing\n");
-    text += &settings("disc", &before.disc, State::zero().disc.len());
-    text += &settings("area", &before.area, State::zero().area.len());
+    text += &format!("discs {}\n", before.disc.len());
+    if before.area.len() != AREA_LEN {
+        text += &format!("length area {}\n", before.area.len());
+    }
+    text += &settings("disc", &before.disc);
+    text += &settings("area", &before.area);
     text += &format!("output {}\n", literal(output));
     text += &format!("call {call} = {}\n", second.number);
     text += &expectations("disc", &before.disc, &second.state.disc);
@@ -198,11 +203,8 @@ fn as_case(before: &State, call: &Call, output: &[u8], second: &Outcome) -> Stri
 }
 
 /// Lines that make a buffer out of zeros.
-fn settings(name: &str, bytes: &[u8], usual: usize) -> String {
+fn settings(name: &str, bytes: &[u8]) -> String {
     let mut text = String::new();
-    if bytes.len() != usual {
-        text += &format!("length {name} {}\n", bytes.len());
-    }
     for (row, chunk) in bytes.chunks(64).enumerate().filter(|(_, chunk)| chunk.iter().any(|&byte| byte != 0)) {
         text += &format!("set {name} {} {}\n", row * 64, literal(chunk));
     }

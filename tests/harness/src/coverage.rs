@@ -1,7 +1,9 @@
 //! What the calls reached. A hole in these tables is a failure of the harness.
 
-use crate::call::{Call, State, OPERATIONS};
+use crate::call::{Call, State};
 use crate::comparison::Outcome;
+use crate::long_discs;
+use crate::tables::Tables;
 use second::instruction::{DELAYUNTIL, FORK, OPEN, SET, WAITUNTILDONE};
 use second::layout::*;
 use second::number::{FLOAT_TYPE, NUMBERS, WHOLES};
@@ -10,101 +12,11 @@ use second::{directory, records, runs, variables};
 use std::collections::BTreeMap;
 use std::ops::Range;
 
-/// The refusals that each operation can give, read off document 01.
-pub const REFUSALS: [&[u8]; 14] = [
-    &[1],
-    &[1],
-    &[1, 2, 5, 6, 7, 8, 9],
-    &[1, 2, 4, 10],
-    &[1, 2, 3, 10, 11],
-    &[1, 2, 4],
-    &[1, 2],
-    &[1, 2, 3, 10, 12, 13],
-    &[1, 2, 3, 14, 15],
-    &[1, 2, 3, 14, 15],
-    &[1, 2, 3, 14],
-    &[1, 2, 3, 4],
-    &[1, 2, 3, 4, 16],
-    &[1, 2, 3, 4],
-];
-
-/// Each built instruction and the faults that it can meet, thought out from document 01:
-/// arguments give 2; pops give 5 and 6, a raw byte only 5; longer results and pushes give 4; jumps give 3.
-pub const INSTRUCTIONS: [(u8, &str, &[u8]); 60] = [
-    (1, "CHAR", &[2, 4]),
-    (2, "INT", &[2, 4]),
-    (3, "STRING", &[2, 4]),
-    (4, "FLOAT", &[2, 4]),
-    (5, "SET", &[2, 5, 6, 10]),
-    (6, "GET", &[2, 4, 9]),
-    (7, "INCREMENT", &[5, 6]),
-    (8, "DECREMENT", &[5, 6]),
-    (9, "PLUS", &[5, 6]),
-    (10, "MINUS", &[5, 6]),
-    (11, "TIMES", &[5, 6]),
-    (12, "DIVIDEDBY", &[5, 6, 7]),
-    (13, "MODULUS", &[5, 6, 7]),
-    (14, "UNARYMINUS", &[5, 6]),
-    (15, "EQUALS", &[5, 6]),
-    (16, "NOTEQUALS", &[5, 6]),
-    (17, "LESSTHAN", &[5, 6]),
-    (18, "LESSTHANOREQUALS", &[5, 6]),
-    (19, "GREATERTHAN", &[5, 6]),
-    (20, "GREATERTHANOREQUALS", &[5, 6]),
-    (21, "LOGICALAND", &[5, 6]),
-    (22, "LOGICALOR", &[5, 6]),
-    (23, "LOGICALXOR", &[5, 6]),
-    (24, "LOGICALNOT", &[5, 6]),
-    (25, "BITWISEAND", &[5, 6]),
-    (26, "BITWISEOR", &[5, 6]),
-    (27, "BITWISEXOR", &[5, 6]),
-    (28, "BITWISENOT", &[5, 6]),
-    (29, "TOCHAR", &[5, 6, 8]),
-    (30, "TOINT", &[4, 5, 6, 8]),
-    (31, "TOFLOAT", &[4, 5, 6]),
-    (32, "ROUND", &[4, 5, 6, 8]),
-    (33, "FLOOR", &[4, 5, 6, 8]),
-    (34, "CEIL", &[4, 5, 6, 8]),
-    (35, "MIN", &[5, 6]),
-    (36, "MAX", &[5, 6]),
-    (37, "ABS", &[5, 6]),
-    (41, "SQ", &[5, 6]),
-    (42, "SQRT", &[5, 6, 8]),
-    (44, "DELAYUNTIL", &[5, 6]),
-    (45, "MILLIS", &[4]),
-    (51, "PRINT", &[5, 6]),
-    (52, "PRINTLN", &[5, 6]),
-    (53, "OPEN", &[5, 6, 13]),
-    (54, "CLOSE", &[]),
-    (55, "WRITE", &[5, 6, 11, 12]),
-    (56, "READINT", &[4, 11, 12]),
-    (57, "READCHAR", &[4, 11, 12]),
-    (58, "READFLOAT", &[4, 11, 12]),
-    (59, "READSTRING", &[4, 11, 12]),
-    (60, "IF", &[2, 3, 5, 6]),
-    (61, "ELSE", &[2, 3, 5, 6]),
-    (62, "ENDIF", &[5, 6]),
-    (63, "WHILE", &[2, 3, 5, 6, 8]),
-    (64, "ENDWHILE", &[3, 5]),
-    (65, "LOOP", &[]),
-    (66, "ENDLOOP", &[3]),
-    (67, "STOP", &[]),
-    (68, "FORK", &[5, 6]),
-    (69, "WAITUNTILDONE", &[5, 6]),
-];
-
-/// The number of instruction bytes that are no instruction: 256 less the 60 built.
-const BYTES_NOT_BUILT: usize = 196;
-
 /// How often each thing was reached.
 #[derive(Default)]
 pub struct Coverage {
-    /// By operation and number: 0 for done, n for refusal n.
-    answers: BTreeMap<(usize, u8), u64>,
-    /// By what the turn found at PC, none at the code's end, and the fault: 0 for none.
-    turns: BTreeMap<(Option<u8>, u8), u64>,
-    /// DELAYUNTIL and WAITUNTILDONE that stayed.
-    stays: BTreeMap<u8, u64>,
+    /// On discs of at most 1,024 bytes, and on longer ones: what is possible on one is so on the other.
+    tables: [Tables; 2],
     /// Named situations that a part must reach: damages, edges, held processes.
     reached: BTreeMap<String, u64>,
 }
@@ -113,7 +25,8 @@ impl Coverage {
     /// Counts one call that both kernels answered alike.
     pub fn record(&mut self, call: &Call, before: &State, after: &Outcome) {
         let answer = if after.number < 0 { after.number.unsigned_abs() as u8 } else { 0 };
-        *self.answers.entry((call.operation(), answer)).or_default() += 1;
+        self.tables_of(&before.disc).count_answer(call.operation(), answer);
+        long_discs::situations(call, answer, before, after).into_iter().for_each(|name| self.reach(name));
         match (call, answer) {
             (Call::Turn { slot, clock, .. }, 0) => {
                 self.record_turn(records::record(*slot as usize), *clock, before, &after.state)
@@ -123,11 +36,15 @@ impl Coverage {
         }
     }
 
+    fn tables_of(&mut self, disc: &[u8]) -> &mut Tables {
+        &mut self.tables[usize::from(disc.len() > SHORT_DISC)]
+    }
+
     fn record_turn(&mut self, record: usize, clock: u32, before: &State, after: &State) {
         let opcode = opcode_at(before, record);
         let ended = after.area[record + STATE] == ENDED;
         let fault = if ended { after.area[record + FAULT] } else { 0 };
-        *self.turns.entry((opcode, fault)).or_default() += 1;
+        self.tables_of(&before.disc).count_turn(opcode, fault);
         let situation = match opcode {
             Some(DELAYUNTIL) => delay(&before.area, record, clock),
             Some(opcode) => situation(opcode, fault, record, before, after),
@@ -145,14 +62,14 @@ impl Coverage {
         }
         let stays = !ended && word(&after.area, record + PC) == word(&before.area, record + PC);
         if let (true, Some(opcode @ (DELAYUNTIL | WAITUNTILDONE))) = (stays, opcode) {
-            *self.stays.entry(opcode).or_default() += 1;
+            self.tables_of(&before.disc).count_stay(opcode);
         }
     }
 
     /// Counts where the directory's last file went.
     fn record_file(&mut self, by: &str, disc: &[u8]) {
         let ranges: Vec<_> = directory::ranges(disc).collect();
-        self.record_place(by, DATA_START..DISC_LEN, &ranges);
+        self.record_place(by, data_bytes(disc), &ranges);
     }
 
     /// Counts where the table's last variable went.
@@ -191,86 +108,20 @@ impl Coverage {
         self.reached.get(name).copied().unwrap_or(0)
     }
 
-    fn answer(&self, operation: usize, number: u8) -> u64 {
-        self.answers.get(&(operation, number)).copied().unwrap_or(0)
-    }
-
-    fn turn(&self, opcode: Option<u8>, fault: u8) -> u64 {
-        self.turns.get(&(opcode, fault)).copied().unwrap_or(0)
-    }
-
-    /// The two tables; a dot where the document leaves no way to reach a place.
-    pub fn tables(&self) -> String {
-        let mut text = String::from("operation");
-        text = format!("{text:<22}{:>8}", "done");
-        text.extend((1..=16).map(|refusal| format!("{:>7}", -refusal)));
-        for (operation, name) in OPERATIONS.iter().enumerate() {
-            text += &format!("\n{name:<22}{:>8}", self.answer(operation, 0));
-            text.extend(
-                (1..=16).map(|refusal| cell(REFUSALS[operation].contains(&refusal), self.answer(operation, refusal))),
-            );
-        }
-        text += &format!("\n\n{:<22}{:>8}{:>7}", "instruction", "done", "stays");
-        text.extend((1..=13).map(|fault| format!("{fault:>7}")));
-        for (opcode, name, faults) in INSTRUCTIONS {
-            let stays = cell(can_stay(opcode), self.stays.get(&opcode).copied().unwrap_or(0));
-            text += &format!("\n{:<22}{:>8}{stays}", format!("{opcode} {name}"), self.turn(Some(opcode), 0));
-            text.extend((1..=13).map(|fault| cell(faults.contains(&fault), self.turn(Some(opcode), fault))));
-        }
-        text += &format!("\nbytes not built, fault 1: {} of {BYTES_NOT_BUILT}", self.bytes_not_built());
-        text += &format!("\nPC at the code's end, fault 2: {}\n", self.turn(None, 2));
+    /// The tables of both lengths, and the named situations.
+    pub fn text(&self) -> String {
+        let [short, long] = &self.tables;
+        let mut text = format!("discs of 1,024 bytes\n{}\ndiscs of 4,096 bytes\n{}\n", short.text(), long.text());
         text.extend(self.reached.iter().map(|(name, count)| format!("{name}: {count}\n")));
         text
     }
 
-    fn bytes_not_built(&self) -> usize {
-        self.turns.keys().filter(|(opcode, fault)| opcode.is_some() && *fault == 1).count()
-    }
-
-    /// Everything that should have been reached and was not, or was reached and should not.
+    /// What should have been reached on a disc of one length or the other and was not, or was and should not.
     pub fn holes(&self) -> Vec<String> {
-        let mut holes = Vec::new();
-        for (operation, name) in OPERATIONS.iter().enumerate() {
-            let refused = REFUSALS[operation].iter().filter(|&&refusal| self.answer(operation, refusal) == 0);
-            holes.extend(refused.map(|refusal| format!("{name} never refused by {refusal}")));
-            holes.extend((self.answer(operation, 0) == 0).then(|| format!("{name} never done")));
-        }
-        for (opcode, name, faults) in INSTRUCTIONS {
-            let missing = faults.iter().filter(|&&fault| self.turn(Some(opcode), fault) == 0);
-            holes.extend(missing.map(|fault| format!("{name} never met fault {fault}")));
-            holes.extend((self.turn(Some(opcode), 0) == 0).then(|| format!("{name} never done")));
-            let never_stayed = can_stay(opcode) && !self.stays.contains_key(&opcode);
-            holes.extend(never_stayed.then(|| format!("{name} never stayed")));
-        }
-        holes.extend(self.unforeseen());
-        holes.extend((self.bytes_not_built() != BYTES_NOT_BUILT).then(|| "a byte not built was never met".to_string()));
-        holes.extend((self.turn(None, 2) == 0).then(|| "PC never at the code's end".to_string()));
-        holes
-    }
-
-    /// Refusals and faults that the tables above say cannot be met.
-    fn unforeseen(&self) -> Vec<String> {
-        let refusals =
-            self.answers.keys().filter(|(operation, number)| *number > 0 && !REFUSALS[*operation].contains(number));
-        let faults = self.turns.keys().filter(|(opcode, fault)| !foreseen(*opcode, *fault));
-        refusals
-            .map(|(operation, number)| format!("{} refused by {number}", OPERATIONS[*operation]))
-            .chain(faults.map(|(opcode, fault)| format!("instruction {opcode:?} met fault {fault}")))
+        let lengths = ["1,024", "4,096"].iter().zip(&self.tables);
+        lengths
+            .flat_map(|(length, tables)| tables.holes().into_iter().map(move |hole| format!("{length}: {hole}")))
             .collect()
-    }
-}
-
-fn can_stay(opcode: u8) -> bool {
-    matches!(opcode, DELAYUNTIL | WAITUNTILDONE)
-}
-
-fn foreseen(opcode: Option<u8>, fault: u8) -> bool {
-    match (opcode, fault) {
-        (None, fault) => fault == 2,
-        (Some(opcode), fault) => match INSTRUCTIONS.iter().find(|instruction| instruction.0 == opcode) {
-            Some((_, _, faults)) => fault == 0 || faults.contains(&fault),
-            None => fault == 1,
-        },
     }
 }
 
@@ -334,7 +185,7 @@ fn open_refusal(disc: &[u8], area: &[u8], record: usize) -> Option<&'static str>
     let name = stack.pop_text().ok()?;
     Some(match directory::good_name(&name) {
         false => "OPEN, refused by name",
-        true if !(1.0..=DATA_LEN as f32).contains(&size) => "OPEN, refused by size",
+        true if !(1.0..=data_bytes(disc).len() as f32).contains(&size) => "OPEN, refused by size",
         true if directory::count(disc) == MAX_FILES => "OPEN, refused by ten files",
         true => "OPEN, refused by no run",
     })
@@ -353,11 +204,4 @@ pub fn opcode_at(state: &State, record: usize) -> Option<u8> {
     let pc = word(&state.area, record + PC);
     let start = word(&state.area, record + CODE_START);
     (pc < word(&state.area, record + CODE_LENGTH)).then(|| state.disc[start + pc])
-}
-
-fn cell(possible: bool, count: u64) -> String {
-    match (possible, count) {
-        (false, 0) => format!("{:>7}", "."),
-        _ => format!("{count:>7}"),
-    }
 }

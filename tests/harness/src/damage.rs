@@ -4,7 +4,7 @@ use crate::arguments::{call, every_call};
 use crate::call::{Call, State};
 use crate::comparison::{Compared, Comparison};
 use crate::random::Random;
-use crate::states::good_state;
+use crate::states::{disc_len, good_state};
 use second::layout::*;
 use second::{directory, records, variables};
 
@@ -23,9 +23,9 @@ const DISC_DAMAGES: [(&str, Change); 16] = [
     ("two equal names", |s, r| two_files(s, r, |s, at, other| copy(&mut s.disc, other, at, NAME_LEN))),
     ("file length 0", |s, r| file(s, r, |s, at, _| set(&mut s.disc, at + ENTRY_LENGTH, 0))),
     ("file start 160", |s, r| file(s, r, |s, at, _| set(&mut s.disc, at + ENTRY_START, 160))),
-    ("file end 1025", |s, r| file(s, r, |s, at, _| end_at(s, at, DISC_LEN + 1))),
-    ("file end far out", |s, r| file(s, r, |s, at, r| set(&mut s.disc, at + ENTRY_LENGTH, r.between(1024, 65_535)))),
-    ("file start far out", |s, r| file(s, r, |s, at, r| set(&mut s.disc, at + ENTRY_START, r.between(1024, 65_535)))),
+    ("file end one past the disc", |s, r| file(s, r, |s, at, _| end_at(s, at, s.disc.len() + 1))),
+    ("file end far out", |s, r| file(s, r, |s, at, r| set_far(&mut s.disc, at + ENTRY_LENGTH, r))),
+    ("file start far out", |s, r| file(s, r, |s, at, r| set_far(&mut s.disc, at + ENTRY_START, r))),
     ("file end above 65,536", |s, r| {
         file(s, r, |s, at, r| {
             set(&mut s.disc, at + ENTRY_START, 65_536 - r.between(1, 20)) && set(&mut s.disc, at + ENTRY_LENGTH, 200)
@@ -50,7 +50,7 @@ const AREA_DAMAGES: [(&str, Change); 37] = [
     ("SP 33", |s, r| live(s, r, |s, at, _| put(&mut s.area, at + SP, 33))),
     ("SP above 33", |s, r| live(s, r, |s, at, r| put(&mut s.area, at + SP, r.between(34, 255) as u8))),
     ("PC past the code length", |s, r| live(s, r, |s, at, _| past(s, at + PC, at + CODE_LENGTH))),
-    ("PC far out", |s, r| live(s, r, |s, at, r| set(&mut s.area, at + PC, r.between(1024, 65_535)))),
+    ("PC far out", |s, r| live(s, r, |s, at, r| set(&mut s.area, at + PC, r.between(s.disc.len(), 65_535)))),
     ("loop past the code length", |s, r| live(s, r, |s, at, _| past(s, at + LOOP_PC, at + CODE_LENGTH))),
     ("loop FFFE", |s, r| live(s, r, |s, at, _| set(&mut s.area, at + LOOP_PC, 0xFFFE))),
     ("file offset past the length", |s, r| open(s, r, |s, at, _| past(s, at + FILE_OFFSET, at + FILE_LENGTH))),
@@ -199,13 +199,14 @@ const EDGES: [(&str, Change); 17] = [
                 && put_end(s, VARIABLES, 200)
         })
     }),
-    ("file end 1024", |s, _| {
+    ("file end where the disc ends", |s, _| {
         s.disc[..FILE_COUNT].fill(0);
         s.disc[FILE_COUNT] = 1;
         s.disc[..11].fill(b'z');
         records::all().for_each(|at| s.area[at + STATE] = ENDED);
         s.area[VARIABLE_COUNT] = 0;
-        set(&mut s.disc, ENTRY_LENGTH, DATA_LEN) && set(&mut s.disc, ENTRY_START, DATA_START)
+        let data = data_bytes(&s.disc);
+        set(&mut s.disc, ENTRY_LENGTH, data.len()) && set(&mut s.disc, ENTRY_START, data.start)
     }),
 ];
 
@@ -215,7 +216,7 @@ pub fn compare_damages(comparison: &mut Comparison, repeats: u64) -> Compared<()
     for (index, (&(name, change), refusal)) in damages.enumerate() {
         for repeat in 0..repeats {
             let mut random = comparison.begin("damage", index as u64 * repeats + repeat);
-            let state = changed(change, &mut random);
+            let state = changed(change, disc_len(repeat), &mut random);
             compare_damaged(comparison, name, &state, refusal, &mut random)?;
         }
     }
@@ -227,7 +228,7 @@ pub fn compare_edges(comparison: &mut Comparison, repeats: u64) -> Compared<()> 
     for (index, &(name, change)) in EDGES.iter().enumerate() {
         for repeat in 0..repeats {
             let mut random = comparison.begin("edges", index as u64 * repeats + repeat);
-            let state = changed(change, &mut random);
+            let state = changed(change, disc_len(repeat), &mut random);
             compare_edge(comparison, name, &state, &mut random)?;
         }
     }
@@ -235,9 +236,9 @@ pub fn compare_edges(comparison: &mut Comparison, repeats: u64) -> Compared<()> 
 }
 
 /// A good state on which the change has a place.
-fn changed(change: Change, random: &mut Random) -> State {
+fn changed(change: Change, disc_len: usize, random: &mut Random) -> State {
     loop {
-        let mut state = good_state(random);
+        let mut state = good_state(disc_len, random);
         if change(&mut state, random) {
             return state;
         }
@@ -284,7 +285,7 @@ fn compare_edge(comparison: &mut Comparison, name: &str, state: &State, random: 
 pub fn compare_flips(comparison: &mut Comparison, units: u64) -> Compared<()> {
     for unit in 0..units {
         let mut random = comparison.begin("flips", unit);
-        let good = good_state(&mut random);
+        let good = good_state(disc_len(unit), &mut random);
         for _ in 0..6 {
             let mut state = good.clone();
             let buffer = if random.chance(1, 4) { &mut state.disc[..=FILE_COUNT] } else { &mut state.area };
@@ -299,11 +300,15 @@ pub fn compare_flips(comparison: &mut Comparison, units: u64) -> Compared<()> {
     Ok(())
 }
 
+/// Lengths that no disc has.
+const WRONG_DISCS: [usize; 15] =
+    [0, 1, 16, 160, 161, 1023, 1025, 1056, 2048, 3072, 4095, 4097, 5120, 8192, 65_536 + SHORT_DISC];
+
 /// Buffers of the wrong length, one or both, good or damaged inside.
 pub fn compare_lengths(comparison: &mut Comparison, units: u64) -> Compared<()> {
     for unit in 0..units {
         let mut random = comparison.begin("lengths", unit);
-        let state = good_state(&mut random);
+        let state = good_state(disc_len(unit), &mut random);
         for call in every_call(&state, &mut random) {
             let mut wrong = state.clone();
             let which = random.between(1, 3);
@@ -311,7 +316,7 @@ pub fn compare_lengths(comparison: &mut Comparison, units: u64) -> Compared<()> 
                 wrong.disc[FILE_COUNT] = 11;
             }
             if which & 1 != 0 {
-                wrong.disc.resize(*random.pick(&[0, 1, 16, 160, 161, 1023, 1025, 1056, 2048]), 0);
+                wrong.disc.resize(*random.pick(&WRONG_DISCS), 0);
             }
             if which & 2 != 0 {
                 wrong.area.resize(*random.pick(&[0, 1, 256, 416, 1024, 1055, 1057, 2112]), 0);
@@ -335,6 +340,12 @@ fn fill(buffer: &mut [u8], byte: u8) -> bool {
 fn set(buffer: &mut [u8], at: usize, value: usize) -> bool {
     set_word(buffer, at, value);
     true
+}
+
+/// A place or length that is outside wherever the file lies.
+fn set_far(disc: &mut [u8], at: usize, random: &mut Random) -> bool {
+    let far = random.between(disc.len(), 65_535);
+    set(disc, at, far)
 }
 
 fn flip(buffer: &mut [u8], at: usize) -> bool {

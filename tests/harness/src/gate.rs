@@ -5,7 +5,7 @@ use crate::call::Kernel;
 use crate::cases::{compare_case, Case};
 use crate::comparison::{Compared, Comparison};
 use crate::damage::{compare_damages, compare_edges, compare_flips, compare_lengths};
-use crate::instructions::{compare_numbers, compare_stacks, compare_taken};
+use crate::instructions::{compare_numbers, compare_sizes, compare_stacks, compare_taken};
 use crate::sequences::{compare_sequence, compare_state};
 use std::time::{Duration, Instant};
 
@@ -21,21 +21,39 @@ pub struct Plan {
     pub trace: bool,
 }
 
-/// How much of each part one pass does.
-const DAMAGE_REPEATS: u64 = 6;
-const FLIP_UNITS: u64 = 1500;
-const LENGTH_UNITS: u64 = 150;
-const STACK_UNITS: u64 = 2;
-const TAKEN_UNITS: u64 = 250;
-const NUMBER_UNITS: u64 = 2;
+/// How much of each part one pass does; units take short and long discs by turns.
+const DAMAGE_REPEATS: u64 = 12;
+const FLIP_UNITS: u64 = 3000;
+const LENGTH_UNITS: u64 = 300;
+const STACK_UNITS: u64 = 4;
+const TAKEN_UNITS: u64 = 500;
+const SIZE_UNITS: u64 = 200;
+const NUMBER_UNITS: u64 = 4;
 const NUMBER_PAIRS: usize = 400;
-const SEQUENCES: u64 = 150;
+const SEQUENCES: u64 = 300;
 const SEQUENCE_LENGTH: usize = 400;
-const STATES: u64 = 1300;
-const PAIRS: u64 = 500;
+const STATES: u64 = 2600;
+const PAIRS: u64 = 1000;
 
 /// What must have been reached, at least, in one pass, beside the tables.
-const NEEDED: [(&str, u64); 38] = [
+const NEEDED: [(&str, u64); 55] = [
+    ("format, bytes behind 1023 that were not 0", 1),
+    ("store, more than 863 bytes", 1),
+    ("store, 3,935 bytes", 1),
+    ("store, a file that begins behind 1023", 1),
+    ("store, refused by 6 what a long disc takes", 1),
+    ("store, 3,936 bytes refused by 6 on a long disc", 1),
+    ("retrieve, more than 863 bytes", 1),
+    ("files, a length of four digits", 1),
+    ("free space above 863", 1),
+    ("free space 3,935", 1),
+    ("turn, PC above 863", 1),
+    ("turn, a program that begins behind 1023", 1),
+    ("LOOP above 863", 1),
+    ("ENDLOOP to above 863", 1),
+    ("OPEN, a new file of more than 863 bytes", 1),
+    ("WRITE behind 1023", 1),
+    ("file offset above 863", 1),
     ("store, a lower run fits that is longer", 1),
     ("store, two of the shortest runs", 1),
     ("store, the shortest run is longer than needed", 1),
@@ -78,12 +96,13 @@ const NEEDED: [(&str, u64); 38] = [
 
 /// The parts by name, in order.
 type Part = fn(&mut Comparison, &Plan) -> Compared<()>;
-const PARTS: [(&str, Part); 11] = [
+const PARTS: [(&str, Part); 12] = [
     ("cases", |comparison, plan| {
         (0..).zip(&plan.cases).try_for_each(|(index, case)| compare_case(comparison, case, index))
     }),
     ("stacks", |comparison, _| (0..STACK_UNITS).try_for_each(|unit| compare_stacks(comparison, unit))),
     ("taken", |comparison, _| (0..TAKEN_UNITS).try_for_each(|unit| compare_taken(comparison, unit))),
+    ("sizes", |comparison, _| (0..SIZE_UNITS).try_for_each(|unit| compare_sizes(comparison, unit))),
     ("numbers", |comparison, _| (0..NUMBER_UNITS).try_for_each(|unit| compare_numbers(comparison, unit, NUMBER_PAIRS))),
     ("states", |comparison, _| (0..STATES).try_for_each(|unit| compare_state(comparison, unit))),
     ("damage", |comparison, _| compare_damages(comparison, DAMAGE_REPEATS)),
@@ -130,7 +149,7 @@ pub fn run(first: &dyn Kernel, plan: &Plan) -> bool {
 
 /// Prints the tables, the holes and the verdict of a run without a difference.
 fn conclude(comparison: &Comparison, plan: &Plan, spent: Duration) -> bool {
-    println!("{}", comparison.coverage.tables());
+    println!("{}", comparison.coverage.text());
     let holes = if plan.part.is_none() { holes(comparison) } else { Vec::new() };
     holes.iter().for_each(|hole| println!("hole: {hole}"));
     println!("{:.1} s, {} holes", spent.as_secs_f64(), holes.len());

@@ -4,7 +4,7 @@ use crate::arguments::clock;
 use crate::call::{Call, State};
 use crate::comparison::{Compared, Comparison};
 use crate::random::Random;
-use crate::states::{context_of, running_state};
+use crate::states::{context_of, disc_len, running_state};
 use crate::values::{bytes_of, float_bits, Context, Kind, FLOAT_EDGES, KINDS};
 use second::instruction::*;
 use second::layout::*;
@@ -26,7 +26,7 @@ pub fn compare_stacks(comparison: &mut Comparison, unit: u64) -> Compared<()> {
         let seconds: &[Kind] = if is_built(opcode) { &KINDS } else { &[Kind::Char] };
         let tops: &[Kind] = if is_built(opcode) { &KINDS } else { &[Kind::Int] };
         for &second in seconds {
-            let (mut state, record) = running_state(&mut random);
+            let (mut state, record) = running_state(disc_len(unit), &mut random);
             for &top in tops {
                 for height in [Height::Bottom, Height::Top, Height::Anywhere] {
                     let clock = clock(&mut random);
@@ -47,7 +47,7 @@ pub fn compare_stacks(comparison: &mut Comparison, unit: u64) -> Compared<()> {
 pub fn compare_taken(comparison: &mut Comparison, unit: u64) -> Compared<()> {
     let mut random = comparison.begin("taken", unit);
     for opcode in (0..=255).filter(|&opcode| is_built(opcode)) {
-        let (mut state, record) = running_state(&mut random);
+        let (mut state, record) = running_state(disc_len(unit), &mut random);
         let clock = clock(&mut random);
         let context = context_of(&state, clock);
         let kinds = taken_kinds(opcode, &mut random);
@@ -56,6 +56,24 @@ pub fn compare_taken(comparison: &mut Comparison, unit: u64) -> Compared<()> {
         set_code(&mut state, record, opcode, &mut random);
         set_stack(&mut state, record, &values.concat(), height, &mut random);
         compare_turn(comparison, &state, record, clock)?;
+    }
+    Ok(())
+}
+
+/// OPEN of a file that is not there, of sizes at every edge: the longest free run, the data bytes of either disc.
+pub fn compare_sizes(comparison: &mut Comparison, unit: u64) -> Compared<()> {
+    let mut random = comparison.begin("sizes", unit);
+    let (mut state, record) = running_state(disc_len(unit), &mut random);
+    let free = second::free_space(&state.disc).unwrap_or(0) as u16;
+    for size in [0, 1, free, free + 1, 863, 864, 3935, 3936] {
+        let fraction = random.below(8) as f32 / 8.0;
+        let whole = [&size.to_be_bytes()[..], &[2]].concat();
+        for size in [whole, float((f32::from(size) + fraction).to_bits())] {
+            set_code(&mut state, record, OPEN, &mut random);
+            let values = [b"new\0\x04\x03", &size[..]].concat();
+            set_stack(&mut state, record, &values, Height::Anywhere, &mut random);
+            compare_turn(comparison, &state, record, clock(&mut random))?;
+        }
     }
     Ok(())
 }
@@ -74,7 +92,7 @@ fn taken_kinds(opcode: u8, random: &mut Random) -> Vec<Kind> {
 /// Operators on binary32 edges: every one alone, and random pairs, FLOAT with whole numbers too.
 pub fn compare_numbers(comparison: &mut Comparison, unit: u64, pairs: usize) -> Compared<()> {
     let mut random = comparison.begin("numbers", unit);
-    let (mut state, record) = running_state(&mut random);
+    let (mut state, record) = running_state(disc_len(unit), &mut random);
     for opcode in (0..=255).filter(|&opcode| is_built(opcode)) {
         match operator(opcode) {
             Some(Operator::Binary(..)) => {

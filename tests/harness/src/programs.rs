@@ -50,6 +50,29 @@ pub fn program(reach: Reach, limit: usize, random: &mut Random) -> Vec<u8> {
     writer.code
 }
 
+/// Programs one after another, to just this length.
+pub fn filling(reach: Reach, length: usize, random: &mut Random) -> Vec<u8> {
+    let mut code = Vec::new();
+    while code.len() < length {
+        code.extend(program(reach, length, random));
+    }
+    code.truncate(length);
+    code
+}
+
+/// A program of about that length that runs on through all of it: no STOP before its end.
+pub fn long_program(reach: Reach, length: usize, random: &mut Random) -> Vec<u8> {
+    let mut writer = Writer { code: Vec::new(), set: Vec::new(), reach, random };
+    while writer.code.len() < length {
+        if writer.random.chance(1, 8) {
+            writer.code.push(LOOP);
+        }
+        writer.print_number();
+    }
+    writer.code.push(ENDLOOP);
+    writer.code
+}
+
 /// Program text so far, and the variables that it has surely set.
 struct Writer<'a> {
     code: Vec<u8>,
@@ -223,10 +246,20 @@ impl Writer<'_> {
     fn file_work(&mut self) {
         for _ in 0..2 {
             self.name();
-            self.code.extend([CHAR, self.random.between(1, 60) as u8, OPEN]);
+            self.size();
+            self.code.push(OPEN);
             self.any_file_instruction();
             self.any_file_instruction();
         }
+    }
+
+    /// The size of a new file: mostly a small one, sometimes one that only a long disc takes.
+    fn size(&mut self) {
+        if self.random.chance(7, 8) {
+            return self.code.extend([CHAR, self.random.between(1, 60) as u8]);
+        }
+        self.code.push(INT);
+        self.code.extend((self.random.between(61, 4000) as u16).to_be_bytes());
     }
 
     fn any_file_instruction(&mut self) {

@@ -3,9 +3,9 @@
 use crate::arguments;
 use crate::call::{Call, State};
 use crate::comparison::{Compared, Comparison};
-use crate::programs::{program, Reach, DOWN, NAMES};
+use crate::programs::{long_program, program, Reach, DOWN, NAMES};
 use crate::random::Random;
-use crate::states::good_state;
+use crate::states::{disc_len, good_state};
 use crate::tracking::Tracking;
 use second::layout::*;
 use second::records;
@@ -13,7 +13,7 @@ use second::records;
 /// A sequence from *format* on; every process it starts is held against the single process.
 pub fn compare_sequence(comparison: &mut Comparison, unit: u64, length: usize) -> Compared<()> {
     let mut random = comparison.begin("sequences", unit);
-    let mut state = State { disc: random.bytes(DISC_LEN), area: random.bytes(AREA_LEN) };
+    let mut state = State { disc: random.bytes(disc_len(unit)), area: random.bytes(AREA_LEN) };
     let mut tracking = Tracking::default();
     tracking.call(comparison, &mut state, &Call::Format)?;
     if random.chance(1, 6) {
@@ -29,7 +29,7 @@ pub fn compare_sequence(comparison: &mut Comparison, unit: u64, length: usize) -
 /// A call that keeps a sequence going: programs stored, run and given turns; every other call now and then.
 pub fn step(state: &State, random: &mut Random) -> Call {
     match random.below(40) {
-        0..=2 => Call::Store { name: file_name(random), data: file_data(random) },
+        0..=2 => Call::Store { name: file_name(random), data: file_data(&state.disc, random) },
         3..=5 => Call::Run { name: arguments::name(&state.disc, random) },
         6..=7 => Call::Round { clock: arguments::time(random), room: ROUND_OUTPUT },
         8..=28 => Call::Turn { slot: running_slot(state, random), clock: arguments::time(random), room: TURN_OUTPUT },
@@ -46,9 +46,11 @@ fn file_name(random: &mut Random) -> Vec<u8> {
     random.pick(&NAMES).as_bytes().to_vec()
 }
 
-fn file_data(random: &mut Random) -> Vec<u8> {
+/// Programs that leave room for others; now and then one so long that PC, loop and jumps go far.
+fn file_data(disc: &[u8], random: &mut Random) -> Vec<u8> {
     let length = random.between(20, 100);
-    match random.below(8) {
+    match random.below(9) {
+        8 => long_program(Reach::Alone, disc.len() / 3, random),
         0 => DOWN.to_vec(),
         1 => random.bytes(length),
         2..=4 => program(Reach::Alone, length, random),
@@ -73,7 +75,7 @@ fn is_running(state: &State, slot: usize) -> bool {
 /// A random good state: calls looked at one by one, then a short sequence from that state on.
 pub fn compare_state(comparison: &mut Comparison, unit: u64) -> Compared<()> {
     let mut random = comparison.begin("states", unit);
-    let mut state = good_state(&mut random);
+    let mut state = good_state(disc_len(unit), &mut random);
     for _ in 0..20 {
         let call = arguments::call(&state, &mut random);
         comparison.try_call(&state, &call)?;

@@ -1,24 +1,29 @@
 //! Random good states: full tables, ten processes, fragmented discs and memory, garbage in every unread place.
 
 use crate::call::State;
-use crate::programs::{program, Reach, NAMES};
+use crate::programs::{filling, Reach, NAMES};
 use crate::random::Random;
 use crate::values::{self, Context};
 use second::layout::*;
 use second::{area, directory, records};
 
+/// The disc's length in a unit: units take short and long discs by turns.
+pub fn disc_len(unit: u64) -> usize {
+    [SHORT_DISC, LONG_DISC][(unit % 2) as usize]
+}
+
 /// A good state. Its goodness is tested, so that a fault of this generator is noticed.
-pub fn good_state(random: &mut Random) -> State {
-    let disc = good_disc(random);
+pub fn good_state(disc_len: usize, random: &mut Random) -> State {
+    let disc = good_disc(disc_len, random);
     let area = good_area(&disc, random);
     assert!(directory::good(&disc) && area::good(&disc, &area), "the generated state is not good");
     State { disc, area }
 }
 
 /// A good state with at least one running process; returns its record too.
-pub fn running_state(random: &mut Random) -> (State, usize) {
+pub fn running_state(disc_len: usize, random: &mut Random) -> (State, usize) {
     loop {
-        let mut state = good_state(random);
+        let mut state = good_state(disc_len, random);
         let live: Vec<usize> = records::live(&state.area).collect();
         if !live.is_empty() {
             let record = *random.pick(&live);
@@ -74,12 +79,13 @@ fn scattered(bottom: usize, top: usize, lengths: &[usize], random: &mut Random) 
     runs
 }
 
-fn good_disc(random: &mut Random) -> Vec<u8> {
-    let mut disc = unread(DISC_LEN, random);
+fn good_disc(length: usize, random: &mut Random) -> Vec<u8> {
+    let mut disc = unread(length, random);
     let count = mostly_full(MAX_FILES, random);
-    let longest = *random.pick(&[8, 60, 86, 150, 400]);
+    let data = data_bytes(&disc);
+    let longest = *random.pick(&[8, 60, data.len() / 10, data.len() / 6, data.len() / 2, data.len()]);
     let lengths: Vec<usize> = (0..count).map(|_| random.between(1, longest)).collect();
-    let runs = scattered(DATA_START, DISC_LEN, &lengths, random);
+    let runs = scattered(data.start, data.end, &lengths, random);
     let names = distinct_names(runs.len(), random);
     disc[FILE_COUNT] = runs.len() as u8;
     for (index, (&(start, length), name)) in runs.iter().zip(&names).enumerate() {
@@ -88,9 +94,7 @@ fn good_disc(random: &mut Random) -> Vec<u8> {
         disc[at..at + name.len()].copy_from_slice(name);
         set_word(&mut disc, at + ENTRY_START, start);
         set_word(&mut disc, at + ENTRY_LENGTH, length);
-        let code = program(Reach::Everything, length, random);
-        let kept = code.len().min(length);
-        disc[start..start + kept].copy_from_slice(&code[..kept]);
+        disc[start..start + length].copy_from_slice(&filling(Reach::Everything, length, random));
     }
     disc
 }
@@ -159,6 +163,8 @@ pub fn context(disc: &[u8], ids: &[usize], clock: u32) -> Context {
     let clock = i32::from(clock as i16);
     let mut numbers: Vec<i32> = ids.iter().map(|&id| id as i32).collect();
     numbers.extend([-1, 0, 1, 32_767, 32_768].map(|ahead| clock + ahead));
+    let free = second::free_space(disc).unwrap_or(0) as i32;
+    numbers.extend([free, free + 1]);
     let names = (0..directory::count(disc)).map(|index| directory::trimmed(directory::name(disc, index)).to_vec());
     let mut texts: Vec<Vec<u8>> = names.collect();
     texts.extend([b"new".to_vec(), b"bad name".to_vec()]);

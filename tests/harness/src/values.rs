@@ -4,7 +4,7 @@ use crate::random::Random;
 use second::number::{CHAR_TYPE, FLOAT_TYPE, INT_TYPE, STRING_TYPE};
 
 /// binary32 patterns at the edges of document 01's rules.
-pub const FLOAT_EDGES: [u32; 72] = [
+pub const FLOAT_EDGES: [u32; 75] = [
     0x0000_0000, // 0
     0x8000_0000, // −0
     0x0000_0001, // least subnormal
@@ -52,6 +52,9 @@ pub const FLOAT_EDGES: [u32; 72] = [
     0x4457_C000, // 863
     0x4457_FFFF, // below 864
     0x4458_0000, // 864
+    0x4575_F000, // 3935
+    0x4575_FFFF, // below 3936
+    0x4576_0000, // 3936
     0x46FF_FE00, // 32767
     0x46FF_FEFF,
     0x46FF_FF00, // 32767.5
@@ -174,13 +177,16 @@ fn char_value(context: &Context, random: &mut Random) -> i8 {
     }
 }
 
+const INT_EDGES: [i16; 21] =
+    [0, 1, -1, 2, -2, 7, -7, 100, 127, 128, -128, -129, 255, 256, 863, 864, 3935, 3936, 32767, -32767, -32768];
+
 fn int_value(context: &Context, random: &mut Random) -> i16 {
-    match random.below(5) {
+    match random.below(6) {
         4 => 0,
         0 if !context.numbers.is_empty() => *random.pick(&context.numbers) as i16,
-        1 => *random
-            .pick(&[0, 1, -1, 2, -2, 7, -7, 100, 127, 128, -128, -129, 255, 256, 863, 864, 32767, -32767, -32768]),
+        1 => *random.pick(&INT_EDGES),
         2 => random.between(0, 1000) as i16 - 20,
+        5 => random.between(1000, 4000) as i16,
         _ => random.word() as i16,
     }
 }

@@ -10,13 +10,13 @@ use std::ops::Range;
 
 /// Refusals 1 and 2 of an operation that has the disc only.
 pub fn need_disc(disc: &[u8]) -> Result<(), Refusal> {
-    need(disc.len() == DISC_LEN, Refusal::WrongLength)?;
+    need(is_disc_len(disc.len()), Refusal::WrongLength)?;
     need(directory::good(disc), Refusal::BadDisc)
 }
 
 /// Refusals 1, 2 and 3 of an operation that has both buffers; both lengths come before 2.
 pub fn need_buffers(disc: &[u8], area: &[u8]) -> Result<(), Refusal> {
-    need(disc.len() == DISC_LEN && area.len() == AREA_LEN, Refusal::WrongLength)?;
+    need(is_disc_len(disc.len()) && area.len() == AREA_LEN, Refusal::WrongLength)?;
     need(directory::good(disc), Refusal::BadDisc)?;
     need(good(disc, area), Refusal::BadArea)
 }

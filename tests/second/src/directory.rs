@@ -58,7 +58,7 @@ pub fn good(disc: &[u8]) -> bool {
 /// Name, length and place of one entry.
 fn good_entry(disc: &[u8], index: usize) -> bool {
     let range = range(disc, index);
-    good_name_field(name(disc, index)) && !range.is_empty() && range.start >= DATA_START && range.end <= DISC_LEN
+    good_name_field(name(disc, index)) && !range.is_empty() && range.start >= DATA_START && range.end <= disc.len()
 }
 
 /// Whether the name and the bytes of an entry differ from those of the entries before it.
@@ -75,7 +75,7 @@ pub fn find(disc: &[u8], wanted: &[u8]) -> Option<usize> {
 
 /// Document 02, Q-10: "A new file or variable now goes at the start of the shortest free run that fits".
 pub fn place(disc: &[u8], length: usize) -> Option<usize> {
-    runs::place(DATA_START..DISC_LEN, ranges(disc), length)
+    runs::place(data_bytes(disc), ranges(disc), length)
 }
 
 /// Adds an entry for a new name; *store*'s 8 and 9. Returns the file's start.

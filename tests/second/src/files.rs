@@ -7,11 +7,12 @@ use crate::layout::*;
 use crate::records;
 use crate::runs;
 
-/// "5 bad name, 6 data length 0 or above 863, 8 ten files already, 7 name exists, 9 no free run long enough."
+/// "5 bad name, 6 data length 0 or above 863, 8 ten files already, 7 name exists, 9 no free run long enough." Document
+/// 02, Q-2: "*store* takes up to 863 or 3,935".
 pub fn store(disc: &mut [u8], name: &[u8], data: &[u8]) -> Answer {
     need_disc(disc)?;
     need(directory::good_name(name), Refusal::BadName)?;
-    need((1..=DATA_LEN).contains(&data.len()), Refusal::BadDataLength)?;
+    need((1..=data_bytes(disc).len()).contains(&data.len()), Refusal::BadDataLength)?;
     need(directory::count(disc) < MAX_FILES, Refusal::TenFiles)?;
     need(directory::find(disc, name).is_none(), Refusal::NameExists)?;
     let start = directory::add(disc, name, data.len())?;
@@ -58,5 +59,5 @@ pub fn files(disc: &[u8], output: &mut [u8]) -> Answer {
 /// "the longest free run, however many files there are."
 pub fn free_space(disc: &[u8]) -> Answer {
     need_disc(disc)?;
-    Ok(runs::longest_run(DATA_START..DISC_LEN, directory::ranges(disc)) as u32)
+    Ok(runs::longest_run(data_bytes(disc), directory::ranges(disc)) as u32)
 }

@@ -1,17 +1,21 @@
 //! Where each field of the two buffers lies. Document 01, "The two buffers".
 
-/// "Disc, 1,024 bytes. Ten directory entries of 16 bytes from 0: name 12, start 2, length 2."
-pub const DISC_LEN: usize = 1024;
+use std::ops::Range;
+
+/// "Disc, 1,024 bytes." Document 02, Q-2: "The jib board has 4,096 bytes. Either length is now a disc".
+pub const SHORT_DISC: usize = 1024;
+pub const LONG_DISC: usize = 4096;
+
+/// "Ten directory entries of 16 bytes from 0: name 12, start 2, length 2."; Q-2: "layout and ten files stay".
 pub const MAX_FILES: usize = 10;
 pub const ENTRY_LEN: usize = 16;
 pub const NAME_LEN: usize = 12;
 pub const ENTRY_START: usize = 12;
 pub const ENTRY_LENGTH: usize = 14;
 
-/// "Byte 160 is the file count, at most 10. Data lie at 161 to 1023, 863 bytes."
+/// "Byte 160 is the file count, at most 10. Data lie at 161 to 1023"; Q-2: "data ending at 1023 or 4095".
 pub const FILE_COUNT: usize = 160;
 pub const DATA_START: usize = 161;
-pub const DATA_LEN: usize = DISC_LEN - DATA_START;
 
 /// "Work area, 1,056 bytes. 0: variable memory, 256."
 pub const AREA_LEN: usize = 1056;
@@ -65,6 +69,16 @@ pub const NO_LOOP: usize = 0xFFFF;
 /// "at least 32 output bytes"; a round "needs 320 bytes".
 pub const TURN_OUTPUT: usize = 32;
 pub const ROUND_OUTPUT: usize = 320;
+
+/// Whether a disc may have this length.
+pub fn is_disc_len(length: usize) -> bool {
+    length == SHORT_DISC || length == LONG_DISC
+}
+
+/// The data bytes of a disc, 863 or 3,935.
+pub fn data_bytes(disc: &[u8]) -> Range<usize> {
+    DATA_START..disc.len()
+}
 
 /// "Two-byte fields of both buffers are low byte first."
 pub fn word(buffer: &[u8], at: usize) -> usize {

@@ -8,7 +8,7 @@ use crate::records;
 
 /// "Format zeroes the disc, then boots."; "format and boot try only 1."
 pub fn format(disc: &mut [u8], area: &mut [u8]) -> Answer {
-    need(disc.len() == DISC_LEN && area.len() == AREA_LEN, Refusal::WrongLength)?;
+    need(is_disc_len(disc.len()) && area.len() == AREA_LEN, Refusal::WrongLength)?;
     disc.fill(0);
     boot(area)
 }

@@ -290,12 +290,13 @@ impl Turn<'_> {
         Ok(())
     }
 
-    /// "13 OPEN's new file refused by name, size or store's 8 or 9". Document 02, Q-8: "OPEN now fills a file it
-    /// creates with zeros."
+    /// "13 OPEN's new file refused by name, size or store's 8 or 9"; its size goes with the disc as *store*'s does.
+    /// Document 02, Q-8: "OPEN now fills a file it creates with zeros."
     fn create(&mut self, name: &[u8], size: Number) -> Result<usize, Fault> {
         // "size (cut toward zero; NaN and infinities count as refused sizes)"
         let size = size.float().trunc();
-        need(directory::good_name(name) && size >= 1.0 && size <= DATA_LEN as f32, Fault::OpenRefused)?;
+        let most = data_bytes(self.disc).len() as f32;
+        need(directory::good_name(name) && size >= 1.0 && size <= most, Fault::OpenRefused)?;
         let start = directory::add(self.disc, name, size as usize).map_err(|_| Fault::OpenRefused)?;
         self.disc[start..start + size as usize].fill(0);
         Ok(directory::count(self.disc) - 1)

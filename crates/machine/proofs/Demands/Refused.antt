@@ -16,9 +16,9 @@ use Rattle.buffer.proofs.Bools.{and-both, and-left, and-right, not-is-true, not
 use Rattle.place.specs.Place.{longest}
 use Rattle.store.specs.Answer.{checked, fileLine, filesAnswer, freeSpaceAnswer, ifUsable, reported, retrieveAnswer, retrieveAt, storeAnswer}
 use Rattle.store.specs.Answer.{storeAt}
-use Rattle.store.specs.Directory.{entryAt, fileCount, files as entries, goodDisc, isDiscLength, lookup, taken}
+use Rattle.store.specs.Directory.{DiscLength, entryAt, fileCount, files as entries, goodDisc, isDiscLength, lookup, taken}
 use Rattle.store.specs.File.{admission, denyIfFound, goodSize, placeOf, startOr, unless}
-use Rattle.store.specs.Layout.{dataStart, discLength, maxFiles}
+use Rattle.store.specs.Layout.{dataStart, maxFiles}
 use Rattle.store.specs.declared.Admission.{Admission}
 use Rattle.store.specs.declared.Admission.the-variants.{Denied}
 use Rattle.store.specs.declared.Answer.the-variants.{Refused}
@@ -26,6 +26,7 @@ use Rattle.store.specs.declared.Checked.{Checked}
 use Rattle.store.specs.declared.Checked.the-variants.{Usable, Unusable}
 use Rattle.store.specs.declared.Refusal.{Refusal}
 use Rattle.store.specs.declared.Refusal.the-variants.{WrongLength, BadDisc, ShortOutput, BadName, BadSize, DirectoryFull}
+use Rattle.store.proofs.Checks.{disc-length-is, is-disc-length}
 use Rattle.machine.specs.Answer.{Answer, Buffers, Other, store, retrieve, erase, files, freeSpace, list, Call, turn, round}
 use Rattle.machine.specs.Answer.{command, run, other}
 use Rattle.machine.specs.Answer.{answer, bootAnswer, commandAnswer, eraseAt, formatAnswer, goodArea, onDisc, onGood, onOutput}
@@ -105,9 +106,12 @@ module _ (b : Buffers) where
   on-answer {n} rest = decided (λ a. a) (refused n b) rest refl
 
   -- ---- document 01's 1 to 3
+  says-disc-length : Says (isDiscLength (length (b .disc))) (DiscLength (length (b .disc)))
+  says-disc-length = record { so = disc-length-is (length (b .disc)); back = is-disc-length (length (b .disc)) }
+
   says-lengths : Says (isDiscLength (length (b .disc)) && isAreaLength (length (b .area)))
-      ((length (b .disc) ≡ discLength) × (length (b .area) ≡ areaLength))
-  says-lengths = says-both (says-equal (length (b .disc)) discLength) (says-equal (length (b .area)) areaLength)
+      (DiscLength (length (b .disc)) × (length (b .area) ≡ areaLength))
+  says-lengths = says-both says-disc-length (says-equal (length (b .area)) areaLength)
 
   on-both : {later : Tests} (rest : Answer) → (Passes (b .disc) (b .area) → Decided later b rest)
       → Decided (onBoth b later) b (onGood b rest)
@@ -128,10 +132,9 @@ module _ (b : Buffers) where
   unfolding checked
   on-disc make refuse rest one two h =
       let made : Checked → Answer = λ c. make (ifUsable c refuse rest) in
-      let size = says-equal (length (b .disc)) discLength in
-      decided made (Unusable WrongLength) _ one size λ long.
+      decided made (Unusable WrongLength) _ one says-disc-length λ long.
       decided made (Unusable BadDisc) Usable two (says-itself (goodDisc (b .disc))) λ good.
-      h (record { long = size .back long; good = good })
+      h (record { long = says-disc-length .back long; good = good })
 
   -- ---- the file of a name
   module _ (fit : Fit) (name : List ℕ) where

@@ -6,16 +6,17 @@ use mathlib.Core.List.{List, [], _∷_, _++_}
 use native.Mathlib.Omega.{arith}
 use lib.Dec.{leb}
 use lib.ListN.{length, replicate}
-use borrow.Author.Tests.{eqb-true, leb-true}
+use borrow.Author.Tests.{leb-true}
 use Rattle.buffer.specs.Buffer.{overwrite, part, wordBytes}
 use Rattle.buffer.proofs.Bools.{and-right}
 use Rattle.place.specs.declared.Run.{Run}
 use Rattle.store.specs.Directory.{contents, entryAt, entryBytes, fileCount, isDiscLength}
 use Rattle.store.specs.File.{entered, erased, newEntry, readAt, stored, writtenAt}
-use Rattle.store.specs.Layout.{countAt, discLength, entrySize, nameSize}
+use Rattle.store.specs.Layout.{countAt, entrySize, nameSize}
 use Rattle.store.specs.Name.{goodName, isNameByte, padded}
 use Rattle.store.specs.declared.Entry.{Entry}
 use Rattle.store.proofs.Admissions.{Admitted}
+use Rattle.store.proofs.Checks.{disc-bounds}
 use Rattle.store.proofs.Names.{good-name-is}
 use Rattle.machine.proofs.Bytes.ByteLists.{Bytes, IsByte, append-bytes, byte-at, filled-bytes, one-byte, overwrite-bytes, part-bytes}
 use Rattle.machine.proofs.Bytes.ByteLists.{take-bytes, word-at, word-bytes}
@@ -59,8 +60,8 @@ module _ (disc : List ℕ) (h : Bytes disc) where
   pub new-entry : (name : List ℕ) (n s : ℕ) → isDiscLength (length disc) ≡ true → Admitted disc name n s → ByteEntry (newEntry name n s)
   new-entry name n s long a = record {
     name = padded-bytes name (a .good);
-    start = omega (arith, a .placed .high, eqb-true (length disc) discLength long);
-    len = omega (arith, a .placed .high, eqb-true (length disc) discLength long);
+    start = omega (arith, a .placed .high, disc-bounds (length disc) long .high);
+    len = omega (arith, a .placed .high, disc-bounds (length disc) long .high);
   }
 
   entered-bytes : (name : List ℕ) (n s : ℕ) → isDiscLength (length disc) ≡ true → Admitted disc name n s

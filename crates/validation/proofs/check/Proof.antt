@@ -5,7 +5,7 @@ use borrow.Author.Needs.{needs}
 use borrow.Author.Tests.{eq-eqb, ne-eqb, not-true, not-false}
 use lib.ListN.{length}
 use Rattle.store.specs.Directory.{goodDisc, isDiscLength}
-use Rattle.store.proofs.Checks.{disc-length-is, readable}
+use Rattle.store.proofs.Checks.{disc-bounds, readable}
 use Rattle.machine.specs.Area.{isAreaLength}
 use Rattle.validation.specs.Tests.{tested}
 use Rattle.validation.proofs.check.Statement.{statement}
@@ -39,7 +39,7 @@ unfolding tested
 returns-2 c = rw (disc-long (c .before), ne-eqb _ _ (c .if2 .taken))
 
 is-good-disc-requires : tie.Need-is-good-disc-requires
-is-good-disc-requires c κs = disc-length-is _ (disc-long (c .before)) .low
+is-good-disc-requires c κs = disc-bounds _ (disc-long (c .before)) .low
 
 returns-3 : tie.Need-returns-3
 unfolding tested

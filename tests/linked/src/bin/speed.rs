@@ -78,7 +78,7 @@ fn rows() -> Vec<Row> {
 /// Ten files whose names differ in their last byte, ten running processes, 25 variables; every process is at the same
 /// instruction with the same stack.
 fn full_state(code: &[u8], stack: &[u8]) -> State {
-    let mut state = State::zero();
+    let mut state = State::zero(SHORT_DISC);
     second::format(&mut state.disc, &mut state.area).expect("the lengths are right");
     for digit in b'0'..=b'9' {
         let name = [b"namediffer".as_slice(), &[digit]].concat();
@@ -135,7 +135,7 @@ fn nine_files(state: &State) -> State {
 /// Ten processes at OPEN, their program of one byte the only file, the rest of the disc not zero: the most zeros that one
 /// OPEN lays.
 fn one_file() -> State {
-    let mut state = State::zero();
+    let mut state = State::zero(SHORT_DISC);
     second::format(&mut state.disc, &mut state.area).expect("the lengths are right");
     state.disc[DATA_START..].fill(9);
     second::store(&mut state.disc, b"p", &[OPEN]).expect("the disc is empty");

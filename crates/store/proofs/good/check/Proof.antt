@@ -5,7 +5,7 @@ use borrow.Author.Tests.{not-true, not-false}
 use lib.ListN.{length}
 use Rattle.store.specs.Answer.{checked}
 use Rattle.store.specs.Directory.{isDiscLength}
-use Rattle.store.proofs.Checks.{disc-length-is}
+use Rattle.store.proofs.Checks.{disc-bounds}
 use borrow.Author.Needs.{needs}
 use Rattle.store.proofs.good.check.Statement.{statement}
 use Rattle.store.proofs.good.check.Tie as tie
@@ -27,4 +27,4 @@ returns-3 c = rw (right (c .before .before), sym (c .before .is-good-disc .ensur
 
 pub check-spec : {M : Type 1} → statement M
 check-spec =
-    tie.close (tie.spec (λ c κs. search needs) returns (λ c κs. disc-length-is _ (right c) .low) returns-2 returns-3)
+    tie.close (tie.spec (λ c κs. search needs) returns (λ c κs. disc-bounds _ (right c) .low) returns-2 returns-3)
