@@ -19,7 +19,12 @@
 #define LAST_MS 5000u
 #define STEP_MS 10u
 
-static uint8_t disc[ARDUINOS_DISC_SIZE];
+/* What the board's EEPROM has: a hoist box 1,024 bytes; for a jib box -DBOX_DISC_SIZE=ARDUINOS_LONG_DISC_SIZE. */
+#ifndef BOX_DISC_SIZE
+#define BOX_DISC_SIZE ARDUINOS_DISC_SIZE
+#endif
+
+static uint8_t disc[BOX_DISC_SIZE];
 static uint8_t area[ARDUINOS_AREA_SIZE];
 
 /* Counts down from 3: the program of document 01. */
@@ -92,7 +97,7 @@ static uint32_t clock_ms(void)
     return (uint32_t)(nanoseconds / 1000000);
 }
 
-static uint8_t eeprom[ARDUINOS_DISC_SIZE];
+static uint8_t eeprom[BOX_DISC_SIZE];
 static unsigned long eeprom_writes;
 
 /* Writes only what has changed: a cell bears some 100,000 writes. */
@@ -116,7 +121,7 @@ static const char *refusal_name(int32_t number)
     case ARDUINOS_BAD_AREA: return "work area not good";
     case ARDUINOS_SHORT_OUTPUT: return "output too short";
     case ARDUINOS_BAD_NAME: return "bad name";
-    case ARDUINOS_BAD_SIZE: return "data length not 1 to 863";
+    case ARDUINOS_BAD_SIZE: return "no data, or more than a disc takes";
     case ARDUINOS_NAME_EXISTS: return "name exists";
     case ARDUINOS_DIRECTORY_FULL: return "ten files already";
     case ARDUINOS_NO_SPACE: return "no free run long enough";

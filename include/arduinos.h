@@ -41,8 +41,10 @@ extern "C" {
  * Sizes, in bytes where nothing else is said.
  */
 
-/* "Disc, 1,024 bytes." */
+/* "Disc, 1,024 bytes.", the hoist box's; or, by document 02, Q-2, the 4,096 bytes of the jib box. Every function takes
+ * either: the length that is lent tells which it is. A disc keeps its length for good. */
 #define ARDUINOS_DISC_SIZE 1024
+#define ARDUINOS_LONG_DISC_SIZE 4096
 /* "Work area, 1,056 bytes." */
 #define ARDUINOS_AREA_SIZE 1056
 /* "Turn, one instruction of one slot, with a 32-bit clock and at least 32 output bytes" */
@@ -53,10 +55,12 @@ extern "C" {
 #define ARDUINOS_MAX_FILES 10
 /* "A name is 1 to 11 bytes of 33 to 126, zero-filled." Lend its bytes alone, without a zero behind them. */
 #define ARDUINOS_MAX_NAME 11
-/* "Data lie at 161 to 1023, 863 bytes."; the longest file, and all files together. Retrieve needs no more output. */
+/* "Data lie at 161 to 1023, 863 bytes.", of a long disc at 161 to 4095; the longest file, and all files together.
+ * Retrieve needs no more output. */
 #define ARDUINOS_MAX_DATA 863
-/* "Files: a line per file, name, space, length, newline": ten lines of at most 11 + 1 + 3 + 1. */
-#define ARDUINOS_FILES_OUTPUT 160
+#define ARDUINOS_LONG_MAX_DATA 3935
+/* "Files: a line per file, name, space, length, newline": ten lines of at most 11 + 1 + 4 + 1. */
+#define ARDUINOS_FILES_OUTPUT 170
 /* "List: ID, space, 'r' or 'p', space, name, newline per live process": ten lines of at most 5 + 1 + 1 + 1 + 11 + 1. */
 #define ARDUINOS_LIST_OUTPUT 200
 /* "ten process records": so many processes live at most; slots are numbered 0 to 9. */
@@ -93,17 +97,18 @@ extern "C" {
  * Refusals: what a function returns below 0.
  *
  *      meaning                          usual cause                              what to do
- *  -1  disc_len is not 1024, or         sizeof of a pointer; disc and area       correct the call
- *      area_len not 1056                exchanged
+ *  -1  disc_len is neither 1024 nor     sizeof of a pointer; disc and area       correct the call
+ *      4096, or area_len not 1056       exchanged
  *  -2  disc not good: names, places     a new EEPROM (all hex FF); power lost    read the EEPROM again; then format,
  *      or count of files                while it was written                     which loses all files
  *  -3  work area not good, or not of    boot left out; another disc put under    boot, which ends all processes
  *      this disc                        it; a stray write
  *  -4  output shorter than needed       a buffer not of the size above           lend ARDUINOS_.._OUTPUT bytes, and
- *                                                                                ARDUINOS_MAX_DATA to retrieve
+ *                                                                                ARDUINOS_.._MAX_DATA to retrieve
  *  -5  bad name (store alone:           its zero counted (sizeof of a literal);  correct the name
  *      elsewhere it is -10)             a space; no byte, or more than 11
- *  -6  data length 0 or above 863       an empty or an over-long program         correct the length
+ *  -6  data length 0 or above 863,      an empty or an over-long program         correct the length
+ *      on a long disc above 3935
  *  -7  name exists                      a new version of a file                  kill what runs it, erase it first
  *  -8  ten files already                logs that programs made (OPEN)           erase one
  *  -9  no free run long enough          the disc is full, or its free space      see free_space; erase neighbours, or
@@ -168,7 +173,8 @@ enum arduinos_refusal {
  *  11  no open file                     WRITE or READ ahead of OPEN              OPEN first
  *  12  past the file's end              a log is full; READSTRING met no zero    a longer file; OPEN again for offset 0
  *  13  OPEN's new file refused          a misspelt or bad name, a size outside   correct name or size; erase files;
- *                                       1 to 863, ten files, no free run         store the file beforehand
+ *                                       1 to 863, on a long disc to 3935; ten    store the file beforehand
+ *                                       files, no free run
  */
 enum arduinos_fault {
     ARDUINOS_FAULT_NO_INSTRUCTION = 1,

@@ -33,6 +33,13 @@ const struct operation_facts operations[OPERATION_COUNT] = {
     [ROUND] = { "round", DISC | AREA | OUT, DISC | AREA | OUT, BY_BOTH | BY(SHORT_OUTPUT) },
 };
 
+size_t disc_size = ARDUINOS_DISC_SIZE;
+
+size_t data_size(void)
+{
+    return disc_size == ARDUINOS_DISC_SIZE ? ARDUINOS_MAX_DATA : ARDUINOS_LONG_MAX_DATA;
+}
+
 unsigned long calls_made;
 unsigned long tests_failed;
 
@@ -53,13 +60,13 @@ enum { DISC_AT, AREA_AT, NAME_AT, DATA_AT, OUT_AT };
 struct call call_of(enum operation operation)
 {
     static const size_t output[OPERATION_COUNT] = {
-        [RETRIEVE] = ARDUINOS_MAX_DATA, [FILES] = ARDUINOS_FILES_OUTPUT, [LIST] = ARDUINOS_LIST_OUTPUT,
-        [TURN] = ARDUINOS_TURN_OUTPUT,  [ROUND] = ARDUINOS_ROUND_OUTPUT,
+        [FILES] = ARDUINOS_FILES_OUTPUT, [LIST] = ARDUINOS_LIST_OUTPUT,
+        [TURN] = ARDUINOS_TURN_OUTPUT,   [ROUND] = ARDUINOS_ROUND_OUTPUT,
     };
     static const uint8_t nothing[1];
-    struct call call = { .operation = operation, .disc_length = ARDUINOS_DISC_SIZE, .area_length = ARDUINOS_AREA_SIZE };
+    struct call call = { .operation = operation, .disc_length = disc_size, .area_length = ARDUINOS_AREA_SIZE };
 
-    call.out_length = output[operation];
+    call.out_length = operation == RETRIEVE ? data_size() : output[operation];
     call.name = call.data = nothing;
     return call;
 }
@@ -193,10 +200,13 @@ int32_t call_guarded(const struct call *call, struct state *state)
 void test_reached(void)
 {
     for (int i = 0; i < OPERATION_COUNT; i++) {
-        if (reached[i] == (operations[i].refusals | 1u))
+        unsigned found = reached[i];
+        reached[i] = 0;
+        if (found == (operations[i].refusals | 1u))
             continue;
         tests_failed++;
-        printf("guard: %s: reached %#x and not %#x\n", operations[i].name, reached[i], operations[i].refusals | 1u);
+        printf("guard: disc of %lu, %s: reached %#x and not %#x\n", (unsigned long)disc_size, operations[i].name, found,
+               operations[i].refusals | 1u);
     }
 }
 

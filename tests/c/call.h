@@ -24,8 +24,12 @@ struct operation_facts {
 };
 extern const struct operation_facts operations[OPERATION_COUNT];
 
-/* Longer than any buffer that is lent. */
-#define ROOM 2048
+/* Longer than any disc or work area. */
+#define ROOM 5120
+
+/* The length of the disc that calls are lent, short or long, and the data bytes that it has. */
+extern size_t disc_size;
+size_t data_size(void);
 
 /* The buffers between calls, with room for wrong lengths. */
 struct state {
@@ -59,7 +63,7 @@ extern unsigned long tests_failed;
 /* Reports a failed test, with the call that is being made if there is one. */
 void fail(const char *what);
 
-/* Tests that every operation was done, and refused by each of its refusals and by no other. */
+/* Tests that every operation was done, and refused by each of its refusals and by no other; counts from here on again. */
 void test_reached(void);
 
 /* Maps the buffers. From here on a touch outside is told, with the call, before it ends the program. */

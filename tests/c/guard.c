@@ -97,7 +97,8 @@ static void set_next_id(unsigned id)
 
 static void wrong_lengths(void)
 {
-    static const size_t lengths[] = { 0, 1, 160, 1023, 1024, 1025, 1055, 1056, 1057, ROOM };
+    static const size_t lengths[] = { 0,    1,    160,  1023, 1024, 1025, 1055,
+                                      1056, 1057, 2048, 4095, 4096, 4097, ROOM };
     enum { COUNT = sizeof lengths / sizeof lengths[0] };
 
     plain(FORMAT, 0);
@@ -106,7 +107,7 @@ static void wrong_lengths(void)
         unsigned lent = operations[call.operation].lent;
         call.disc_length = lengths[i / COUNT % COUNT];
         call.area_length = lengths[i % COUNT];
-        if ((lent & DISC && call.disc_length != ARDUINOS_DISC_SIZE) ||
+        if ((lent & DISC && call.disc_length != ARDUINOS_DISC_SIZE && call.disc_length != ARDUINOS_LONG_DISC_SIZE) ||
             (lent & AREA && call.area_length != ARDUINOS_AREA_SIZE))
             expect(&call, ARDUINOS_WRONG_LENGTH);
     }
@@ -128,7 +129,7 @@ static void bad_buffers(void)
         plain(operation, ARDUINOS_BAD_DISC);
         state = good;
     }
-    memset(state.disc, 0xFF, ARDUINOS_DISC_SIZE);
+    memset(state.disc, 0xFF, disc_size);
     plain(FREE_SPACE, ARDUINOS_BAD_DISC);
     plain(FORMAT, 0);
 }
@@ -145,37 +146,46 @@ static void names_and_sizes(void)
     store("a b", filler, 1, ARDUINOS_BAD_NAME);
     store("\x7f", filler, 1, ARDUINOS_BAD_NAME);
     store("p", filler, 0, ARDUINOS_BAD_SIZE);
-    store("p", filler, ARDUINOS_MAX_DATA + 1, ARDUINOS_BAD_SIZE);
-    store("eleven_byte", filler, ARDUINOS_MAX_DATA, 0);
+    store("p", filler, data_size() + 1, ARDUINOS_BAD_SIZE);
+    store("eleven_byte", filler, data_size(), 0);
     plain(FREE_SPACE, 0);
     store("p", filler, 1, ARDUINOS_NO_SPACE);
     store("eleven_byte", filler, 1, ARDUINOS_NAME_EXISTS);
-    output_of(RETRIEVE, "eleven_byte", ARDUINOS_MAX_DATA, ARDUINOS_MAX_DATA);
-    if (memcmp(state.out, filler, ARDUINOS_MAX_DATA) != 0)
+    output_of(RETRIEVE, "eleven_byte", data_size(), (int32_t)data_size());
+    if (memcmp(state.out, filler, data_size()) != 0)
         fail("retrieve gave other bytes than were stored");
     named(RETRIEVE, "p", ARDUINOS_NO_SUCH_FILE);
     named(RETRIEVE, "", ARDUINOS_NO_SUCH_FILE);
     named(ERASE, "", ARDUINOS_NO_SUCH_FILE);
     named(ERASE, "eleven_bytes", ARDUINOS_NO_SUCH_FILE);
     named(ERASE, "eleven_byte", 0);
-    plain(FREE_SPACE, ARDUINOS_MAX_DATA);
+    plain(FREE_SPACE, (int32_t)data_size());
 }
 
-/* Ten files with the longest lines that 863 bytes allow: eight of three digits, two of two. */
+/* Ten files with the longest lines that the data bytes allow: of 863 eight of three digits and two of two, of 3,935
+   three of four digits and seven of three. */
+static size_t file_length(int i)
+{
+    if (disc_size == ARDUINOS_DISC_SIZE)
+        return i < 8 ? 100 : 30;
+    return i < 3 ? 1000 : 133;
+}
+
 static void ten_files(void)
 {
+    size_t text = disc_size == ARDUINOS_DISC_SIZE ? 8 * 16 + 2 * 15 : 3 * 17 + 7 * 16;
     plain(FORMAT, 0);
     for (int i = 0; i < ARDUINOS_MAX_FILES; i++) {
         char name[] = "namediffer0";
         name[ARDUINOS_MAX_NAME - 1] = (char)('0' + i);
-        store(name, filler, i < 8 ? 100 : 30, 0);
+        store(name, filler, file_length(i), 0);
     }
     store("p", filler, 1, ARDUINOS_DIRECTORY_FULL);
-    output_of(FILES, "", 8 * 16 + 2 * 15, 8 * 16 + 2 * 15);
+    output_of(FILES, "", text, (int32_t)text);
     named(ERASE, "namediffer4", 0);
-    plain(FREE_SPACE, 100);
-    store("p", filler, 101, ARDUINOS_NO_SPACE);
-    store("p", filler, 100, 0);
+    plain(FREE_SPACE, (int32_t)file_length(4));
+    store("p", filler, file_length(4) + 1, ARDUINOS_NO_SPACE);
+    store("p", filler, file_length(4), 0);
 }
 
 static void processes(void)
@@ -216,7 +226,7 @@ static uint32_t at_first_place(const struct program *program)
 {
     plain(FORMAT, 0);
     store("p", program->bytes, program->length, 0);
-    store("rest", filler, ARDUINOS_MAX_DATA - LOG_SIZE - program->length, 0);
+    store("rest", filler, data_size() - LOG_SIZE - program->length, 0);
     named(RUN, "p", 1);
     return 0;
 }
@@ -226,7 +236,7 @@ static uint32_t at_last_place(const uint8_t *bytes, size_t length)
 {
     plain(FORMAT, 0);
     store("hole", filler, LOG_SIZE, 0);
-    store("rest", filler, ARDUINOS_MAX_DATA - LOG_SIZE - length, 0);
+    store("rest", filler, data_size() - LOG_SIZE - length, 0);
     store("p", bytes, length, 0);
     named(ERASE, "hole", 0);
     for (int i = 1; i < ARDUINOS_MAX_PROCESSES; i++)
@@ -290,7 +300,7 @@ static void every_instruction(void)
             for (int byte = 0; byte < 256; byte++) {
                 code[length - arguments - 1] = (uint8_t)byte;
                 state = started;
-                memcpy(state.disc + ARDUINOS_DISC_SIZE - length, code, length);
+                memcpy(state.disc + disc_size - length, code, length);
                 turns(slot, 8, text, sizeof text);
             }
         }
@@ -425,6 +435,8 @@ int main(void)
 {
     setvbuf(stdout, NULL, _IOLBF, BUFSIZ);
     prepare_guard();
+    all_calls();
+    disc_size = ARDUINOS_LONG_DISC_SIZE;
     all_calls();
     printf("guard: %lu calls, %lu tests failed\n", calls_made, tests_failed);
     return tests_failed != 0;

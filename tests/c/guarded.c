@@ -15,9 +15,15 @@ static size_t page_size(void)
     return (size_t)sysconf(_SC_PAGESIZE);
 }
 
-static void protect(uint8_t *page, int access)
+/* What lies between the pages without access. */
+static size_t room(void)
 {
-    if (mprotect(page, page_size(), access) != 0) {
+    return 2 * page_size();
+}
+
+static void protect(uint8_t *pages, int access)
+{
+    if (mprotect(pages, room(), access) != 0) {
         perror("guard: mprotect");
         exit(2);
     }
@@ -25,33 +31,33 @@ static void protect(uint8_t *page, int access)
 
 void guarded_map(struct guarded *buffer)
 {
-    void *pages = mmap(NULL, 3 * page_size(), PROT_NONE, MAP_PRIVATE | MAP_ANONYMOUS, -1, 0);
+    void *pages = mmap(NULL, room() + 2 * page_size(), PROT_NONE, MAP_PRIVATE | MAP_ANONYMOUS, -1, 0);
     if (pages == MAP_FAILED) {
         perror("guard: mmap");
         exit(2);
     }
-    buffer->page = (uint8_t *)pages + page_size();
-    buffer->bytes = buffer->page;
+    buffer->pages = (uint8_t *)pages + page_size();
+    buffer->bytes = buffer->pages;
     buffer->length = 0;
-    protect(buffer->page, PROT_READ | PROT_WRITE);
+    protect(buffer->pages, PROT_READ | PROT_WRITE);
 }
 
 void guarded_lay(struct guarded *buffer, enum side side, const uint8_t *content, size_t length)
 {
-    memset(buffer->page, PATTERN, page_size());
-    buffer->bytes = side == ENDS_AT_PAGE ? buffer->page + page_size() - length : buffer->page;
+    memset(buffer->pages, PATTERN, room());
+    buffer->bytes = side == ENDS_AT_PAGE ? buffer->pages + room() - length : buffer->pages;
     buffer->length = length;
     memcpy(buffer->bytes, content, length);
 }
 
 void guarded_forbid_writes(struct guarded *buffer)
 {
-    protect(buffer->page, PROT_READ);
+    protect(buffer->pages, PROT_READ);
 }
 
 void guarded_allow_writes(struct guarded *buffer)
 {
-    protect(buffer->page, PROT_READ | PROT_WRITE);
+    protect(buffer->pages, PROT_READ | PROT_WRITE);
 }
 
 /* The first byte is the pattern's and each equals the next. */
@@ -62,7 +68,7 @@ static bool is_pattern(const uint8_t *bytes, size_t length)
 
 bool guarded_rest_kept(const struct guarded *buffer)
 {
-    size_t before = (size_t)(buffer->bytes - buffer->page);
-    size_t behind = page_size() - before - buffer->length;
-    return is_pattern(buffer->page, before) && is_pattern(buffer->bytes + buffer->length, behind);
+    size_t before = (size_t)(buffer->bytes - buffer->pages);
+    size_t behind = room() - before - buffer->length;
+    return is_pattern(buffer->pages, before) && is_pattern(buffer->bytes + buffer->length, behind);
 }

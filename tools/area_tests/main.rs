@@ -36,9 +36,9 @@ fn put_word(bytes: &mut [u8], at: usize, n: usize) {
     bytes[at + 1] = (n >> 8) as u8;
 }
 
-/// Files whose names differ in their last byte alone.
-fn disc_of(files: usize) -> Vec<u8> {
-    let mut disc = vec![0u8; 1024];
+/// Files whose names differ in their last byte alone, on a disc of that length.
+fn disc_of(files: usize, length: usize) -> Vec<u8> {
+    let mut disc = vec![0u8; length];
     for i in 0..files {
         let e = &mut disc[i * 16..i * 16 + 16];
         e[..11].copy_from_slice(b"abcdefghijk");
@@ -133,7 +133,8 @@ fn compare(cases: usize) -> [usize; 4] {
     let mut r = Random(0x9E3779B97F4A7C15);
     let mut seen = [0usize; 4];
     for n in 0..cases {
-        let mut disc = disc_of(1 + r.below(10));
+        let length = [1024, 4096][r.below(2)];
+        let mut disc = disc_of(1 + r.below(10), length);
         let live = 1 + r.below(10);
         let variables = r.below(26);
         let mut area = area_of(&disc, live, variables);
@@ -178,7 +179,7 @@ fn main() {
         "{cases} buffers, same answers: {} pass, {} wrong length, {} bad disc, {} bad area",
         seen[0], seen[1], seen[2], seen[3]
     );
-    let disc = disc_of(10);
+    let disc = disc_of(10, 1024);
     for (live, variables) in [(10, 25), (3, 5)] {
         let area = area_of(&disc, live, variables);
         assert_eq!(twin::check(&disc, &area), twin::PASS);

@@ -1,6 +1,7 @@
 //! A second implementation of the tests of disc and work area, straight from document 01, in place on the bytes.
 
-const DISC_LENGTH: usize = 1024;
+const SHORT_DISC: usize = 1024;
+const LONG_DISC: usize = 4096;
 const AREA_LENGTH: usize = 1056;
 const COUNT_AT: usize = 160;
 const DATA_START: usize = 161;
@@ -144,7 +145,7 @@ fn good_area(disc: &[u8], area: &[u8]) -> bool {
 /// "1: a buffer has the wrong length. 2: disc not good. 3: work area not good."
 #[inline(never)]
 pub fn check(disc: &[u8], area: &[u8]) -> u32 {
-    if disc.len() != DISC_LENGTH || area.len() != AREA_LENGTH {
+    if !(disc.len() == SHORT_DISC || disc.len() == LONG_DISC) || area.len() != AREA_LENGTH {
         return WRONG_LENGTH;
     }
     if !good_disc(disc) {

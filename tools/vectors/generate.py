@@ -25,7 +25,7 @@ ON_BOTH = {
     "format": "f", "boot": "b", "erase": "e", "run": "r", "suspend": "s", "resume": "c", "kill": "k", "list": "l", "turn": "t", "round": "o",
 }
 NAMED = ("erase", "run")
-LONGEST = 2048
+LONGEST = 4096
 
 
 def unhex(word):

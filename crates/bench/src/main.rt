@@ -1,9 +1,10 @@
-// Document 01's program bench, through the functions that the firmware calls. The gate compares what it writes with the
-// six lines of document 01, in the file stdout.
+// Document 01's program bench, through the functions that the firmware calls, on a short disc and on a long one. The gate
+// compares what it writes with the file stdout: the six lines of document 01, and again with a long disc's free space.
 use machine::limits::AREA_LENGTH;
 use machine::limits::ROUND_ROOM;
 use running::MOST_ROUNDS;
-use store::layout::DISC_LENGTH;
+use store::layout::LONG_DISC;
+use store::layout::SHORT_DISC;
 
 // Document 01: "does rounds until nothing runs (29)".
 const ROUNDS: u16 = 29;
@@ -32,25 +33,25 @@ const DOWN: [u8; 20] = [
     67, // STOP
 ];
 
-fn print_files(disc: &[u8; DISC_LENGTH]) {
+fn print_files(disc: &[u8]) {
     let mut out = [0u8; ROUND_ROOM];
     let written = export::arduinos_files(disc, &mut out);
     printing::output(written, &out);
 }
 
-fn print_list(disc: &[u8; DISC_LENGTH], area: &[u8; AREA_LENGTH]) {
+fn print_list(disc: &[u8], area: &[u8; AREA_LENGTH]) {
     let mut out = [0u8; ROUND_ROOM];
     let written = export::arduinos_list(disc, area, &mut out);
     printing::output(written, &out);
 }
 
-fn print_free_space(disc: &[u8; DISC_LENGTH]) {
+fn print_free_space(disc: &[u8]) {
     printing::number(export::arduinos_free_space(disc));
     printing::text(b"\n");
 }
 
 // Another number of rounds gets a line of its own, which the file stdout does not have.
-fn run_all(disc: &mut [u8; DISC_LENGTH], area: &mut [u8; AREA_LENGTH]) {
+fn run_all(disc: &mut [u8], area: &mut [u8; AREA_LENGTH]) {
     let rounds = running::rounds(disc, area, 1, MOST_ROUNDS);
     if rounds != ROUNDS {
         printing::line(b"rounds", rounds as i32);
@@ -58,14 +59,20 @@ fn run_all(disc: &mut [u8; DISC_LENGTH], area: &mut [u8; AREA_LENGTH]) {
 }
 
 // Format takes any bytes.
-fn main() {
-    let mut disc = [255u8; DISC_LENGTH];
+fn bench(disc: &mut [u8]) {
     let mut area = [255u8; AREA_LENGTH];
-    export::arduinos_format(&mut disc, &mut area);
-    export::arduinos_store(&mut disc, b"down", &DOWN);
-    print_files(&disc);
-    export::arduinos_run(&disc, &mut area, b"down");
-    print_list(&disc, &area);
-    run_all(&mut disc, &mut area);
-    print_free_space(&disc);
+    export::arduinos_format(disc, &mut area);
+    export::arduinos_store(disc, b"down", &DOWN);
+    print_files(disc);
+    export::arduinos_run(disc, &mut area, b"down");
+    print_list(disc, &area);
+    run_all(disc, &mut area);
+    print_free_space(disc);
+}
+
+fn main() {
+    let mut short = [255u8; SHORT_DISC];
+    bench(&mut short);
+    let mut long = [255u8; LONG_DISC];
+    bench(&mut long);
 }

@@ -3,7 +3,7 @@ use crate::code::Code;
 use machine::limits::AREA_LENGTH;
 use machine::limits::RECORDS_AT;
 use running::MOST_ROUNDS;
-use store::layout::DISC_LENGTH;
+use store::layout::SHORT_DISC;
 
 // Milliseconds from one round to the next.
 const STEP: u32 = 100;
@@ -14,13 +14,13 @@ const SP_AT: usize = RECORDS_AT + 30;
 const STACK_AT: usize = RECORDS_AT + 32;
 
 // Stores the first len bytes.
-fn store_front(disc: &mut [u8; DISC_LENGTH], bytes: &[u8], len: usize) {
+fn store_front(disc: &mut [u8], bytes: &[u8], len: usize) {
     if len <= bytes.len() {
         export::arduinos_store(disc, b"guide", &bytes[..len]);
     }
 }
 
-fn start(title: &[u8], code: Code, disc: &mut [u8; DISC_LENGTH], area: &mut [u8; AREA_LENGTH]) {
+fn start(title: &[u8], code: Code, disc: &mut [u8], area: &mut [u8; AREA_LENGTH]) {
     printing::text(title);
     printing::text(b"\n");
     export::arduinos_format(disc, area);
@@ -31,7 +31,7 @@ fn start(title: &[u8], code: Code, disc: &mut [u8; DISC_LENGTH], area: &mut [u8;
 
 // Runs a program to its end, and so many rounds at most.
 pub fn run(title: &[u8], code: Code, most: u16) {
-    let mut disc = [0u8; DISC_LENGTH];
+    let mut disc = [0u8; SHORT_DISC];
     let mut area = [0u8; AREA_LENGTH];
     start(title, code, &mut disc, &mut area);
     let rounds = running::rounds(&mut disc, &mut area, STEP, most);
@@ -59,7 +59,7 @@ fn print_stack(area: &[u8; AREA_LENGTH]) {
 }
 
 // Rounds until no process lives, with the stack of slot 0 after each.
-fn rounds(disc: &mut [u8; DISC_LENGTH], area: &mut [u8; AREA_LENGTH]) -> u16 {
+fn rounds(disc: &mut [u8], area: &mut [u8; AREA_LENGTH]) -> u16 {
     let mut count: u16 = 0;
     while count < MOST_ROUNDS && running::lives(disc, area) {
         running::round(disc, area, 0);
@@ -71,7 +71,7 @@ fn rounds(disc: &mut [u8; DISC_LENGTH], area: &mut [u8; AREA_LENGTH]) -> u16 {
 
 // Runs a program to its end, with its stack after each round.
 pub fn stacks(title: &[u8], code: Code) {
-    let mut disc = [0u8; DISC_LENGTH];
+    let mut disc = [0u8; SHORT_DISC];
     let mut area = [0u8; AREA_LENGTH];
     start(title, code, &mut disc, &mut area);
     let count = rounds(&mut disc, &mut area);

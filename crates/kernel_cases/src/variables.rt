@@ -4,7 +4,6 @@ use running::MOST_ROUNDS;
 use running::instructions::CHAR;
 use running::instructions::SET;
 use running::instructions::STOP;
-use store::layout::DISC_LENGTH;
 ghost use Prim.Native.Nat.{_≤_};
 
 // A CHAR and its SET.
@@ -36,27 +35,27 @@ fn setting(last: u8) -> [u8; CODE_LENGTH] {
 }
 
 // Runs a program to its end, and says after how many rounds and by which fault it ended.
-fn run(label: &[u8], code: [u8; CODE_LENGTH]) {
-    let mut disc = [0u8; DISC_LENGTH];
+fn run(label: &[u8], disc: &mut [u8], code: [u8; CODE_LENGTH]) {
     let mut area = [0u8; AREA_LENGTH];
-    export::arduinos_format(&mut disc, &mut area);
-    export::arduinos_store(&mut disc, b"sets", &code);
-    export::arduinos_run(&disc, &mut area, b"sets");
-    let rounds = running::rounds(&mut disc, &mut area, 1, MOST_ROUNDS);
+    export::arduinos_format(disc, &mut area);
+    export::arduinos_store(disc, b"sets", &code);
+    export::arduinos_run(disc, &mut area, b"sets");
+    let rounds = running::rounds(disc, &mut area, 1, MOST_ROUNDS);
     printing::text(label);
     printing::text(b": ");
     running::print_end(rounds, &area);
 }
 
 // Document 01: "a 26th variable gives fault 10". Its SET is the 52nd instruction.
-pub fn another() {
-    run(b"a program that sets 26 variables", setting(25));
+pub fn another(disc: &mut [u8]) {
+    run(b"a program that sets 26 variables", disc, setting(25));
 }
 
 // Document 01: "setting one of 25 again does not". The STOP is the 53rd instruction.
-pub fn again() {
+pub fn again(disc: &mut [u8]) {
     run(
         b"a program that sets one of its 25 variables again",
+        disc,
         setting(7),
     );
 }

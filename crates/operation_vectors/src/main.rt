@@ -6,7 +6,7 @@ ghost use Prim.Native.Nat.{_≤_};
 ghost use Rattle.io.specs.Counts.{Counts};
 
 // No buffer of a vector is longer.
-const LONGEST: usize = 2048;
+const LONGEST: usize = 4096;
 
 fn read_byte(fd: i32) -> u8 {
     let mut byte = [0u8; 1];

@@ -6,7 +6,6 @@ use machine::limits::RECORD_SIZE;
 use machine::limits::RECORDS_AT;
 use machine::limits::ROUND_ROOM;
 use machine::limits::SLOT_COUNT;
-use store::layout::DISC_LENGTH;
 ghost use Prim.Native.Nat.{_<_};
 ghost use Rattle.machine.specs.Limits.{slotCount};
 
@@ -23,13 +22,13 @@ const FAULT_AT: usize = 15;
 const ENDED: u8 = 0;
 
 // Whether a process lives: then list has a line.
-pub fn lives(disc: &[u8; DISC_LENGTH], area: &[u8; AREA_LENGTH]) -> bool {
+pub fn lives(disc: &[u8], area: &[u8; AREA_LENGTH]) -> bool {
     let mut out = [0u8; ROUND_ROOM];
     0 < export::arduinos_list(disc, area, &mut out)
 }
 
 // A round, with what it prints.
-pub fn round(disc: &mut [u8; DISC_LENGTH], area: &mut [u8; AREA_LENGTH], clock: u32) {
+pub fn round(disc: &mut [u8], area: &mut [u8; AREA_LENGTH], clock: u32) {
     let mut out = [0u8; ROUND_ROOM];
     let printed = export::arduinos_round(disc, area, clock, &mut out);
     printing::output(printed, &out);
@@ -37,12 +36,7 @@ pub fn round(disc: &mut [u8; DISC_LENGTH], area: &mut [u8; AREA_LENGTH], clock: 
 
 // Rounds until no process lives, and so many at most. The clock is 0 in the first and goes on by that step. Answers how
 // many rounds they were.
-pub fn rounds(
-    disc: &mut [u8; DISC_LENGTH],
-    area: &mut [u8; AREA_LENGTH],
-    step: u32,
-    most: u16,
-) -> u16 {
+pub fn rounds(disc: &mut [u8], area: &mut [u8; AREA_LENGTH], step: u32, most: u16) -> u16 {
     let mut clock: u32 = 0;
     let mut count: u16 = 0;
     while count < most && lives(disc, area) {

@@ -16,8 +16,8 @@ use Rattle.store.specs.Layout.{countAt, dataStart, entrySize, longDisc, 
 use Rattle.store.specs.Name.{goodField, goodName, padded}
 use Rattle.store.specs.declared.Entry.{Entry}
 
--- Document 02, Q-2: "Either length is now a disc". No other definition speaks of a length in numbers, and no proof opens
--- this one but those of proofs/Checks.antt.
+-- Document 02, Q-2: "Either length is now a disc". No other definition has a disc's length in it. It is opened where the
+-- test itself is read (proofs/Checks.antt, the proof of its code) and where rows are computed, and nowhere else.
 unfoldable pub isDiscLength : ℕ → Bool
 isDiscLength n = eqb n shortDisc || eqb n longDisc
 

@@ -3,18 +3,18 @@ use crate::discs;
 use crate::print;
 use store::layout::COUNT_AT;
 use store::layout::DATA_START;
-use store::layout::DISC_LENGTH;
 use store::layout::ENTRY_SIZE;
+use store::layout::SHORT_DISC;
 
 // A store that must leave the disc as it was.
-fn refused_store(label: &[u8], disc: [u8; DISC_LENGTH], name: &[u8], data: &[u8]) {
+fn refused_store(label: &[u8], disc: [u8; SHORT_DISC], name: &[u8], data: &[u8]) {
     let mut after = disc;
     let number = discs::store(&mut after, name, data);
     printing::kept_line(label, number, &disc, &after);
 }
 
 // A retrieve into 14 bytes that must leave them as they were.
-fn refused_retrieve(label: &[u8], disc: [u8; DISC_LENGTH], name: &[u8]) {
+fn refused_retrieve(label: &[u8], disc: [u8; SHORT_DISC], name: &[u8]) {
     let mut out = [b'.'; 14];
     let number = discs::retrieve(&disc, name, &mut out);
     printing::kept_line(label, number, &[b'.'; 14], &out);
@@ -22,13 +22,13 @@ fn refused_retrieve(label: &[u8], disc: [u8; DISC_LENGTH], name: &[u8]) {
 
 // Document 01: "863 bytes store on an empty disc, 864 give 6"
 pub fn sizes() {
-    let mut disc = [0u8; DISC_LENGTH];
+    let mut disc = [0u8; SHORT_DISC];
     printing::line(
         b"store 863 bytes",
         discs::store(&mut disc, b"all", &[1u8; 863]),
     );
-    refused_store(b"store 864 bytes", [0u8; DISC_LENGTH], b"all", &[1u8; 864]);
-    refused_store(b"store no bytes", [0u8; DISC_LENGTH], b"all", b"");
+    refused_store(b"store 864 bytes", [0u8; SHORT_DISC], b"all", &[1u8; 864]);
+    refused_store(b"store no bytes", [0u8; SHORT_DISC], b"all", b"");
 }
 
 // Document 01: "files of 100, 100, 100, the second erased: 100 bytes go to 261, 101 to 461"
@@ -128,7 +128,7 @@ pub fn files_text() {
     );
     printing::line(
         b"files of an empty disc into no bytes",
-        discs::files(&[0u8; DISC_LENGTH], &mut []),
+        discs::files(&[0u8; SHORT_DISC], &mut []),
     );
 }
 
@@ -154,9 +154,9 @@ pub fn retrieved() {
 pub fn free_space() {
     printing::line(
         b"free space of an empty disc",
-        discs::free_space(&[0u8; DISC_LENGTH]),
+        discs::free_space(&[0u8; SHORT_DISC]),
     );
-    let low = discs::with([0u8; DISC_LENGTH], b"low", &[1u8; 300]);
+    let low = discs::with([0u8; SHORT_DISC], b"low", &[1u8; 300]);
     let middle = discs::with(low, b"middle", &[2u8; 400]);
     printing::line(b"free space above two files", discs::free_space(&middle));
     let full = discs::with(middle, b"high", &[3u8; 163]);

@@ -1,7 +1,7 @@
 // The operations by document 01's numbers, as the firmware sees them, and the discs that the cases start from.
 use buffer::Found;
 use store::Checked;
-use store::layout::DISC_LENGTH;
+use store::layout::SHORT_DISC;
 ghost use Prim.Native.Nat.{_<_, _≤_};
 ghost use Rattle.store.specs.Layout.{maxFiles};
 
@@ -32,31 +32,31 @@ fn erase(disc: &mut [u8], name: &[u8]) {
 }
 
 // The disc after a store, and after an erase.
-pub fn with(disc: [u8; DISC_LENGTH], name: &[u8], data: &[u8]) -> [u8; DISC_LENGTH] {
+pub fn with(disc: [u8; SHORT_DISC], name: &[u8], data: &[u8]) -> [u8; SHORT_DISC] {
     let mut after = disc;
     store(&mut after, name, data);
     after
 }
 
-pub fn without(disc: [u8; DISC_LENGTH], name: &[u8]) -> [u8; DISC_LENGTH] {
+pub fn without(disc: [u8; SHORT_DISC], name: &[u8]) -> [u8; SHORT_DISC] {
     let mut after = disc;
     erase(&mut after, name);
     after
 }
 
 // Files of 100, 100 and 100 bytes, the second erased.
-pub fn with_gap() -> [u8; DISC_LENGTH] {
-    let one = with([0u8; DISC_LENGTH], b"one", &[1u8; 100]);
+pub fn with_gap() -> [u8; SHORT_DISC] {
+    let one = with([0u8; SHORT_DISC], b"one", &[1u8; 100]);
     let two = with(one, b"two", &[2u8; 100]);
     let three = with(two, b"three", &[3u8; 100]);
     without(three, b"two")
 }
 
 // So many files of ten bytes, named a, b, c and so on.
-pub fn with_files(count: u8) -> [u8; DISC_LENGTH]
+pub fn with_files(count: u8) -> [u8; SHORT_DISC]
     requires { ⌜ count ≤ maxFiles ⌝ }
 {
-    let mut disc = [0u8; DISC_LENGTH];
+    let mut disc = [0u8; SHORT_DISC];
     let mut i: u8 = 0;
     while i < count {
         let letter = b'a' + i;
@@ -68,14 +68,14 @@ pub fn with_files(count: u8) -> [u8; DISC_LENGTH]
 }
 
 // Two files, and garbage in the eight entries beyond the count.
-pub fn with_garbage() -> [u8; DISC_LENGTH] {
+pub fn with_garbage() -> [u8; SHORT_DISC] {
     let mut disc = with_files(2);
     buffer::bytes::overwrite_at(&mut disc, 32, &[170u8; 128]);
     disc
 }
 
 // The start that the directory entry at i gives.
-pub fn start_of(disc: [u8; DISC_LENGTH], i: usize) -> i32
+pub fn start_of(disc: [u8; SHORT_DISC], i: usize) -> i32
     requires { ⌜ i < maxFiles ⌝ }
 {
     let entry = store::directory::entry_at(&disc, i);

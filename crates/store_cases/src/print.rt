@@ -1,13 +1,13 @@
 // Whether bytes are as they must be.
 use printing::text;
-use store::layout::DISC_LENGTH;
+use store::layout::SHORT_DISC;
 ghost use Prim.Native.Nat.{_+_, _≤_};
 ghost use lib.ListN.{length};
-ghost use Rattle.store.specs.Layout.{discLength};
+ghost use Rattle.store.specs.Layout.{shortDisc};
 
 // Whether the disc has these bytes from place at on.
-pub fn part_line(label: &[u8], disc: [u8; DISC_LENGTH], at: usize, bytes: &[u8])
-    requires { ⌜ at + length (now bytes) ≤ discLength ⌝ }
+pub fn part_line(label: &[u8], disc: [u8; SHORT_DISC], at: usize, bytes: &[u8])
+    requires { ⌜ at + length (now bytes) ≤ shortDisc ⌝ }
 {
     text(label);
     let end = at + bytes.len();

@@ -3,6 +3,9 @@
 use store::Answer;
 ghost use Rattle.io.specs.Counts.{Counts};
 
+// No buffer of a vector is longer.
+const LONGEST: usize = 4096;
+
 // Reads the next buffer of a vector, its length in two bytes and then its bytes, and answers the length. One that has
 // no room counts as empty.
 fn read_part(fd: i32, buf: &mut [u8]) -> usize
@@ -43,13 +46,13 @@ fn run_next(fd: i32) -> bool {
     if io::read_full(fd, &mut operation) == 0 {
         return false;
     }
-    let mut disc = [0u8; 1056];
+    let mut disc = [0u8; LONGEST];
     let disc_len = read_part(fd, &mut disc);
     let mut name = [0u8; 16];
     let name_len = read_part(fd, &mut name);
-    let mut bytes = [0u8; 1056];
+    let mut bytes = [0u8; LONGEST];
     let len = read_part(fd, &mut bytes);
-    let mut out = [0u8; 320];
+    let mut out = [0u8; LONGEST];
     let out_len = read_part(fd, &mut out);
     run(
         operation[0],

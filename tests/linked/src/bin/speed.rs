@@ -23,6 +23,7 @@ fn main() {
     let measured = measure(&rows, calls);
     println!("{REPEATS} interleaved samples of {calls} calls, ns of processor time");
     println!("ten live processes, 25 variables, ten files whose names differ in the last byte; for OPEN one file");
+    println!("on a disc of 1,024 bytes, or of 4,096 where the row says long");
     println!("| call | first: least, median | second: least, median | first / second: median (least to greatest) |");
     println!("|---|---|---|---|");
     for (row, samples) in rows.iter().zip(&measured.rows) {
@@ -51,14 +52,16 @@ impl Row {
 const TESTS: usize = 0;
 const TURN: usize = 1;
 const ROUND: usize = 4;
+const LONG_TURN: usize = 13;
 
 fn rows() -> Vec<Row> {
     let turn = Call::Turn { slot: 5, clock: 0, room: TURN_OUTPUT };
     let round = Call::Round { clock: 0, room: ROUND_OUTPUT };
     let store = Call::Store { name: b"namediffer4".to_vec(), data: vec![7; 80] };
-    let increment = full_state(&[INCREMENT], &[0, 5, 2]);
-    let set = full_state(&[SET, b'b'], &[0, 5, 2]);
-    let print = full_state(&[PRINT], &[66, 246, 230, 102, 4]);
+    let increment = full_state(SHORT_DISC, &[INCREMENT], &[0, 5, 2]);
+    let set = full_state(SHORT_DISC, &[SET, b'b'], &[0, 5, 2]);
+    let print = full_state(SHORT_DISC, &[PRINT], &[66, 246, 230, 102, 4]);
+    let long = full_state(LONG_DISC, &[INCREMENT], &[0, 5, 2]);
     vec![
         Row::new("tests alone: turn of a paused slot, refused by 16", &paused(&increment), &turn),
         Row::new("turn, INCREMENT", &increment, &turn),
@@ -71,20 +74,27 @@ fn rows() -> Vec<Row> {
         Row::new("turn, SET, a free run after each variable", &splintered(&set, false), &turn),
         Row::new("turn, SET, the same from high to low", &splintered(&set, true), &turn),
         Row::new("free space, ten files", &increment, &Call::FreeSpace),
-        Row::new("turn, OPEN of a new file of 862 bytes", &one_file(), &turn),
+        Row::new("turn, OPEN of a new file of 862 bytes", &one_file(SHORT_DISC), &turn),
+        Row::new("long: tests alone", &paused(&long), &turn),
+        Row::new("long: turn, INCREMENT", &long, &turn),
+        Row::new("long: round, ten INCREMENTs", &long, &round),
+        Row::new("long: store, nine files there", &nine_files(&long), &store),
+        Row::new("long: free space, ten files", &long, &Call::FreeSpace),
+        Row::new("long: turn, OPEN of a new file of 3,934 bytes", &one_file(LONG_DISC), &turn),
     ]
 }
 
-/// Ten files whose names differ in their last byte, ten running processes, 25 variables; every process is at the same
-/// instruction with the same stack.
-fn full_state(code: &[u8], stack: &[u8]) -> State {
-    let mut state = State::zero(SHORT_DISC);
+/// Ten files whose names differ in their last byte and that fill the disc but for a few bytes, ten running processes, 25
+/// variables; every process is at the same instruction with the same stack.
+fn full_state(disc_len: usize, code: &[u8], stack: &[u8]) -> State {
+    let mut state = State::zero(disc_len);
+    let file_len = data_bytes(&state.disc).len() / 10;
     second::format(&mut state.disc, &mut state.area).expect("the lengths are right");
     for digit in b'0'..=b'9' {
         let name = [b"namediffer".as_slice(), &[digit]].concat();
-        let mut data = vec![0; 86];
+        let mut data = vec![0; file_len];
         data[..code.len()].copy_from_slice(code);
-        second::store(&mut state.disc, &name, &data).expect("ten files of 86 bytes fit");
+        second::store(&mut state.disc, &name, &data).expect("each is a tenth of the data bytes");
         second::run(&state.disc, &mut state.area, &name).expect("there are ten slots");
     }
     fill(&mut state.area, stack);
@@ -134,15 +144,16 @@ fn nine_files(state: &State) -> State {
 
 /// Ten processes at OPEN, their program of one byte the only file, the rest of the disc not zero: the most zeros that one
 /// OPEN lays.
-fn one_file() -> State {
-    let mut state = State::zero(SHORT_DISC);
+fn one_file(disc_len: usize) -> State {
+    let mut state = State::zero(disc_len);
     second::format(&mut state.disc, &mut state.area).expect("the lengths are right");
     state.disc[DATA_START..].fill(9);
     second::store(&mut state.disc, b"p", &[OPEN]).expect("the disc is empty");
     for _ in records::all() {
         second::run(&state.disc, &mut state.area, b"p").expect("there are ten slots");
     }
-    fill(&mut state.area, &[b'n', 0, 2, 3, 3, 94, 2]);
+    let rest = (data_bytes(&state.disc).len() - 1) as u16;
+    fill(&mut state.area, &[&[b'n', 0, 2, 3], &rest.to_be_bytes()[..], &[2]].concat());
     state
 }
 
@@ -153,14 +164,18 @@ const KERNELS: [(&str, &dyn Kernel); 2] = [("first", &archive::Archive), ("secon
 
 struct Measured {
     rows: Vec<Samples>,
-    restoring: Vec<f64>,
+    /// Of a short disc and of a long one.
+    restoring: [Vec<f64>; 2],
 }
 
 /// Every repeat samples every row of both kernels, so that a slower while of the machine falls on all of them.
 fn measure(rows: &[Row], calls: usize) -> Measured {
-    let mut measured = Measured { rows: rows.iter().map(|_| Samples::default()).collect(), restoring: Vec::new() };
+    let mut measured =
+        Measured { rows: rows.iter().map(|_| Samples::default()).collect(), restoring: Default::default() };
     for repeat in 0..REPEATS {
-        measured.restoring.push(sample(&Nobody(rows[TURN].number), &rows[TURN], calls));
+        for (row, restoring) in [TURN, LONG_TURN].into_iter().zip(&mut measured.restoring) {
+            restoring.push(sample(&Nobody(rows[row].number), &rows[row], calls));
+        }
         for (row, samples) in rows.iter().zip(&mut measured.rows) {
             for index in [repeat % 2, 1 - repeat % 2] {
                 samples[index].push(sample(KERNELS[index].1, row, calls));
@@ -225,11 +240,18 @@ fn print_row(name: &str, [first, second]: &Samples) {
 /// What the restoring costs, what of a turn are its tests and how many turns a round is: medians over the repeats, each
 /// repeat by itself, so that a slower while falls on both sides.
 fn print_parts(measured: &Measured) {
-    let (restoring, typical) = (least(&measured.restoring), median(&measured.restoring));
+    let [short, long] = &measured.restoring;
     println!("disc and work area are copied afresh before each call, the output is not");
-    println!("the copying, {restoring:.0}, {typical:.0}, is in every figure above and taken off below");
+    print!(
+        "the copying, {:.0}, {:.0}, with a long disc {:.0}, {:.0}, ",
+        least(short),
+        median(short),
+        least(long),
+        median(long)
+    );
+    println!("is in every figure above and taken off below");
     for (index, (kernel, _)) in KERNELS.iter().enumerate() {
-        let of = |row: usize, repeat: usize| measured.rows[row][index][repeat] - measured.restoring[repeat];
+        let of = |row: usize, repeat: usize| measured.rows[row][index][repeat] - short[repeat];
         let over = |part: &dyn Fn(usize) -> f64| median(&(0..REPEATS).map(part).collect::<Vec<f64>>());
         let [turn, tests, round] = [TURN, TESTS, ROUND].map(|row| over(&|repeat| of(row, repeat)));
         let share = over(&|repeat| of(TESTS, repeat) / of(TURN, repeat));
