@@ -4,9 +4,9 @@
 usage: tools/float_vectors/generate.py DIR        writes DIR/stdin (the patterns, four bytes each, high byte first) and DIR/stdout (a line a pattern)
 
 A line of stdout, its fields in hex:
-    PATTERN TOCHAR TOINT ROUND FLOOR CEIL SIZE PRINT EQUALS ZERO SQRT
+    PATTERN TOCHAR TOINT ROUND FLOOR CEIL SIZE PRINT EQUALS ZERO SQRT LONG
 TOCHAR .. CEIL: the whole number as 32 bits in two's complement, and 100000000 where it is out of range.
-SIZE: OPEN's size, 1 to 863, and 0 where it is refused.
+SIZE: OPEN's size, 1 to 863, and 0 where it is refused. LONG: the same on a long disc, 1 to 3935.
 PRINT: a digit and ten: 0 nan, 1 inf, 2 -inf, 3 ovf, 4 -ovf, 5 hundredths, 6 the same with '-'.
 EQUALS: a bit for each of WHOLES, the first lowest: the value is equal to it. ZERO: 1 if the value counts as zero.
 SQRT: the pattern of the root.
@@ -90,9 +90,9 @@ def root(n):
 def patterns():
     found = [0x7F800001, 0x7FBFFFFF, 0x7FC00000, 0x7FC00001, 0x7FFFFFFF, 0xFF800001, 0xFFC00000, 0xFFFFFFFF, 0x7F800000, 0xFF800000]
     found += [0, 1, 2, 3, 0x7FFFFF, 0x800000, 0x800001, 0x7F7FFFFF]
-    sizes = [Fraction(k) for k in (1, 2, 3, 4, 5, 127, 128, 129, 255, 256, 862, 863, 864, 32766, 32767, 32768, 32769, 65535, 65536, 65537, 16777215, 16777216)]
+    sizes = [Fraction(k) for k in (1, 2, 3, 4, 5, 127, 128, 129, 255, 256, 862, 863, 864, 3934, 3935, 3936, 32766, 32767, 32768, 32769, 65535, 65536, 65537, 16777215, 16777216)]
     sizes += [Fraction(2) ** k for k in (31, 32, 33, 63, 64, 126, 127, -1, -2, -126, -127, -148)] + [Fraction(4294967040)]
-    sizes += [k + Fraction(1, 2) for k in (0, 1, 2, 3, 126, 127, 128, 863, 32766, 32767, 32768)]
+    sizes += [k + Fraction(1, 2) for k in (0, 1, 2, 3, 126, 127, 128, 863, 3935, 32766, 32767, 32768)]
     sizes += [Fraction(k, 8) for k in range(1, 32, 2)] + [1000 + Fraction(k, 8) for k in (1, 3, 5, 7)]
     sizes += [32768 + Fraction(15, 16), 128 + Fraction(15, 16), 32767 + Fraction(7, 16)]
     for x in sizes:
@@ -113,12 +113,12 @@ def patterns():
 def line(n):
     v = value(n)
     exact = None if v is None or isinstance(v, str) else (-v[1] if v[0] else v[1])
-    size = whole(v, "cut", 1, 863)
+    size, long_size = (whole(v, "cut", 1, most) for most in (863, 3935))
     kind, hundredths = printed(v)
     equals = sum(1 << i for i, z in enumerate(WHOLES) if exact is not None and exact == z)
-    return "%08X %09X %09X %09X %09X %09X %03X %X%010X %02X %X %08X" % (
+    return "%08X %09X %09X %09X %09X %09X %03X %X%010X %02X %X %08X %03X" % (
         n, whole(v, "cut", -128, 127), whole(v, "cut", -32768, 32767), whole(v, "half", -32768, 32767), whole(v, "floor", -32768, 32767),
-        whole(v, "ceil", -32768, 32767), 0 if size > 863 else size, kind, hundredths, equals, exact == 0, root(n))
+        whole(v, "ceil", -32768, 32767), 0 if size > 863 else size, kind, hundredths, equals, exact == 0, root(n), 0 if long_size > 3935 else long_size)
 
 
 def main():

@@ -22,8 +22,8 @@ fn digit(n: u64) -> u8 {
 }
 
 // The last digits of value in hex, as many as count says, from place at.
-fn put(line: &mut [u8; 89], at: usize, count: usize, value: u64)
-    requires { ⌜ at + count ≤ 89 ⌝ }
+fn put(line: &mut [u8; 93], at: usize, count: usize, value: u64)
+    requires { ⌜ at + count ≤ 93 ⌝ }
 {
     let mut rest = value;
     let mut left = count;
@@ -84,15 +84,15 @@ fn mask(x: f32) -> u64 {
     bits
 }
 
-fn write_line(line: &[u8; 89]) {
+fn write_line(line: &[u8; 93]) {
     io::write_all(1, line);
 }
 
 fn show(a: u8, b: u8, c: u8, d: u8) {
     let x = from_bytes(a, b, c, d);
     let printed = to_printed(x);
-    let mut line = [b' '; 89];
-    line[88] = b'\n';
+    let mut line = [b' '; 93];
+    line[92] = b'\n';
     put(
         &mut line,
         0,
@@ -135,6 +135,7 @@ fn show(a: u8, b: u8, c: u8, d: u8) {
     put(&mut line, 75, 2, mask(x));
     put(&mut line, 78, 1, if is_zero(x) { 1 } else { 0 });
     put(&mut line, 80, 8, to_bits(sqrt(x)) as u64);
+    put(&mut line, 89, 3, size_code(to_size(x, 3935)));
     write_line(&line);
 }
 

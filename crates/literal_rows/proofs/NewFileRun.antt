@@ -40,8 +40,8 @@ use Rattle.literal_rows.specs.NewFileExample.{NewFileExample, between, c
 
 computed : Passes (formatted .disc) (formatted .area) × (ltb 6 (length trace) ≡ true) × (ltb 5 (length (drop 7 trace)) ≡ true)
     × OpensNew 1 0 opening × NoneInterferes 1 between × Executes 1 0 59 reading
-unfolding trace events turnEvents placeIn writeLands turnsOf turnIfRunning answer otherAnswer formatAnswer storeAnswer checked isDiscLength lookup
-    index entryAt tab goodDisc goodFiles goodEntry goodField goodName besideEntry all pairs apart begins fits freeFrom
+unfolding trace events turnEvents placeIn writeLands turnsOf turnIfRunning answer otherAnswer formatAnswer storeAnswer checked
+    isDiscLength lookup index entryAt tab goodDisc goodFiles goodEntry goodField goodName besideEntry all pairs apart begins fits freeFrom
     greatest least place placeOf admission
     entered erased writtenAt goodArea goodKernel goodHeader goodProcess goodLive goodRegisters goodFile isProgram otherId goodVariables
     kernelOf kernelBytes variablesOf flat any keep ended turned carriedOut answered owned exec performs find instructionOf operatorOf

@@ -43,10 +43,10 @@ use Rattle.literal_rows.specs.Programs.{BenchOnBytes, WaitsOnBytes}
 use Rattle.literal_rows.specs.Run.{Listings, RunOnBytes}
 
 rows : RunOnBytes × Listings × AreaRows × DiscRows × LongDiscRows × BenchOnBytes × WaitsOnBytes × NewFilesOnBytes
-unfolding RunOnBytes Listings AreaRows DiscRows LongDiscRows BenchOnBytes WaitsOnBytes NewFilesOnBytes laid leftBy numbers turns answer otherAnswer
-    formatAnswer
-    storeAnswer checked isDiscLength filesAnswer fileLine lookup index entryAt tab goodDisc goodFiles goodEntry goodField goodName besideEntry all
-    pairs apart begins fits freeFrom greatest least place placeOf admission
+unfolding RunOnBytes Listings AreaRows DiscRows LongDiscRows BenchOnBytes WaitsOnBytes NewFilesOnBytes laid leftBy numbers turns
+    answer otherAnswer formatAnswer
+    storeAnswer checked isDiscLength filesAnswer fileLine lookup index entryAt tab goodDisc goodFiles goodEntry goodField goodName
+    besideEntry all pairs apart begins fits freeFrom greatest least place placeOf admission
     entered erased writtenAt readAt goodArea goodKernel goodHeader goodProcess goodLive
     goodRegisters goodFile isProgram otherId goodVariables goodVariable goodSize besideVariable kernelOf kernelBytes variablesOf flat any
     keep ended turned carriedOut answered owned freed assigned placeFor placing added exec performs find instructionOf operatorOf

@@ -4,6 +4,7 @@ use mathlib.Core.Path.{_≡_}
 use mathlib.Core.Bool.{Bool, true, not}
 use mathlib.Core.List.{List, [], _∷_, _++_}
 use lib.ListN.{replicate, set}
+use Rattle.buffer.specs.Buffer.{overwrite}
 use Rattle.buffer.specs.Lists.{all}
 use Rattle.store.specs.Directory.{goodDisc}
 use Rattle.machine.specs.Answer.{goodArea}
@@ -72,18 +73,22 @@ discBad =
 unfoldable pub DiscRows : Type 0
 DiscRows = (all discWith discGood ≡ true) × (all (λ row. not (discWith row)) discBad ≡ true)
 
--- ---- the same files on a long disc, the last one of 3,840 bytes and as many as its low byte says, from 188 on. Document
--- 02, Q-2: "data ending at 1023 or 4095"
-abbrev pub longWith : ℕ × ℕ → Bool
-longWith row = goodDisc (set (set (discBytes ++ replicate 3072 0) 47 15) (row .0) (row .1))
+-- ---- the same files on a long disc, with these bytes from that offset on. Document 02, Q-2: "data ending at 1023 or
+-- 4095"
+abbrev pub longWith : ℕ × List ℕ → Bool
+longWith row = goodDisc (overwrite (discBytes ++ replicate 3072 0) (row .0) (row .1))
 
-abbrev pub longGood : List (ℕ × ℕ)
+abbrev pub longGood : List (ℕ × List ℕ)
 longGood =
-    -- up to the last byte; less than that; by the high byte, past 1023
-    (46, 68) ∷ (46, 0) ∷ (47, 4) ∷ (47, 14) ∷ []
+    -- the length of the last file, from 188 on: up to byte 4095, and one byte less
+    (46, 68 ∷ 15 ∷ []) ∷ (46, 67 ∷ 15 ∷ []) ∷
+    -- start and length of the first: from 1024 on, and byte 4095 alone
+    (12, 0 ∷ 4 ∷ 9 ∷ 0 ∷ []) ∷ (12, 255 ∷ 15 ∷ 1 ∷ 0 ∷ []) ∷ []
 
-abbrev pub longBad : List (ℕ × ℕ)
-longBad = (46, 69) ∷ (46, 255) ∷ (47, 15) ∷ (47, 16) ∷ (47, 255) ∷ []
+abbrev pub longBad : List (ℕ × List ℕ)
+longBad =
+    (46, 69 ∷ 15 ∷ []) ∷ (46, 255 ∷ 255 ∷ []) ∷
+    (12, 255 ∷ 15 ∷ 2 ∷ 0 ∷ []) ∷ (12, 0 ∷ 16 ∷ 1 ∷ 0 ∷ []) ∷ []
 
 unfoldable pub LongDiscRows : Type 0
 LongDiscRows = (all longWith longGood ≡ true) × (all (λ row. not (longWith row)) longBad ≡ true)

@@ -40,8 +40,9 @@ rows-hold : Every cases × Every misreadings × Every waits × Every delays
 unfolding turns after single exec instructionOf operatorOf lookupOperator includes operates settle pop wellFormed trimmed same unary binary
     whole wrapped wholeBits convertedFloat numberOf textOf printedOf wholeOf lastDigits ofBits ofFields trailingZeros answer otherAnswer
     formatAnswer
-    storeAnswer checked isDiscLength lookup index entryAt tab flat goodDisc goodFiles goodEntry goodField goodName beside all pairs apart begins fits
-    freeFrom greatest least place placeOf admission entered erased writtenAt goodArea goodKernel goodHeader goodProcess otherId
+    storeAnswer checked isDiscLength lookup index entryAt tab flat goodDisc goodFiles goodEntry goodField goodName beside all pairs
+    apart begins fits freeFrom greatest least place placeOf admission entered erased writtenAt goodArea goodKernel goodHeader
+    goodProcess otherId
     goodVariables kernelOf inUse any
     keep ended turned owned freed assigned placeFor placing added assignedCells
 rows-hold = (

@@ -113,7 +113,8 @@ pub data Row : Type 0 where
   runsAt : (program clocks : List ℕ) → Result → Row
   -- n turns of the kernel alone: to the single process "fault 10 never comes"
   runsInKernel : (program : List ℕ) (n : ℕ) → Result → Row
-  -- calls on formatted buffers, the disc short or long; n bytes stored after them go to that start
+  -- calls on formatted buffers, once with a short disc and once with a long one; n bytes stored after them go to that
+  -- start
   stores : (calls : List Call) (n start : ℕ) → Row
 
 -- n turns of a program that does not look at the clock

@@ -54,7 +54,7 @@ pushed l stack = record { stack = stack; pc = l .pc; loopstart = l .loopstart }
 abbrev pub pushId : Local → ℕ → Local
 pushId l id = pushed l (push (l .stack) 2 (id / 256 ∷ id % 256 ∷ []))
 
--- the size that OPEN's new file may have: what fits between the data's start and the disc's end
+-- the size that OPEN's new file may have: what fits between the data's start and the disc's end, 863 or 3,935
 abbrev pub newFileSize : List ℕ → Number → Size
 newFileSize disc size = sizeWithin (length disc - dataStart) size
 

@@ -21,15 +21,16 @@ BothSizes = (dataBytes shortDisc ≡ 863) × (dataBytes longDisc ≡ 3935)
 abbrev pub Fitting : (disc bytes : List ℕ) → Type 0
 Fitting disc bytes = (1 ≤ length bytes) × (length bytes ≤ dataBytes (length disc))
 
--- a disc without files, whatever its other bytes, takes any file that fits, and refuses every other by 6
+-- a disc without files, whatever its other bytes, takes any file that fits under any good name, and refuses every other
+-- by 6
 abbrev pub EmptyDiscTakes : Type 0
 EmptyDiscTakes =
     (b : Buffers) (name bytes : List ℕ) → DiscLength (length (b .disc)) → filesOn (b .disc) ≡ 0 → IsName name
     → let a = answer (other (store name bytes)) b in
     (Fitting (b .disc) bytes × (a .number ≡ pos 0)) ⊎ ((Fitting (b .disc) bytes → ⊥) × (a .number ≡ negℤ (pos 6)))
 
--- "Discs already in the field are read unchanged": of every length but the new one the test says what it said, and no
--- other definition has a length in it
+-- "Discs already in the field are read unchanged": of every length but the new one the test says what document 01's
+-- said
 abbrev pub ReadAsBefore : Type 0
 ReadAsBefore = (n : ℕ) → (n ≡ longDisc → ⊥) → isDiscLength n ≡ eqb n shortDisc
 

@@ -1,4 +1,5 @@
 // What programs do with the kernel, through the functions that C calls: rounds, and what they print.
+pub mod bench;
 pub mod instructions;
 
 use machine::limits::AREA_LENGTH;

@@ -1,4 +1,5 @@
--- The tests that every operation on the disc makes first. What the test of the length says is read here and nowhere else.
+-- The tests that every operation on the disc makes first. What the test of the length says is read here
+-- and in the proof of its code, nowhere else.
 use mathlib.Core.Path.{_≡_, refl}
 use mathlib.Core.Bool.{Bool, true, false, _||_}
 use mathlib.Core.List.{List}
@@ -30,8 +31,7 @@ unfolding isDiscLength
 is-disc-length n (inl e) = rw e refl
 is-disc-length n (inr e) = rw e refl
 
--- Document 02, Q-2: "Discs already in the field are read unchanged": of every length but the new one the test says what
--- document 01's said
+-- of every length but the new one the test says what document 01's said
 pub as-before : (n : ℕ) → (n ≡ longDisc → ⊥) → isDiscLength n ≡ eqb n shortDisc
 unfolding isDiscLength
 as-before n h = rw (not-true-is-false (eqb n longDisc) (λ t. h (eqb-true n longDisc t))) (or-nothing (eqb n shortDisc))

@@ -16,8 +16,8 @@ use Rattle.store.specs.Layout.{countAt, dataStart, entrySize, longDisc, 
 use Rattle.store.specs.Name.{goodField, goodName, padded}
 use Rattle.store.specs.declared.Entry.{Entry}
 
--- Document 02, Q-2: "Either length is now a disc". No other definition has a disc's length in it. It is opened where the
--- test itself is read (proofs/Checks.antt, the proof of its code) and where rows are computed, and nowhere else.
+-- Document 02, Q-2: "Either length is now a disc". Nothing else that an answer is made of has a disc's length in it. It
+-- is opened where the test itself is read (proofs/Checks.antt, the proof of its code) and where rows are computed.
 unfoldable pub isDiscLength : ℕ → Bool
 isDiscLength n = eqb n shortDisc || eqb n longDisc
 

@@ -22,7 +22,8 @@ abbrev pub unless : {A : Type 0} → Bool → A → A → A
 unless true refusal rest = rest
 unless false refusal rest = refusal
 
--- Document 01: "data length 0 or above 863" is refused: what does not fit between 161 and the disc's end
+-- Document 01: "data length 0 or above 863" is refused, by Q-2 "863 or 3,935": what does not fit between 161 and the
+-- disc's end
 abbrev pub goodSize : List ℕ → ℕ → Bool
 goodSize disc n = leb 1 n && leb n (length disc - dataStart)
 

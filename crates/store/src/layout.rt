@@ -1,4 +1,4 @@
-// The disc in numbers; specs/Layout.antt has the sentences of document 01.
+// The disc in numbers; specs/Layout.antt has the sentences of documents 01 and 02.
 pub const SHORT_DISC: usize = 1024;
 
 pub const LONG_DISC: usize = 4096;

@@ -3,7 +3,7 @@
 use crate::arguments;
 use crate::call::{Call, State};
 use crate::comparison::{Compared, Comparison};
-use crate::programs::{hoarder, program, writer, Reach};
+use crate::programs::{hoarder, long_program, program, writer, Reach};
 use crate::random::Random;
 use crate::sequences::step;
 use crate::tracking::{Step, Tracking};
@@ -22,15 +22,19 @@ enum Fed {
 /// The name of the process's program; neighbours know it too, so that some of them write into it.
 const PROGRAM: &[u8] = b"worker0";
 
-/// Two runs of one program among different neighbours, on discs of any length; all that the process shows must be equal
-/// in both.
+/// Two runs of one program among different neighbours, each on a disc of either length; all that the process shows must
+/// be equal in both.
 pub fn compare_pair(comparison: &mut Comparison, unit: u64) -> Compared<()> {
     let mut random = comparison.begin("pairs", unit);
     let (limit, length) = (random.between(10, 90), random.between(10, 50));
-    let code = program(Reach::Alone, limit, &mut random);
+    let discs = [0; 2].map(|_| *random.pick(&[SHORT_DISC, LONG_DISC]));
+    let code = match random.below(4) {
+        0 => long_program(discs[0].min(discs[1]) / 2, &mut random),
+        _ => program(Reach::Alone, limit, &mut random),
+    };
     let fed: Vec<Fed> = (0..length).map(|_| any_fed(&mut random)).collect();
-    let one = run_among(comparison, &code, &fed, &mut random)?;
-    let other = run_among(comparison, &code, &fed, &mut random)?;
+    let one = run_among(comparison, discs[0], &code, &fed, &mut random)?;
+    let other = run_among(comparison, discs[1], &code, &fed, &mut random)?;
     let (Some(one), Some(other)) = (one, other) else {
         comparison.coverage.reach("pair, a supposition was broken");
         return Ok(());
@@ -40,6 +44,9 @@ pub fn compare_pair(comparison: &mut Comparison, unit: u64) -> Compared<()> {
         return Err(comparison.broken(text));
     }
     comparison.coverage.reach("pair, equal in both runs");
+    if discs[0] != discs[1] {
+        comparison.coverage.reach("pair, equal on discs of both lengths");
+    }
     Ok(())
 }
 
@@ -55,16 +62,12 @@ fn any_fed(random: &mut Random) -> Fed {
 /// A run of the process among random neighbours: the steps it takes, or none if a supposition was broken.
 fn run_among(
     comparison: &mut Comparison,
+    disc_len: usize,
     code: &[u8],
     fed: &[Fed],
     random: &mut Random,
 ) -> Compared<Option<Vec<Step>>> {
-    let mut run = Run {
-        state: State::zero(*random.pick(&[SHORT_DISC, LONG_DISC])),
-        tracking: Tracking::default(),
-        id: 0,
-        random,
-    };
+    let mut run = Run { state: State::zero(disc_len), tracking: Tracking::default(), id: 0, random };
     run.tracking.call(comparison, &mut run.state, &Call::Format)?;
     let store = Call::Store { name: PROGRAM.to_vec(), data: code.to_vec() };
     run.tracking.call(comparison, &mut run.state, &store)?;

@@ -62,57 +62,52 @@ pub fn compare_case(comparison: &mut Comparison, case: &Case, index: u64) -> Com
 }
 
 fn compare_on(comparison: &mut Comparison, case: &Case, disc_len: usize) -> Compared<()> {
-    let mut state = State::zero(disc_len);
-    let mut output = None;
-    let mut answered = Answered { number: 0, output: Vec::new() };
+    let answered = Answered { number: 0, output: Vec::new() };
+    let mut trial = Trial { state: State::zero(disc_len), output: None, answered };
     for (number, line) in &case.lines {
-        match line {
-            Line::Length { disc, length } => buffer_of(&mut state, *disc).resize(*length, 0),
-            Line::Set { disc, at, bytes } => {
-                buffer_of(&mut state, *disc)[*at..at + bytes.len()].copy_from_slice(bytes);
-            }
-            Line::Output(bytes) => output = Some(bytes.clone()),
-            Line::Call { call, number: expected } => {
-                let lent = output.take().unwrap_or_else(|| vec![OUTPUT_BYTE; call.room()]);
-                answered = comparison.call_with_output(&mut state, call, lent)?;
-                if answered.number != *expected {
-                    return Err(wrong(
-                        comparison,
-                        case,
-                        disc_len,
-                        *number,
-                        format!("{call} answers {}", answered.number),
-                    ));
-                }
-            }
-            Line::Expect { buffer, at, bytes } => {
-                let found = match buffer {
-                    Buffer::Disc => &state.disc,
-                    Buffer::Area => &state.area,
-                    Buffer::Output => &answered.output,
-                };
-                let found = found.get(*at..at + bytes.len()).unwrap_or(&[]);
-                if found != bytes {
-                    return Err(wrong(comparison, case, disc_len, *number, format!("found {}", literal(found))));
-                }
-            }
+        if let Some(what) = trial.step(comparison, line)? {
+            let place = format!("# case {} on a disc of {disc_len}, line {number}", case.name);
+            return Err(comparison.broken(format!("{place}: both kernels differ from the case: {what}")));
         }
     }
     comparison.coverage.reach("cases held");
     Ok(())
 }
 
-fn wrong(
-    comparison: &Comparison,
-    case: &Case,
-    disc_len: usize,
-    line: usize,
-    what: String,
-) -> Box<crate::comparison::Difference> {
-    comparison.broken(format!(
-        "# case {} on a disc of {disc_len}, line {line}: both kernels differ from the case: {what}",
-        case.name
-    ))
+/// A case under way: the buffers, the next call's output if it is given, what the last call answered.
+struct Trial {
+    state: State,
+    output: Option<Vec<u8>>,
+    answered: Answered,
+}
+
+impl Trial {
+    /// Does what a line says; returns what was found where that is not what it expects.
+    fn step(&mut self, comparison: &mut Comparison, line: &Line) -> Compared<Option<String>> {
+        match line {
+            Line::Length { disc, length } => buffer_of(&mut self.state, *disc).resize(*length, 0),
+            Line::Set { disc, at, bytes } => {
+                buffer_of(&mut self.state, *disc)[*at..at + bytes.len()].copy_from_slice(bytes);
+            }
+            Line::Output(bytes) => self.output = Some(bytes.clone()),
+            Line::Call { call, number } => {
+                let lent = self.output.take().unwrap_or_else(|| vec![OUTPUT_BYTE; call.room()]);
+                self.answered = comparison.call_with_output(&mut self.state, call, lent)?;
+                let found = self.answered.number;
+                return Ok((found != *number).then(|| format!("{call} answers {found}")));
+            }
+            Line::Expect { buffer, at, bytes } => {
+                let found = match buffer {
+                    Buffer::Disc => &self.state.disc,
+                    Buffer::Area => &self.state.area,
+                    Buffer::Output => &self.answered.output,
+                };
+                let found = found.get(*at..at + bytes.len()).unwrap_or(&[]);
+                return Ok((found != bytes).then(|| format!("found {}", literal(found))));
+            }
+        }
+        Ok(None)
+    }
 }
 
 fn buffer_of(state: &mut State, disc: bool) -> &mut Vec<u8> {

@@ -111,14 +111,14 @@ impl Coverage {
     /// The tables of both lengths, and the named situations.
     pub fn text(&self) -> String {
         let [short, long] = &self.tables;
-        let mut text = format!("discs of 1,024 bytes\n{}\ndiscs of 4,096 bytes\n{}\n", short.text(), long.text());
+        let mut text = format!("discs of 1,024 bytes or less\n{}\nlonger discs\n{}\n", short.text(), long.text());
         text.extend(self.reached.iter().map(|(name, count)| format!("{name}: {count}\n")));
         text
     }
 
     /// What should have been reached on a disc of one length or the other and was not, or was and should not.
     pub fn holes(&self) -> Vec<String> {
-        let lengths = ["1,024", "4,096"].iter().zip(&self.tables);
+        let lengths = ["up to 1,024", "above 1,024"].iter().zip(&self.tables);
         lengths
             .flat_map(|(length, tables)| tables.holes().into_iter().map(move |hole| format!("{length}: {hole}")))
             .collect()

@@ -130,7 +130,7 @@ const AREA_DAMAGES: [(&str, Change); 37] = [
 ];
 
 /// Changes that keep a state good: the last value allowed, or garbage in an unread place.
-const EDGES: [(&str, Change); 17] = [
+const EDGES: [(&str, Change); 19] = [
     ("PC at the code length", |s, r| live(s, r, |s, at, _| copy(&mut s.area, at + CODE_LENGTH, at + PC, 2))),
     ("loop at the code length", |s, r| live(s, r, |s, at, _| copy(&mut s.area, at + CODE_LENGTH, at + LOOP_PC, 2))),
     ("no loop", |s, r| live(s, r, |s, at, _| set(&mut s.area, at + LOOP_PC, NO_LOOP))),
@@ -199,14 +199,12 @@ const EDGES: [(&str, Change); 17] = [
                 && put_end(s, VARIABLES, 200)
         })
     }),
-    ("file end where the disc ends", |s, _| {
-        s.disc[..FILE_COUNT].fill(0);
-        s.disc[FILE_COUNT] = 1;
-        s.disc[..11].fill(b'z');
-        records::all().for_each(|at| s.area[at + STATE] = ENDED);
-        s.area[VARIABLE_COUNT] = 0;
-        let data = data_bytes(&s.disc);
-        set(&mut s.disc, ENTRY_LENGTH, data.len()) && set(&mut s.disc, ENTRY_START, data.start)
+    ("file end where the disc ends", |s, _| fill_disc(s)),
+    ("PC, loop and offset at the disc's end", |s, r| {
+        fill_disc(s) && run_all_of_it(s, records::record(r.below(MAX_PROCESSES)), s.disc.len() - DATA_START)
+    }),
+    ("PC and offset at the disc's last byte", |s, r| {
+        fill_disc(s) && run_all_of_it(s, records::record(r.below(MAX_PROCESSES)), s.disc.len() - DATA_START - 1)
     }),
 ];
 
@@ -301,8 +299,8 @@ pub fn compare_flips(comparison: &mut Comparison, units: u64) -> Compared<()> {
 }
 
 /// Lengths that no disc has.
-const WRONG_DISCS: [usize; 15] =
-    [0, 1, 16, 160, 161, 1023, 1025, 1056, 2048, 3072, 4095, 4097, 5120, 8192, 65_536 + SHORT_DISC];
+const WRONG_DISCS: [usize; 16] =
+    [0, 1, 16, 160, 161, 1023, 1025, 1056, 2048, 3072, 4095, 4097, 5120, 8192, 65_536 + SHORT_DISC, 65_536 + LONG_DISC];
 
 /// Buffers of the wrong length, one or both, good or damaged inside.
 pub fn compare_lengths(comparison: &mut Comparison, units: u64) -> Compared<()> {
@@ -325,6 +323,29 @@ pub fn compare_lengths(comparison: &mut Comparison, units: u64) -> Compared<()> 
         }
     }
     Ok(())
+}
+
+/// One file over all data bytes, and no process.
+fn fill_disc(state: &mut State) -> bool {
+    let data = data_bytes(&state.disc);
+    state.disc[..FILE_COUNT].fill(0);
+    state.disc[FILE_COUNT] = 1;
+    state.disc[..11].fill(b'z');
+    records::all().for_each(|at| state.area[at + STATE] = ENDED);
+    state.area[VARIABLE_COUNT] = 0;
+    set(&mut state.disc, ENTRY_LENGTH, data.len()) && set(&mut state.disc, ENTRY_START, data.start)
+}
+
+/// A process that runs the only file and has it open, everything at this place in it.
+fn run_all_of_it(state: &mut State, at: usize, place: usize) -> bool {
+    let length = state.disc.len() - DATA_START;
+    let fields = [(ID, 1), (CODE_START, DATA_START), (CODE_LENGTH, length), (PC, place), (LOOP_PC, place)];
+    let file = [(FILE_START, DATA_START), (FILE_LENGTH, length), (FILE_OFFSET, place)];
+    state.area[at..at + RECORD_LEN].fill(0);
+    state.area[at..at + 11].fill(b'z');
+    state.area[at + STATE] = RUNNING;
+    fields.iter().chain(&file).for_each(|&(field, value)| set_word(&mut state.area, at + field, value));
+    set(&mut state.area, NEXT_ID, 2)
 }
 
 fn put(buffer: &mut [u8], at: usize, byte: u8) -> bool {

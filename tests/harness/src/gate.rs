@@ -36,7 +36,7 @@ const STATES: u64 = 2600;
 const PAIRS: u64 = 1000;
 
 /// What must have been reached, at least, in one pass, beside the tables.
-const NEEDED: [(&str, u64); 55] = [
+const NEEDED: [(&str, u64); 61] = [
     ("format, bytes behind 1023 that were not 0", 1),
     ("store, more than 863 bytes", 1),
     ("store, 3,935 bytes", 1),
@@ -54,6 +54,11 @@ const NEEDED: [(&str, u64); 55] = [
     ("OPEN, a new file of more than 863 bytes", 1),
     ("WRITE behind 1023", 1),
     ("file offset above 863", 1),
+    ("turn, PC at 3,935", 1),
+    ("turn, loop at 3,935", 1),
+    ("turn, file offset at 3,935", 1),
+    ("single process, PC above 863", 1),
+    ("single process, loop above 863", 1),
     ("store, a lower run fits that is longer", 1),
     ("store, two of the shortest runs", 1),
     ("store, the shortest run is longer than needed", 1),
@@ -91,6 +96,7 @@ const NEEDED: [(&str, u64); 55] = [
     ("single process, let go, a write lands", 1),
     ("single process, let go, SET lacks space", 1),
     ("pair, equal in both runs", 100),
+    ("pair, equal on discs of both lengths", 100),
     ("pair, a supposition was broken", 5),
 ];
 

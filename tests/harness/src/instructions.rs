@@ -9,7 +9,7 @@ use crate::values::{bytes_of, float_bits, Context, Kind, FLOAT_EDGES, KINDS};
 use second::instruction::*;
 use second::layout::*;
 use second::number::{operator, Operator};
-use second::variables;
+use second::{directory, variables};
 
 /// How high a stack stands: on nothing, up to 32, or anywhere.
 #[derive(Clone, Copy, PartialEq, Eq)]
@@ -63,7 +63,12 @@ pub fn compare_taken(comparison: &mut Comparison, unit: u64) -> Compared<()> {
 /// OPEN of a file that is not there, of sizes at every edge: the longest free run, the data bytes of either disc.
 pub fn compare_sizes(comparison: &mut Comparison, unit: u64) -> Compared<()> {
     let mut random = comparison.begin("sizes", unit);
-    let (mut state, record) = running_state(disc_len(unit), &mut random);
+    let (mut state, record) = loop {
+        let (state, record) = running_state(disc_len(unit), &mut random);
+        if directory::count(&state.disc) < MAX_FILES {
+            break (state, record);
+        }
+    };
     let free = second::free_space(&state.disc).unwrap_or(0) as u16;
     for size in [0, 1, free, free + 1, 863, 864, 3935, 3936] {
         let fraction = random.below(8) as f32 / 8.0;

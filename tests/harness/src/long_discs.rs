@@ -6,6 +6,7 @@ use crate::comparison::Outcome;
 use crate::coverage::opcode_at;
 use second::instruction::{ENDLOOP, LOOP, OPEN, WRITE};
 use second::layout::*;
+use second::single::View;
 use second::{directory, records};
 
 /// The data bytes of a disc of 1,024 bytes, and of one of 4,096.
@@ -27,6 +28,19 @@ pub fn situations(call: &Call, answer: u8, before: &State, after: &Outcome) -> V
         (Call::Turn { slot, .. }, 0) => of_turn(records::record(*slot as usize), before, &after.state),
         _ => Vec::new(),
     };
+    holding(tried)
+}
+
+/// The situations of a process that is equal to its single process.
+pub fn of_held(view: &View) -> Vec<&'static str> {
+    let loop_above = view.loop_pc != NO_LOOP && view.loop_pc > SHORT_DATA;
+    holding(vec![
+        ("single process, PC above 863", view.pc > SHORT_DATA),
+        ("single process, loop above 863", loop_above),
+    ])
+}
+
+fn holding(tried: Vec<Tried>) -> Vec<&'static str> {
     tried.into_iter().filter(|(_, holds)| *holds).map(|(name, _)| name).collect()
 }
 
@@ -74,5 +88,8 @@ fn of_turn(record: usize, before: &State, after: &State) -> Vec<Tried> {
         ("OPEN, a new file of more than 863 bytes", at(OPEN) && created && left(FILE_LENGTH) > SHORT_DATA),
         ("WRITE behind 1023", at(WRITE) && lives && field(FILE_START) + field(FILE_OFFSET) >= SHORT_DISC),
         ("file offset above 863", lives && left(FILE_OFFSET) > SHORT_DATA),
+        ("turn, PC at 3,935", field(PC) == LONG_DATA),
+        ("turn, loop at 3,935", field(LOOP_PC) == LONG_DATA),
+        ("turn, file offset at 3,935", field(FILE_LENGTH) > 0 && field(FILE_OFFSET) == LONG_DATA),
     ]
 }

@@ -60,17 +60,24 @@ pub fn filling(reach: Reach, length: usize, random: &mut Random) -> Vec<u8> {
     code
 }
 
-/// A program of about that length that runs on through all of it: no STOP before its end.
-pub fn long_program(reach: Reach, length: usize, random: &mut Random) -> Vec<u8> {
-    let mut writer = Writer { code: Vec::new(), set: Vec::new(), reach, random };
-    while writer.code.len() < length {
-        if writer.random.chance(1, 8) {
-            writer.code.push(LOOP);
+/// A program of about that length that meets no fault, for a process by itself: it jumps over bytes that are never
+/// executed, keeps a LOOP now and then, prints a letter and goes back from its end.
+pub fn long_program(length: usize, random: &mut Random) -> Vec<u8> {
+    let mut code = Vec::new();
+    while code.len() < length {
+        match random.below(4) {
+            0 => code.push(LOOP),
+            1 => code.extend([CHAR, random.between(33, 126) as u8, PRINT]),
+            _ => {
+                let skipped = random.between(100, 255);
+                code.extend([CHAR, 1, ELSE, skipped as u8]);
+                code.extend(random.bytes(skipped));
+                code.push(ENDIF);
+            }
         }
-        writer.print_number();
     }
-    writer.code.push(ENDLOOP);
-    writer.code
+    code.extend([LOOP, MILLIS, PRINTLN, ENDLOOP]);
+    code
 }
 
 /// Program text so far, and the variables that it has surely set.

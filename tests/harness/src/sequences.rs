@@ -46,15 +46,15 @@ fn file_name(random: &mut Random) -> Vec<u8> {
     random.pick(&NAMES).as_bytes().to_vec()
 }
 
-/// Programs that leave room for others; now and then one so long that PC, loop and jumps go far.
+/// Programs that leave room for others; now and then one that takes a third of the disc.
 fn file_data(disc: &[u8], random: &mut Random) -> Vec<u8> {
     let length = random.between(20, 100);
     match random.below(9) {
-        8 => long_program(Reach::Alone, disc.len() / 3, random),
         0 => DOWN.to_vec(),
         1 => random.bytes(length),
         2..=4 => program(Reach::Alone, length, random),
-        _ => program(Reach::Everything, length, random),
+        5..=7 => program(Reach::Everything, length, random),
+        _ => long_program(disc.len() / 3, random),
     }
 }
 

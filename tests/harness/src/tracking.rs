@@ -5,6 +5,7 @@
 use crate::call::{Call, State};
 use crate::comparison::{Answered, Compared, Comparison};
 use crate::coverage::opcode_at;
+use crate::long_discs;
 use second::fault::Fault;
 use second::instruction::*;
 use second::layout::*;
@@ -232,6 +233,8 @@ impl Tracking {
         if refused == 0 {
             self.check(comparison, index, after)?;
             comparison.coverage.reach("single process, turns and commands held");
+            let view = self.held[index].single.view();
+            long_discs::of_held(&view).into_iter().for_each(|name| comparison.coverage.reach(name));
         } else {
             comparison.coverage.reach(&format!("single process, refused {refused}"));
         }

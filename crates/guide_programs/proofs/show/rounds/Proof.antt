@@ -1,11 +1,13 @@
--- `guide_programs::show::rounds` is safe and ends: the measure is how many rounds may still come.
+-- `guide_programs::show::rounds` is safe and ends: the measure is how many rounds may still come. The disc keeps its length.
 use Prim.Native.Nat.{_-_, _≤_}
+use mathlib.Core.Path.{_≡_}
+use lib.ListN.{length}
 use borrow.Author.Needs.{needs}
 use Rattle.guide_programs.proofs.show.rounds.Statement.{statement}
 use Rattle.guide_programs.proofs.show.rounds.Tie as tie
 
 abbrev Inv-loop : tie.InvT-loop
-Inv-loop disc₀ area₀ count₀ disc area count = count ≤ 1000
+Inv-loop disc₀ area₀ count₀ disc area count = (count ≤ 1000) × (length disc ≡ length disc₀)
 
 abbrev μ-loop : tie.MeasureT-loop
 μ-loop disc₀ area₀ count₀ disc area count = 1000 - count
@@ -20,6 +22,8 @@ rounds-spec =
     (λ c κs. search needs)
     (λ c κs. search needs)
     (λ c κs. search needs)
+    (λ c. search needs)
+    (λ c. search needs)
     (λ c. search needs)
     (λ c. search needs)
     (λ c. search needs)

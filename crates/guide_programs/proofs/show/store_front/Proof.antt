@@ -12,4 +12,5 @@ store-front-spec =
     (λ c. front _ _ (c .before .before .before .if1 .taken))
     (λ c κs. search needs)
     (λ c. search needs)
+    (λ c. search needs)
     (λ c. search needs))
