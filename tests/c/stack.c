@@ -1,5 +1,5 @@
 /*
- * How much C stack each function of the kernel uses: the most over the calls below.
+ * How much C stack each function of the kernel uses: the most over the calls below, on discs of both lengths.
  *
  * stack    prints a table: function, calls made, bytes
  *
@@ -33,8 +33,8 @@ static const char *const names[COUNT] = {
     "run", "suspend", "resume", "kill", "list", "turn", "round"
 };
 
-static uint8_t disc[ARDUINOS_DISC_SIZE], area[ARDUINOS_AREA_SIZE], out[ARDUINOS_MAX_DATA];
-static size_t disc_length = sizeof disc, area_length = sizeof area, out_length = sizeof out;
+static uint8_t disc[ARDUINOS_LONG_DISC_SIZE], area[ARDUINOS_AREA_SIZE], out[ARDUINOS_LONG_MAX_DATA];
+static size_t disc_length, area_length = sizeof area, out_length = sizeof out;
 
 /* The call to be made. */
 static enum operation operation;
@@ -266,9 +266,20 @@ static void run_every_byte(const struct prefix *prefix)
     }
 }
 
+static void run_on(size_t length)
+{
+    disc_length = length;
+    for (size_t i = 0; i < program_count; i++)
+        run_program(&programs[i]);
+    run_program(&parent);
+    for (size_t i = 0; i < prefix_count; i++)
+        run_every_byte(&prefixes[i]);
+}
+
 int main(void)
 {
     /* Once uncounted: what the C library does when one of its functions is first called is not the kernel's. */
+    disc_length = ARDUINOS_DISC_SIZE;
     run_program(&programs[0]);
     memset(deepest, 0, sizeof deepest);
     memset(calls, 0, sizeof calls);
@@ -276,11 +287,8 @@ int main(void)
     operation = NOTHING;
     own_frames = depth();
 
-    for (size_t i = 0; i < program_count; i++)
-        run_program(&programs[i]);
-    run_program(&parent);
-    for (size_t i = 0; i < prefix_count; i++)
-        run_every_byte(&prefixes[i]);
+    run_on(ARDUINOS_DISC_SIZE);
+    run_on(ARDUINOS_LONG_DISC_SIZE);
 
     printf("%-12s %8s %8s\n", "function", "calls", "bytes");
     for (int i = 0; i < COUNT; i++)

@@ -36,15 +36,15 @@ fn put_word(bytes: &mut [u8], at: usize, n: usize) {
     bytes[at + 1] = (n >> 8) as u8;
 }
 
-/// Files whose names differ in their last byte alone, on a disc of that length.
+/// Files whose names differ in their last byte alone, on a disc of that length; the last of ten ends where the disc does.
 fn disc_of(files: usize, length: usize) -> Vec<u8> {
     let mut disc = vec![0u8; length];
     for i in 0..files {
         let e = &mut disc[i * 16..i * 16 + 16];
         e[..11].copy_from_slice(b"abcdefghijk");
         e[10] = b'k' + i as u8;
-        put_word(e, 12, 161 + i * 86);
-        put_word(e, 14, 60 + i);
+        put_word(e, 12, length - (files - i) * ((length - 161) / 10));
+        put_word(e, 14, (length - 161) / 10 - 9 + i);
     }
     disc[160] = files as u8;
     disc

@@ -14,6 +14,9 @@ use float::whole::Whole;
 use float::whole::to_size;
 use float::whole::to_whole;
 
+// A line's bytes, its newline the last.
+const LINE: usize = 93;
+
 const WHOLES: [i32; 8] = [0, 1, -1, 32767, -32768, 16777217, 2147483647, -2147483648];
 
 fn digit(n: u64) -> u8 {
@@ -22,7 +25,7 @@ fn digit(n: u64) -> u8 {
 }
 
 // The last digits of value in hex, as many as count says, from place at.
-fn put(line: &mut [u8; 93], at: usize, count: usize, value: u64)
+fn put(line: &mut [u8; LINE], at: usize, count: usize, value: u64)
     requires { ⌜ at + count ≤ 93 ⌝ }
 {
     let mut rest = value;
@@ -84,58 +87,44 @@ fn mask(x: f32) -> u64 {
     bits
 }
 
-fn write_line(line: &[u8; 93]) {
+fn write_line(line: &[u8; LINE]) {
     io::write_all(1, line);
+}
+
+// The whole numbers that x becomes, each for a type's greatest.
+fn put_wholes(line: &mut [u8; LINE], x: f32) {
+    let to_char = to_whole(x, Rounding::TowardZero, 127);
+    let to_int = to_whole(x, Rounding::TowardZero, 32767);
+    let rounded = to_whole(x, Rounding::HalfAway, 32767);
+    let floor = to_whole(x, Rounding::Down, 32767);
+    let ceil = to_whole(x, Rounding::Up, 32767);
+    put(line, 9, 9, whole_code(to_char));
+    put(line, 19, 9, whole_code(to_int));
+    put(line, 29, 9, whole_code(rounded));
+    put(line, 39, 9, whole_code(floor));
+    put(line, 49, 9, whole_code(ceil));
+}
+
+// The sizes of a new file on a disc of either length, and the text.
+fn put_others(line: &mut [u8; LINE], x: f32) {
+    let printed = to_printed(x);
+    put(line, 59, 3, size_code(to_size(x, 863)));
+    put(line, 63, 1, print_kind(printed));
+    put(line, 64, 10, print_amount(printed));
+    put(line, 75, 2, mask(x));
+    put(line, 78, 1, if is_zero(x) { 1 } else { 0 });
+    put(line, 80, 8, to_bits(sqrt(x)) as u64);
+    put(line, 89, 3, size_code(to_size(x, 3935)));
 }
 
 fn show(a: u8, b: u8, c: u8, d: u8) {
     let x = from_bytes(a, b, c, d);
-    let printed = to_printed(x);
-    let mut line = [b' '; 93];
-    line[92] = b'\n';
-    put(
-        &mut line,
-        0,
-        8,
-        (((a as u64) * 256 + (b as u64)) * 256 + (c as u64)) * 256 + (d as u64),
-    );
-    put(
-        &mut line,
-        9,
-        9,
-        whole_code(to_whole(x, Rounding::TowardZero, 127)),
-    );
-    put(
-        &mut line,
-        19,
-        9,
-        whole_code(to_whole(x, Rounding::TowardZero, 32767)),
-    );
-    put(
-        &mut line,
-        29,
-        9,
-        whole_code(to_whole(x, Rounding::HalfAway, 32767)),
-    );
-    put(
-        &mut line,
-        39,
-        9,
-        whole_code(to_whole(x, Rounding::Down, 32767)),
-    );
-    put(
-        &mut line,
-        49,
-        9,
-        whole_code(to_whole(x, Rounding::Up, 32767)),
-    );
-    put(&mut line, 59, 3, size_code(to_size(x, 863)));
-    put(&mut line, 63, 1, print_kind(printed));
-    put(&mut line, 64, 10, print_amount(printed));
-    put(&mut line, 75, 2, mask(x));
-    put(&mut line, 78, 1, if is_zero(x) { 1 } else { 0 });
-    put(&mut line, 80, 8, to_bits(sqrt(x)) as u64);
-    put(&mut line, 89, 3, size_code(to_size(x, 3935)));
+    let pattern = (((a as u64) * 256 + (b as u64)) * 256 + (c as u64)) * 256 + (d as u64);
+    let mut line = [b' '; LINE];
+    put(&mut line, 0, 8, pattern);
+    put_wholes(&mut line, x);
+    put_others(&mut line, x);
+    line[LINE - 1] = b'\n';
     write_line(&line);
 }
 

@@ -1,5 +1,5 @@
 -- One byte of the run's work area or disc changed: document 01's clauses of goodness, and the bytes that are free.
-use Prim.Native.Nat.{ℕ}
+use Prim.Native.Nat.{ℕ, _-_}
 use mathlib.Core.Path.{_≡_}
 use mathlib.Core.Bool.{Bool, true, not}
 use mathlib.Core.List.{List, [], _∷_, _++_}
@@ -7,6 +7,7 @@ use lib.ListN.{replicate, set}
 use Rattle.buffer.specs.Buffer.{overwrite}
 use Rattle.buffer.specs.Lists.{all}
 use Rattle.store.specs.Directory.{goodDisc}
+use Rattle.store.specs.Layout.{longDisc, shortDisc}
 use Rattle.machine.specs.Answer.{goodArea}
 use Rattle.literal_rows.specs.Run.{areaBytes, discBytes}
 
@@ -76,7 +77,7 @@ DiscRows = (all discWith discGood ≡ true) × (all (λ row. not (discWith row))
 -- ---- the same files on a long disc, with these bytes from that offset on. Document 02, Q-2: "data ending at 1023 or
 -- 4095"
 abbrev pub longWith : ℕ × List ℕ → Bool
-longWith row = goodDisc (overwrite (discBytes ++ replicate 3072 0) (row .0) (row .1))
+longWith row = goodDisc (overwrite (discBytes ++ replicate (longDisc - shortDisc) 0) (row .0) (row .1))
 
 abbrev pub longGood : List (ℕ × List ℕ)
 longGood =

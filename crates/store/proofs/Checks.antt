@@ -21,13 +21,13 @@ use Rattle.store.specs.declared.Refusal.the-variants.{WrongLength, BadDi
 use Rattle.store.proofs.Goodness.{good-disc-is}
 
 pub disc-length-is : (n : ℕ) → isDiscLength n ≡ true → DiscLength n
-unfolding isDiscLength
+unfolding isDiscLength DiscLength
 disc-length-is n e =
     ⊎-elim (λ t. inl (eqb-true n shortDisc t)) (λ t. inr (eqb-true n longDisc t))
     (or-cases (eqb n shortDisc) (eqb n longDisc) e)
 
 pub is-disc-length : (n : ℕ) → DiscLength n → isDiscLength n ≡ true
-unfolding isDiscLength
+unfolding isDiscLength DiscLength
 is-disc-length n (inl e) = rw e refl
 is-disc-length n (inr e) = rw e refl
 
@@ -46,6 +46,7 @@ pub record DiscBounds (n : ℕ) : Type 0 where
   pub high : n ≤ 65535
 
 pub disc-bounds : (n : ℕ) → isDiscLength n ≡ true → DiscBounds n
+unfolding DiscLength
 disc-bounds n e = go (disc-length-is n e)
   where
     go : DiscLength n → DiscBounds n

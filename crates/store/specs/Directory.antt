@@ -21,8 +21,8 @@ use Rattle.store.specs.declared.Entry.{Entry}
 unfoldable pub isDiscLength : ℕ → Bool
 isDiscLength n = eqb n shortDisc || eqb n longDisc
 
--- the same as a statement
-abbrev pub DiscLength : ℕ → Type 0
+-- the same as a statement, opened as seldom
+unfoldable pub DiscLength : ℕ → Type 0
 DiscLength n = (n ≡ shortDisc) ⊎ (n ≡ longDisc)
 
 -- Document 01: "Ten directory entries of 16 bytes from 0: name 12, start 2, length 2."

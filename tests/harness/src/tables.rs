@@ -5,7 +5,7 @@ use second::instruction::{DELAYUNTIL, WAITUNTILDONE};
 use std::collections::BTreeMap;
 
 /// The refusals that each operation can give, read off document 01.
-pub const REFUSALS: [&[u8]; 14] = [
+const REFUSALS: [&[u8]; 14] = [
     &[1],
     &[1],
     &[1, 2, 5, 6, 7, 8, 9],
@@ -24,7 +24,7 @@ pub const REFUSALS: [&[u8]; 14] = [
 
 /// Each built instruction and the faults that it can meet, thought out from document 01:
 /// arguments give 2; pops give 5 and 6, a raw byte only 5; longer results and pushes give 4; jumps give 3.
-pub const INSTRUCTIONS: [(u8, &str, &[u8]); 60] = [
+const INSTRUCTIONS: [(u8, &str, &[u8]); 60] = [
     (1, "CHAR", &[2, 4]),
     (2, "INT", &[2, 4]),
     (3, "STRING", &[2, 4]),

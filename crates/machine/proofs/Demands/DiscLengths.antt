@@ -1,17 +1,22 @@
--- What an empty disc of either length takes: the tests of *store*, one after another.
-use Prim.Native.Nat.{ℕ, _+_, _≤_, _<_}
+-- What an empty disc of either length takes: the tests of *store*, one after another. What OPEN takes for a new file's size.
+use Prim.Native.Nat.{ℕ, zero, suc, _+_, _*_, _/_, _≤_, _<_}
 use mathlib.Core.Path.{_≡_, refl, ap, _∙_}
-use mathlib.Core.Bool.{true}
+use mathlib.Core.Bool.{Bool, true, false}
 use mathlib.Core.List.{List}
 use mathlib.Core.Logic.{_⊎_, inl, inr}
 use native.Mathlib.Omega.{arith}
+use lib.Dec.{leb}
+use lib.Ieee.{up, down}
 use lib.IntN.{pos, negℤ}
 use lib.ListN.{length}
+use borrow.Author.Tests.{leb-true, leb-false}
 use Rattle.buffer.specs.Lists.{all, pairs, tab}
+use Rattle.float.specs.Whole.{sized, sizeOf, wholeOf, within}
+use Rattle.float.specs.declared.whole.Size.the-variants.{Is, Refused}
 use Rattle.store.specs.Directory.{DiscLength, goodDisc, goodFiles}
 use Rattle.store.specs.Layout.{dataStart, maxFiles}
 use Rattle.machine.specs.Answer.{Answer, Buffers, answer, other, store}
-use Rattle.machine.specs.DiscLengths.{EmptyDiscTakes, Fitting}
+use Rattle.machine.specs.DiscLengths.{EmptyDiscTakes, Fitting, OpenTakes, Taken, dataBytes}
 use Rattle.machine.specs.Fields.{Free, IsName, NoFile, filesOn}
 use Rattle.machine.specs.Tests.{Decides, Tests, passed, test}
 use Rattle.machine.proofs.Demands.Refused.{call-decided}
@@ -21,6 +26,9 @@ module _ (b : Buffers) (name bytes : List ℕ) (long : DiscLength (length (b .di
     (good : IsName name) where
   abbrev a : Answer
   a = answer (other (store name bytes)) b
+
+  abbrev fits : Type 0
+  fits = Fitting (b .disc) (length bytes)
 
   -- where a test holds, those behind it decide
   past : (n : ℕ) (rest : Tests) {holds : Type 0} → holds → Decides (test n holds rest) b a → Decides rest b a
@@ -34,7 +42,7 @@ module _ (b : Buffers) (name bytes : List ℕ) (long : DiscLength (length (b .di
   no-file : NoFile (b .disc) name
   no-file i n = omega (arith, n .counted, none)
 
-  all-free : Fitting (b .disc) bytes → Free (b .disc) (length bytes) dataStart
+  all-free : fits → Free (b .disc) (length bytes) dataStart
   all-free f = record {
     low = omega arith;
     high = omega (arith, f .0, f .1);
@@ -63,11 +71,10 @@ module _ (b : Buffers) (name bytes : List ℕ) (long : DiscLength (length (b .di
       (past 2 from-name good-disc
       (past 1 (test 2 (goodDisc (b .disc) ≡ true) from-name) long (call-decided (other (store name bytes)) b .is)))
 
-  takes : Decides from-size b a
-      → (Fitting (b .disc) bytes × (a .number ≡ pos 0)) ⊎ ((Fitting (b .disc) bytes → ⊥) × (a .number ≡ negℤ (pos 6)))
+  takes : Decides from-size b a → (fits × (a .number ≡ pos 0)) ⊎ ((fits → ⊥) × (a .number ≡ negℤ (pos 6)))
   takes (inr p) = inr (λ f. p .0 (f .0, omega (arith, f .0, f .1)), p .1)
   takes (inl p) =
-      let f : Fitting (b .disc) bytes = (p .0 .0, omega (arith, p .0 .1)) in
+      let f : fits = (p .0 .0, omega (arith, p .0 .1)) in
       let few : filesOn (b .disc) < maxFiles = omega (arith, none) in
       let free : (start : ℕ) × Free (b .disc) (length bytes) start = (dataStart, all-free f) in
       let d = past 9 passed free (past 7 from-place no-file (past 8 from-lookup few (p .1))) in
@@ -75,3 +82,18 @@ module _ (b : Buffers) (name bytes : List ℕ) (long : DiscLength (length (b .di
 
 pub empty-disc-takes : EmptyDiscTakes
 empty-disc-takes b name bytes long none good = takes b name bytes long none good (by-size b name bytes long none good)
+
+-- n as a size
+taken : (disc : List ℕ) (n : ℕ) → Taken disc n (sized (within (dataBytes (length disc)) (pos n)))
+taken disc n = go n (leb n (dataBytes (length disc))) refl
+  where
+    go : (n : ℕ) (small : Bool) → leb n (dataBytes (length disc)) ≡ small
+        → Taken disc n (sized (within (dataBytes (length disc)) (pos n)))
+    go zero true e = inr (λ f. omega (arith, f .0), rw e refl)
+    go zero false e = inr (λ f. omega (arith, f .0), rw e refl)
+    go (suc m) true e = inl ((omega arith, leb-true _ _ e), rw e refl)
+    go (suc m) false e = inr (λ f. omega (arith, f .1, leb-false (suc m) (dataBytes (length disc)) e), rw e refl)
+
+pub open-takes : OpenTakes
+unfolding sizeOf wholeOf
+open-takes disc = (taken disc, λ m e. taken disc (m * up e / down e))

@@ -84,8 +84,8 @@ fn rows() -> Vec<Row> {
     ]
 }
 
-/// Ten files whose names differ in their last byte and that fill the disc but for a few bytes, ten running processes, 25
-/// variables; every process is at the same instruction with the same stack.
+/// Ten files whose names differ in their last byte and that fill the disc but for a few bytes, ten running processes,
+/// 25 variables; every process is at the same instruction with the same stack.
 fn full_state(disc_len: usize, code: &[u8], stack: &[u8]) -> State {
     let mut state = State::zero(disc_len);
     let file_len = data_bytes(&state.disc).len() / 10;
