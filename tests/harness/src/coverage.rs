@@ -3,6 +3,7 @@
 use crate::call::{Call, State};
 use crate::comparison::Outcome;
 use crate::long_discs;
+use crate::scaling;
 use crate::tables::Tables;
 use second::instruction::{DELAYUNTIL, FORK, OPEN, SET, WAITUNTILDONE};
 use second::layout::*;
@@ -53,6 +54,8 @@ impl Coverage {
         if let Some(situation) = situation {
             self.reach(situation);
         }
+        let scaled = scaling::situations(opcode, stack_bytes(&before.area, record));
+        scaled.iter().for_each(|name| self.reach(name));
         match (opcode, fault) {
             (Some(SET), 0) => self.record_variable(&after.area),
             (Some(OPEN), 0) if directory::count(&before.disc) < directory::count(&after.disc) => {
@@ -167,6 +170,11 @@ fn delay(area: &[u8], record: usize, clock: u32) -> Option<&'static str> {
 
 fn stack_of(area: &[u8], record: usize) -> Stack {
     Stack::new(&area[record + STACK..record + STACK + STACK_LEN], area[record + SP])
+}
+
+/// The bytes below SP.
+pub fn stack_bytes(area: &[u8], record: usize) -> &[u8] {
+    &area[record + STACK..][..usize::from(area[record + SP])]
 }
 
 /// What lay where a new file went. Document 02, Q-8: "OPEN now fills a file it creates with zeros."

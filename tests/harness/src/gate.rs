@@ -6,6 +6,8 @@ use crate::cases::{compare_case, Case};
 use crate::comparison::{Compared, Comparison};
 use crate::damage::{compare_damages, compare_edges, compare_flips, compare_lengths};
 use crate::instructions::{compare_numbers, compare_sizes, compare_stacks, compare_taken};
+use crate::operands::compare_scaling;
+use crate::scaling;
 use crate::sequences::{compare_sequence, compare_state};
 use std::time::{Duration, Instant};
 
@@ -30,12 +32,13 @@ const TAKEN_UNITS: u64 = 500;
 const SIZE_UNITS: u64 = 200;
 const NUMBER_UNITS: u64 = 4;
 const NUMBER_PAIRS: usize = 400;
+const SCALING_UNITS: u64 = 4;
 const SEQUENCES: u64 = 300;
 const SEQUENCE_LENGTH: usize = 400;
 const STATES: u64 = 2600;
 const PAIRS: u64 = 1000;
 
-/// What must have been reached, at least, in one pass, beside the tables.
+/// What must have been reached, at least, in one pass, beside the tables and what `scaling` needs.
 const NEEDED: [(&str, u64); 61] = [
     ("format, bytes behind 1023 that were not 0", 1),
     ("store, more than 863 bytes", 1),
@@ -102,7 +105,7 @@ const NEEDED: [(&str, u64); 61] = [
 
 /// The parts by name, in order.
 type Part = fn(&mut Comparison, &Plan) -> Compared<()>;
-const PARTS: [(&str, Part); 12] = [
+const PARTS: [(&str, Part); 13] = [
     ("cases", |comparison, plan| {
         (0..).zip(&plan.cases).try_for_each(|(index, case)| compare_case(comparison, case, index))
     }),
@@ -110,6 +113,9 @@ const PARTS: [(&str, Part); 12] = [
     ("taken", |comparison, _| (0..TAKEN_UNITS).try_for_each(|unit| compare_taken(comparison, unit))),
     ("sizes", |comparison, _| (0..SIZE_UNITS).try_for_each(|unit| compare_sizes(comparison, unit))),
     ("numbers", |comparison, _| (0..NUMBER_UNITS).try_for_each(|unit| compare_numbers(comparison, unit, NUMBER_PAIRS))),
+    ("scaling", |comparison, _| {
+        (0..SCALING_UNITS).try_for_each(|unit| compare_scaling(comparison, unit, SCALING_UNITS))
+    }),
     ("states", |comparison, _| (0..STATES).try_for_each(|unit| compare_state(comparison, unit))),
     ("damage", |comparison, _| compare_damages(comparison, DAMAGE_REPEATS)),
     ("edges", |comparison, _| compare_edges(comparison, DAMAGE_REPEATS)),
@@ -169,5 +175,7 @@ fn holes(comparison: &Comparison) -> Vec<String> {
     let coverage = &comparison.coverage;
     let few = NEEDED.iter().filter(|(name, least)| coverage.count(name) < *least);
     let few = few.map(|(name, least)| format!("{name}: {} of at least {least}", coverage.count(name)));
-    coverage.holes().into_iter().chain(few).collect()
+    let never = scaling::needed().into_iter().filter(|name| coverage.count(name) == 0);
+    let never = never.map(|name| format!("{name}: never"));
+    coverage.holes().into_iter().chain(few).chain(never).collect()
 }

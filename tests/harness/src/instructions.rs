@@ -13,7 +13,7 @@ use second::{directory, variables};
 
 /// How high a stack stands: on nothing, up to 32, or anywhere.
 #[derive(Clone, Copy, PartialEq, Eq)]
-enum Height {
+pub enum Height {
     Bottom,
     Top,
     Anywhere,
@@ -90,31 +90,30 @@ fn taken_kinds(opcode: u8, random: &mut Random) -> Vec<Kind> {
         OPEN => vec![Kind::Text, number()],
         FORK => vec![Kind::Text],
         SET | PRINT | PRINTLN | WRITE => vec![*random.pick(&[Kind::Char, Kind::Int, Kind::Float, Kind::Text])],
+        CONSTRAIN => vec![number(), number(), number()],
+        MAP => vec![number(), number(), number(), number(), number()],
+        POW => vec![number(), *random.pick(&[Kind::Char, Kind::Int])],
         _ => vec![number(), number()],
     }
 }
 
-/// Operators on binary32 edges: every one alone, and random pairs, FLOAT with whole numbers too.
+/// Operators on binary32 edges: every one alone, and random pairs, threes and fives, FLOAT with whole numbers too.
 pub fn compare_numbers(comparison: &mut Comparison, unit: u64, pairs: usize) -> Compared<()> {
     let mut random = comparison.begin("numbers", unit);
     let (mut state, record) = running_state(disc_len(unit), &mut random);
     for opcode in (0..=255).filter(|&opcode| is_built(opcode)) {
-        match operator(opcode) {
-            Some(Operator::Binary(..)) => {
-                for _ in 0..pairs {
-                    let values = [any_number(&mut random), any_number(&mut random)].concat();
-                    compare_operator(comparison, &mut state, record, opcode, &values, &mut random)?;
-                }
-            }
-            _ => {
-                for bits in FLOAT_EDGES {
-                    compare_operator(comparison, &mut state, record, opcode, &float(bits), &mut random)?;
-                }
-                for _ in 0..pairs / 4 {
-                    let value = any_number(&mut random);
-                    compare_operator(comparison, &mut state, record, opcode, &value, &mut random)?;
-                }
-            }
+        let (count, repeats) = match operator(opcode) {
+            Some(Operator::Binary(..)) => (2, pairs),
+            Some(Operator::Several(taken, _)) => (taken.len(), pairs),
+            _ => (1, pairs / 4),
+        };
+        let edges: &[u32] = if count == 1 { &FLOAT_EDGES } else { &[] };
+        for &bits in edges {
+            compare_operator(comparison, &mut state, record, opcode, &float(bits), Height::Bottom, &mut random)?;
+        }
+        for _ in 0..repeats {
+            let values: Vec<u8> = (0..count).flat_map(|_| any_number(&mut random)).collect();
+            compare_operator(comparison, &mut state, record, opcode, &values, Height::Bottom, &mut random)?;
         }
     }
     Ok(())
@@ -134,16 +133,18 @@ fn any_number(random: &mut Random) -> Vec<u8> {
     }
 }
 
-fn compare_operator(
+/// An instruction on these values, somewhere in the record's code.
+pub fn compare_operator(
     comparison: &mut Comparison,
     state: &mut State,
     record: usize,
     opcode: u8,
     values: &[u8],
+    height: Height,
     random: &mut Random,
 ) -> Compared<()> {
     set_code(state, record, opcode, random);
-    set_stack(state, record, values, Height::Bottom, random);
+    set_stack(state, record, values, height, random);
     compare_turn(comparison, state, record, clock(random))
 }
 

@@ -132,7 +132,7 @@ impl Writer<'_> {
 
     /// Pushes a number.
     fn number(&mut self, depth: usize) {
-        match self.random.below(if depth == 0 { 5 } else { 10 }) {
+        match self.random.below(if depth == 0 { 5 } else { 11 }) {
             0 => {
                 let byte = self.random.byte();
                 self.code.extend([CHAR, byte]);
@@ -154,6 +154,7 @@ impl Writer<'_> {
                     [INCREMENT, DECREMENT, UNARYMINUS, LOGICALNOT, ABS, SQ, SQRT, ROUND, FLOOR, CEIL, TOFLOAT, TOINT];
                 self.code.push(*self.random.pick(&unary));
             }
+            7 => self.scaled(),
             _ => {
                 self.number(depth - 1);
                 self.number(depth - 1);
@@ -161,6 +162,16 @@ impl Writer<'_> {
                 self.code.push(if opcode == UNARYMINUS || opcode == LOGICALNOT { MAX } else { opcode });
             }
         }
+    }
+
+    /// CONSTRAIN, MAP or POW, its y mostly one that it takes.
+    fn scaled(&mut self) {
+        let (opcode, count) = *self.random.pick(&[(CONSTRAIN, 3), (MAP, 5), (POW, 1)]);
+        (0..count).for_each(|_| self.number(0));
+        if opcode == POW {
+            self.code.extend([CHAR, self.random.below(17) as u8]);
+        }
+        self.code.push(opcode);
     }
 
     fn get(&mut self) {

@@ -22,9 +22,9 @@ const REFUSALS: [&[u8]; 14] = [
     &[1, 2, 3, 4],
 ];
 
-/// Each built instruction and the faults that it can meet, thought out from document 01:
+/// Each built instruction and the faults that it can meet, thought out from documents 01 and 02:
 /// arguments give 2; pops give 5 and 6, a raw byte only 5; longer results and pushes give 4; jumps give 3.
-const INSTRUCTIONS: [(u8, &str, &[u8]); 60] = [
+const INSTRUCTIONS: [(u8, &str, &[u8]); 63] = [
     (1, "CHAR", &[2, 4]),
     (2, "INT", &[2, 4]),
     (3, "STRING", &[2, 4]),
@@ -62,6 +62,9 @@ const INSTRUCTIONS: [(u8, &str, &[u8]); 60] = [
     (35, "MIN", &[5, 6]),
     (36, "MAX", &[5, 6]),
     (37, "ABS", &[5, 6]),
+    (38, "CONSTRAIN", &[5, 6]),
+    (39, "MAP", &[5, 6, 7]),
+    (40, "POW", &[5, 6, 8]),
     (41, "SQ", &[5, 6]),
     (42, "SQRT", &[5, 6, 8]),
     (44, "DELAYUNTIL", &[5, 6]),
@@ -87,8 +90,8 @@ const INSTRUCTIONS: [(u8, &str, &[u8]); 60] = [
     (69, "WAITUNTILDONE", &[5, 6]),
 ];
 
-/// The number of instruction bytes that are no instruction: 256 less the 60 built.
-const BYTES_NOT_BUILT: usize = 196;
+/// The number of instruction bytes that are no instruction: 256 less the 63 built.
+const BYTES_NOT_BUILT: usize = 193;
 
 /// How often each place of the two tables was reached.
 #[derive(Default)]

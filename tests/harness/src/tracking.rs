@@ -4,8 +4,9 @@
 
 use crate::call::{Call, State};
 use crate::comparison::{Answered, Compared, Comparison};
-use crate::coverage::opcode_at;
+use crate::coverage::{opcode_at, stack_bytes};
 use crate::long_discs;
+use crate::scaling;
 use second::fault::Fault;
 use second::instruction::*;
 use second::layout::*;
@@ -151,6 +152,7 @@ impl Tracking {
                 return Err(self.not_alike(comparison, index, seen.number, expected_number));
             }
             self.settle(comparison, index, seen.number, seen.output, seen.after)?;
+            count_scaled(comparison, seen);
         }
         let forked = word(&seen.after.area, NEXT_ID) > word(&seen.before.area, NEXT_ID);
         if forked {
@@ -276,6 +278,15 @@ impl Tracking {
             comparison.place()
         );
         comparison.broken(text)
+    }
+}
+
+/// Counts what a turn found at CONSTRAIN, MAP or POW that the single process made too.
+fn count_scaled(comparison: &mut Comparison, seen: &Seen) {
+    if seen.number >= 0 {
+        let stack = stack_bytes(&seen.before.area, seen.record);
+        let found = scaling::situations(opcode_at(seen.before, seen.record), stack);
+        found.iter().for_each(|name| comparison.coverage.reach(&scaling::of_single(name)));
     }
 }
 

@@ -1,4 +1,5 @@
 //! Instruction numbers. Document 01: "Numbered 1 to 69 by place in appendix C. 38 to 40, 43 and 46 to 50 are not built."
+//! Document 02, Q-3, builds 38 to 40: "Load lamps need CONSTRAIN, MAP and POW."
 
 pub const CHAR: u8 = 1;
 pub const INT: u8 = 2;
@@ -37,6 +38,9 @@ pub const CEIL: u8 = 34;
 pub const MIN: u8 = 35;
 pub const MAX: u8 = 36;
 pub const ABS: u8 = 37;
+pub const CONSTRAIN: u8 = 38;
+pub const MAP: u8 = 39;
+pub const POW: u8 = 40;
 pub const SQ: u8 = 41;
 pub const SQRT: u8 = 42;
 pub const DELAYUNTIL: u8 = 44;
@@ -63,7 +67,7 @@ pub const WAITUNTILDONE: u8 = 69;
 
 /// Whether a byte is an instruction that is built.
 pub fn is_built(opcode: u8) -> bool {
-    (1..=69).contains(&opcode) && !matches!(opcode, 38..=40 | 43 | 46..=50)
+    (1..=69).contains(&opcode) && !matches!(opcode, 43 | 46..=50)
 }
 
 /// "file instructions are OPEN, CLOSE, WRITE and the READs."

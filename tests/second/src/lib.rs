@@ -1,7 +1,7 @@
 //! The second implementation of document 01, with document 02's requests, written apart from the first one.
 //!
 //! It works on the two buffers as they lie: a function for each operation, no decoded kernel. The module
-//! [`single`] is the single process of document 01; it shares only the arithmetic and the printing.
+//! [`single`] is the single process of document 01; it shares only the arithmetic of document 01 and the printing.
 
 #![forbid(unsafe_code)]
 
@@ -17,6 +17,7 @@ pub mod printing;
 pub mod processes;
 pub mod records;
 pub mod runs;
+pub mod scaling;
 pub mod single;
 pub mod stack;
 pub mod turn;

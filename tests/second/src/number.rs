@@ -1,4 +1,4 @@
-//! Numbers and the operators on them. Document 01, "Instructions".
+//! Numbers and the operators on them. Document 01, "Instructions"; document 02, Q-3.
 
 use crate::fault::{need, Fault};
 use crate::instruction::*;
@@ -224,13 +224,61 @@ fn square_root(x: Number) -> Result<Number> {
     }
 }
 
+/// Document 02, Q-3: "CONSTRAIN of x, a, b is our MIN of (our MAX of x, a) and b."
+fn constrain(operands: &[Number]) -> Result<Number> {
+    let &[x, a, b] = operands else { unreachable!("it takes three") };
+    Ok(minimum(maximum(x, a), b))
+}
+
+/// Q-3: "MAP of a, b, c, d, e is (a − b) × (e − d) / (c − b) + d".
+fn map(operands: &[Number]) -> Result<Number> {
+    let wholes: Option<Vec<i64>> = operands.iter().map(|x| x.whole().map(i64::from)).collect();
+    match wholes {
+        Some(wholes) => map_wholes(&wholes, widest(operands)),
+        None => Ok(Float(map_floats(operands))),
+    }
+}
+
+/// Q-3: "on whole numbers exact, the quotient cut toward zero, the result reduced to the widest type; there equal b and c
+/// give fault 7."
+fn map_wholes(operands: &[i64], widest: Number) -> Result<Number> {
+    let &[a, b, c, d, e] = operands else { unreachable!("it takes five") };
+    need(b != c, Fault::DivisorZero)?;
+    let exact = (a - b) * (e - d) / (c - b) + d;
+    // the low 16 bits are all that either type keeps
+    Ok(widest.keep(i32::from(exact as i16)))
+}
+
+/// Q-3: "With a FLOAT all five become FLOAT and each operation rounds once, as written."
+fn map_floats(operands: &[Number]) -> f32 {
+    let floats: Vec<f32> = operands.iter().map(|x| x.float()).collect();
+    let &[a, b, c, d, e] = &floats[..] else { unreachable!("it takes five") };
+    (a - b) * (e - d) / (c - b) + d
+}
+
+/// An operand of the widest type.
+fn widest(operands: &[Number]) -> Number {
+    operands.iter().fold(Char(0), |widest, &operand| if operand.kind() > widest.kind() { operand } else { widest })
+}
+
+/// Q-3: "POW takes a whole y from 0 to 15, else fault 8, multiplying from the left starting at 1, in the wider operand's
+/// type".
+fn power(operands: &[Number]) -> Result<Number> {
+    let &[x, y] = operands else { unreachable!("it takes two") };
+    let exponent = y.whole().filter(|y| (0..=15).contains(y)).ok_or(Fault::OutOfRange)?;
+    let one = Char(1).widened(x).widened(y);
+    Ok((0..exponent).fold(one, |product, _| times(product, x)))
+}
+
 /// An instruction that only replaces numbers on the stack, with the types it takes.
 pub enum Operator {
     Unary(&'static [u8], fn(Number) -> Result<Number>),
     Binary(&'static [u8], fn(Number, Number) -> Result<Number>),
+    /// Of several operands in the order of appendix C, "first pushed lowest" (Q-3), with the types that each takes.
+    Several(&'static [&'static [u8]], fn(&[Number]) -> Result<Number>),
 }
 
-/// The operators of the guide's tables 2 and 3; x is pushed first.
+/// The operators of the guide's tables 2 and 3, and those of Q-3; x is pushed first.
 pub fn operator(opcode: u8) -> Option<Operator> {
     use Operator::{Binary, Unary};
     use Ordering::{Equal, Greater, Less};
@@ -268,6 +316,16 @@ pub fn operator(opcode: u8) -> Option<Operator> {
         ABS => Unary(NUMBERS, |x| Ok(absolute(x))),
         SQ => Unary(NUMBERS, |x| Ok(times(x, x))),
         SQRT => Unary(NUMBERS, square_root),
-        _ => return None,
+        _ => return scaling(opcode),
     })
+}
+
+/// Q-3: "Load lamps need CONSTRAIN, MAP and POW."; "a FLOAT y is fault 6".
+fn scaling(opcode: u8) -> Option<Operator> {
+    match opcode {
+        CONSTRAIN => Some(Operator::Several(&[NUMBERS; 3], constrain)),
+        MAP => Some(Operator::Several(&[NUMBERS; 5], map)),
+        POW => Some(Operator::Several(&[NUMBERS, WHOLES], power)),
+        _ => None,
+    }
 }

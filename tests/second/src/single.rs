@@ -1,14 +1,15 @@
 //! The single process. Document 01, "The single process": it is fed its program bytes, then the clock of each of its
 //! turns and each command, "no answers, no disc, no work area".
 //!
-//! Written apart from the buffer code: it fetches, pops, pushes and jumps by itself and shares only the operators and
-//! the printing of numbers.
+//! Written apart from the buffer code: it fetches, pops, pushes and jumps by itself and shares only the operators of the
+//! guide's tables 2 and 3 and the printing of numbers. CONSTRAIN, MAP and POW it has by itself, in `scaling`.
 
 use crate::answer::Refusal;
 use crate::fault::Fault;
 use crate::instruction as op;
 use crate::number::{operator, Number, Operator, INT_TYPE, NUMBERS, STRING_TYPE, VALUES, WHOLES};
 use crate::printing;
+use crate::scaling;
 use std::collections::BTreeMap;
 
 const STACK_LEN: usize = 32;
@@ -263,7 +264,7 @@ impl Single {
         Ok(Next::Past)
     }
 
-    /// An operator of the guide's tables 2 and 3.
+    /// An operator of the guide's tables 2 and 3, or of Q-3.
     fn operate(&mut self, opcode: u8) -> Result<(), Fault> {
         let result = match operator(opcode).expect("demand 3 supposes no file instruction, FORK or WAITUNTILDONE") {
             Operator::Unary(taken, result) => result(number(&self.pop(taken)?))?,
@@ -272,9 +273,31 @@ impl Single {
                 let first = number(&self.pop(taken)?);
                 result(first, second)?
             }
+            Operator::Several(..) => return self.scale(opcode),
         };
         let kind = result.kind();
         self.push(kind, &result.encode()[..kind as usize]);
+        Ok(())
+    }
+
+    /// Document 02, Q-3: "Operands stand in appendix C's order, first pushed lowest."; "a FLOAT y is fault 6".
+    fn scale(&mut self, opcode: u8) -> Result<(), Fault> {
+        let result = match opcode {
+            op::CONSTRAIN => {
+                let [b, a, x] = [self.pop(NUMBERS)?, self.pop(NUMBERS)?, self.pop(NUMBERS)?];
+                scaling::constrain(&x, &a, &b)
+            }
+            op::MAP => {
+                let [e, d, c] = [self.pop(NUMBERS)?, self.pop(NUMBERS)?, self.pop(NUMBERS)?];
+                let [b, a] = [self.pop(NUMBERS)?, self.pop(NUMBERS)?];
+                scaling::map([&a, &b, &c, &d, &e])?
+            }
+            _ => {
+                let [y, x] = [self.pop(WHOLES)?, self.pop(NUMBERS)?];
+                scaling::power(&x, &y)?
+            }
+        };
+        self.push(result.kind, &result.bytes);
         Ok(())
     }
 

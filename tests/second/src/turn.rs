@@ -165,7 +165,7 @@ impl Turn<'_> {
         self.stack.push_value(STRING_TYPE, &code(self.disc, self.area, self.record)[place])
     }
 
-    /// An operator of the guide's tables 2 and 3; "popping from the top".
+    /// An operator of the guide's tables 2 and 3 or of Q-3; "popping from the top".
     fn operate(&mut self, opcode: u8) -> Result<(), Fault> {
         match operator(opcode).ok_or(Fault::NoInstruction)? {
             Operator::Unary(taken, result) => {
@@ -176,6 +176,12 @@ impl Turn<'_> {
                 let y = self.stack.pop_number(taken)?;
                 let x = self.stack.pop_number(taken)?;
                 self.stack.push_number(result(x, y)?)
+            }
+            Operator::Several(taken, result) => {
+                let popped: Result<Vec<Number>, Fault> =
+                    taken.iter().rev().map(|taken| self.stack.pop_number(taken)).collect();
+                let operands: Vec<Number> = popped?.into_iter().rev().collect();
+                self.stack.push_number(result(&operands)?)
             }
         }
     }
