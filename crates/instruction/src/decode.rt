@@ -47,6 +47,7 @@ pub fn instruction(n: u8) -> Instruction
     match operator::instruction::operator(n) {
         Operator::OfOne(o) => Instruction::Operate(Operator::OfOne(o)),
         Operator::OfTwo(o) => Instruction::Operate(Operator::OfTwo(o)),
+        Operator::Scale(o) => Instruction::Operate(Operator::Scale(o)),
         Operator::NotAnOperator => other(n),
     }
 }

@@ -26,13 +26,13 @@ module _ (w : Width) where
       too-large n h e = omega (arith, pow-bits w, pow-pos (hbits w))
   minus-one (negsuc n) f e = ap negsuc (omega (arith, half-full w (f .sfits)))
 
-  positive-bits : (b : ℤ) → SFits w b → (b ≡ pos 0 → ⊥) → 0 < ofZ w b
+  pub positive-bits : (b : ℤ) → SFits w b → (b ≡ pos 0 → ⊥) → 0 < ofZ w b
   positive-bits (pos zero) f h = absurd (h refl)
   positive-bits (pos (suc n)) f h = omega arith
   positive-bits (negsuc n) f h = omega (arith, f .sfits, pow-bits w)
 
   -- every quotient fits but that by −1
-  quotient-fits : (a b : ℤ) → SFits w a → (b ≡ negsuc 0 → ⊥) → mag (quotZ a b) < 2 ^ hbits w
+  pub quotient-fits : (a b : ℤ) → SFits w a → (b ≡ negsuc 0 → ⊥) → mag (quotZ a b) < 2 ^ hbits w
   quotient-fits (pos a) (pos b) f h = omega (arith, div-le-self a b, f .sfits)
   quotient-fits (pos a) (negsuc b) f h = omega (arith, mag-negated (a / suc b), div-le-self a (suc b), f .sfits)
   quotient-fits (negsuc a) (pos b) f h = omega (arith, mag-negated (suc a / b), div-le-self (suc a) b, f .sfits)

@@ -2,3 +2,4 @@
 pub mod Representation
 pub mod Modular
 pub mod Division
+pub mod Reduction

@@ -31,7 +31,7 @@ module _ (m : ℕ) (h : 0 < m) where
   residue-zero : residue m (pos 0) ≡ 0
   residue-zero = zero-mod m
 
-  suc-complement : (a : ℕ) → a < m → suc (m - suc (suc a % m)) % m ≡ m - suc a
+  pub suc-complement : (a : ℕ) → a < m → suc (m - suc (suc a % m)) % m ≡ m - suc a
   suc-complement a k =
       ⊎-elim
       (λ (e : suc a ≡ m). ap (λ (x : ℕ). suc (m - suc x) % m) (ap (λ (y : ℕ). y % m) e ∙ mod-self m) ∙ ap (λ (y : ℕ). y % m) (omega arith)

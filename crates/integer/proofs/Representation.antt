@@ -27,6 +27,18 @@ module _ (w v : Width) (h : T (leb (hbits w) (hbits v))) (z : ℤ) (f : SFits w 
   pub widened : toZ v (ofZ v (toZ w (ofZ w z))) ≡ z
   widened = ap (λ (y : ℤ). toZ v (ofZ v y)) (toZ-ofZ f) ∙ toZ-ofZ (sfits-widen h f)
 
+-- a sum known to be the natural number k, as one of the width v
+module _ (v : Width) {y : ℤ} {k : ℕ} (e : y ≡ pos k) (h : k < 2 ^ hbits v) where
+  pub natural-fits : SFits v y
+  natural-fits = subst⁻¹ (SFits v) e (record { sfits = h })
+
+  pub natural-read : toZ v (ofZ v y) ≡ pos k
+  natural-read = toZ-ofZ natural-fits ∙ e
+
+  pub natural-casts : T (nonNeg (toZ v (ofZ v y))) × Fits v (natAbs (toZ v (ofZ v y)))
+  natural-casts = subst⁻¹ (λ (x : ℤ). T (nonNeg x) × Fits v (natAbs x)) natural-read
+      (tt, fits-ofZ {z = pos k} (record { sfits = h }))
+
 -- ---- bits n read as a number: the top bit counts −(2 ^ hbits w), the bits below it as they stand
 abbrev topWeight : Width → ℕ → ℤ
 topWeight w n = negsuc (2 ^ hbits w - 1) *ℤ toZ w (n / 2 ^ hbits w)
@@ -101,7 +113,7 @@ module _ (w : Width) (n : ℕ) (f : Fits w n) where
   sum-reads = toZ-ofZ sum-fits ∙ sum-is
 
 -- ---- the bits of a number z: z + 2 ^ bits w is not negative, and modulo 2 ^ bits w it is those bits
-sub-ge : (a b : ℕ) → b ≤ a → subℕ a b ≡ pos (a - b)
+pub sub-ge : (a b : ℕ) → b ≤ a → subℕ a b ≡ pos (a - b)
 sub-ge a b h = simp (le-ltb a b h)
 
 abbrev lifted : Width → ℤ → ℕ
@@ -128,17 +140,14 @@ module _ (w v : Width) (h : T (leb (hbits w) (hbits v))) (room : 2 ^ hbits w + 2
   lift-is : lift ≡ pos (lifted w z)
   lift-is = ap (λ (y : ℤ). y +ℤ pos (2 ^ bits w)) (widened w v h z f) ∙ lifted-is w z f
 
-  lifted-fits : SFits v (pos (lifted w z))
-  lifted-fits = record { sfits = let k : lifted w z < 2 ^ hbits w + 2 ^ bits w = lifted-below w z f in omega arith }
+  lift-below : lifted w z < 2 ^ hbits v
+  lift-below = let k : lifted w z < 2 ^ hbits w + 2 ^ bits w = lifted-below w z f in omega arith
 
   pub lift-fits : SFits v lift
-  lift-fits = subst⁻¹ (SFits v) lift-is lifted-fits
-
-  lift-read : toZ v (ofZ v lift) ≡ pos (lifted w z)
-  lift-read = toZ-ofZ lift-fits ∙ lift-is
+  lift-fits = natural-fits v lift-is lift-below
 
   pub lift-casts : T (nonNeg (toZ v (ofZ v lift))) × Fits v (natAbs (toZ v (ofZ v lift)))
-  lift-casts = subst⁻¹ (λ (y : ℤ). T (nonNeg y) × Fits v (natAbs y)) lift-read (tt, fits-ofZ lifted-fits)
+  lift-casts = natural-casts v lift-is lift-below
 
   pub lift-bits : natAbs (toZ v (ofZ v lift)) % 2 ^ bits w ≡ ofZ w z
-  lift-bits = ap (λ (y : ℤ). natAbs y % 2 ^ bits w) lift-read ∙ lifted-bits w z f
+  lift-bits = ap (λ (y : ℤ). natAbs y % 2 ^ bits w) (natural-read v lift-is lift-below) ∙ lifted-bits w z f

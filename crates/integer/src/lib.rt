@@ -148,3 +148,16 @@ pub fn remainder16(a: i16, b: i16) -> i16
 {
     if b == -1 { 0 } else { a % b }
 }
+
+// An exact result of up to 64 bits, kept modulo 256 or 65,536: its remainder lies above −256 or −65,536.
+pub fn reduce8(z: i64) -> i8
+    ensures { λ r. ⌜ r ≡ wrapped w8 z ⌝ }
+{
+    signed8(((z % 256 + 256) as u64 % 256) as u8)
+}
+
+pub fn reduce16(z: i64) -> i16
+    ensures { λ r. ⌜ r ≡ wrapped w16 z ⌝ }
+{
+    signed16(((z % 65536 + 65536) as u64 % 65536) as u16)
+}

@@ -1,5 +1,6 @@
 -- What is made of bytes is bytes: from buffers of bytes every call leaves buffers of bytes.
 pub mod Outcomes
+pub mod Scaling
 pub mod NumberBytes
 pub mod Stacks
 pub mod EffectBytes

@@ -16,7 +16,11 @@ use Rattle.number.specs.declared.Number.{Number}
 use Rattle.operator.specs.declared.Outcome.{Outcome}
 use Rattle.operator.specs.declared.Outcome.the-variants.{Value, DivisionByZero, OutOfRange}
 use Rattle.operator.specs.declared.operators.Operator.{Operator}
-use Rattle.operator.specs.declared.operators.Operator.the-variants.{OfOne, OfTwo, NotAnOperator}
+use Rattle.operator.specs.declared.operators.Operator.the-variants.{OfOne, OfTwo, Scale, NotAnOperator}
+use Rattle.operator.specs.declared.operators.Scaling.the-variants.{Constrain, Map, Power}
+use Rattle.scaling.specs.Constrain.{constrained}
+use Rattle.scaling.specs.Map.{mapped}
+use Rattle.scaling.specs.Power.{power}
 use Rattle.store.specs.Name.{trimmed}
 use Rattle.variable.specs.Table.{Cell}
 use Rattle.machine.specs.Limits.{stackSize}
@@ -75,14 +79,35 @@ withOutcome (Value a) next = next a
 withOutcome DivisionByZero next = faults (faultOf DivisionByZero)
 withOutcome OutOfRange next = faults (faultOf OutOfRange)
 
+-- the operand at a place, 0 that of the operand pushed first: which types it takes goes by operator and place
+abbrev pub withOperand : Operator → ℕ → List ℕ → (Number → List ℕ → Effect) → Effect
+withOperand o place stack next = withNumber (pop (typesOf o place) stack) next
+
+-- the operands come off from the top, each before the next is looked at; the operator's answer goes onto what is left
 unfoldable pub operates : Operator → List ℕ → (List ℕ → Effect) → Effect
 operates (OfOne o) stack next =
-    withNumber (pop (typesOf (OfOne o)) stack) λ x rest.
-    withOutcome (unary o x) λ a. next (push rest (typeOf a) (valueBytes a))
+    withOperand (OfOne o) 0 stack λ x rest.
+    withOutcome (unary o x) λ z. next (push rest (typeOf z) (valueBytes z))
 operates (OfTwo o) stack next =
-    withNumber (pop (typesOf (OfTwo o)) stack) λ y rest.
-    withNumber (pop (typesOf (OfTwo o)) rest) λ x rest.
-    withOutcome (binary o x y) λ a. next (push rest (typeOf a) (valueBytes a))
+    withOperand (OfTwo o) 1 stack λ y rest.
+    withOperand (OfTwo o) 0 rest λ x rest.
+    withOutcome (binary o x y) λ z. next (push rest (typeOf z) (valueBytes z))
+operates (Scale Constrain) stack next =
+    withOperand (Scale Constrain) 2 stack λ b rest.
+    withOperand (Scale Constrain) 1 rest λ a rest.
+    withOperand (Scale Constrain) 0 rest λ x rest.
+    withOutcome (Value (constrained x a b)) λ z. next (push rest (typeOf z) (valueBytes z))
+operates (Scale Map) stack next =
+    withOperand (Scale Map) 4 stack λ e rest.
+    withOperand (Scale Map) 3 rest λ d rest.
+    withOperand (Scale Map) 2 rest λ c rest.
+    withOperand (Scale Map) 1 rest λ b rest.
+    withOperand (Scale Map) 0 rest λ a rest.
+    withOutcome (mapped a b c d e) λ z. next (push rest (typeOf z) (valueBytes z))
+operates (Scale Power) stack next =
+    withOperand (Scale Power) 1 stack λ y rest.
+    withOperand (Scale Power) 0 rest λ x rest.
+    withOutcome (power x y) λ z. next (push rest (typeOf z) (valueBytes z))
 operates NotAnOperator stack next = faults 1
 
 -- ---- printing

@@ -5,7 +5,7 @@ use mathlib.Core.List.{List, [], _∷_}
 use lib.Dec.{eqb}
 use Rattle.operator.specs.Instruction.{operatorOf}
 use Rattle.operator.specs.declared.operators.Operator.{Operator}
-use Rattle.operator.specs.declared.operators.Operator.the-variants.{OfOne, OfTwo, NotAnOperator}
+use Rattle.operator.specs.declared.operators.Operator.the-variants.{OfOne, OfTwo, Scale, NotAnOperator}
 use Rattle.machine.specs.declared.instruction.Instruction.{Instruction}
 use Rattle.machine.specs.declared.instruction.Instruction.the-variants.{Literal, StringLiteral, SetVariable}
 use Rattle.machine.specs.declared.instruction.Instruction.the-variants.{GetVariable, Operate, DelayUntil, Millis}
@@ -31,9 +31,10 @@ find n (row ∷ table) = cond (eqb n (row .0)) (row .1) (find n table)
 abbrev pub operatorOr : Operator → Instruction → Instruction
 operatorOr (OfOne o) i = Operate (OfOne o)
 operatorOr (OfTwo o) i = Operate (OfTwo o)
+operatorOr (Scale o) i = Operate (Scale o)
 operatorOr NotAnOperator i = i
 
--- Document 01: "38 to 40, 43 and 46 to 50 are not built."
+-- Document 01: "38 to 40, 43 and 46 to 50 are not built." Document 02, Q-3, builds 38 to 40.
 unfoldable pub instructionOf : ℕ → Instruction
 unfolding find
 instructionOf n = operatorOr (operatorOf n) (find n others)

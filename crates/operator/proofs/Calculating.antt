@@ -20,7 +20,7 @@ use Rattle.operator.specs.declared.Outcome.the-variants.{Value, Division
 use Rattle.operator.specs.declared.operators.Arithmetic.{Arithmetic}
 use Rattle.operator.specs.declared.operators.Arithmetic.the-variants.{Plus, Minus, Times, DividedBy, Modulus}
 
-divides-by : (y : ℤ) → (y ≡ pos 0 → ⊥) → (o : Outcome) → o ≡ divisible y o
+pub divides-by : (y : ℤ) → (y ≡ pos 0 → ⊥) → (o : Outcome) → o ≡ divisible y o
 divides-by (pos zero) h o = absurd (h refl)
 divides-by (pos (suc n)) h o = refl
 divides-by (negsuc n) h o = refl

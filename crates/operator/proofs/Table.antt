@@ -13,7 +13,8 @@ use Rattle.operator.specs.declared.operators.Arithmetic.the-variants.{Mo
 use Rattle.operator.specs.declared.operators.Binary.the-variants.{Arithmetic as Calculates, Bitwise}
 use Rattle.operator.specs.declared.operators.Connective.the-variants.{And, Or, Xor}
 use Rattle.operator.specs.declared.operators.Operator.{Operator}
-use Rattle.operator.specs.declared.operators.Operator.the-variants.{OfOne, OfTwo}
+use Rattle.operator.specs.declared.operators.Operator.the-variants.{OfOne, OfTwo, Scale}
+use Rattle.operator.specs.declared.operators.Scaling.the-variants.{Power}
 use Rattle.operator.specs.declared.operators.Unary.the-variants.{BitwiseNot}
 
 -- U, and that n is the number of no entry: what the last arm of a `match` knows, in the order of the arms
@@ -33,12 +34,15 @@ absent n (entry ∷ table) other U u =
     absent n table other W u
     ∙ ap (λ (t : Bool). cond t (entry .1) (lookup n table other)) (sym (ne-eqb n (entry .0) (first n table W u .1)))
 
--- the operators that take whole numbers alone
-abbrev pub wholeOperators : List Operator
-wholeOperators =
-    OfTwo (Calculates Modulus) ∷ OfTwo (Bitwise And) ∷ OfTwo (Bitwise Or) ∷ OfTwo (Bitwise Xor) ∷ OfOne BitwiseNot ∷ []
+-- the operators that take whole numbers alone, with the places at which they do
+abbrev pub wholeOperands : List (Operator × ℕ)
+wholeOperands =
+    (OfTwo (Calculates Modulus), 0) ∷ (OfTwo (Calculates Modulus), 1) ∷ (OfTwo (Bitwise And), 0) ∷ (OfTwo (Bitwise And), 1) ∷
+    (OfTwo (Bitwise Or), 0) ∷ (OfTwo (Bitwise Or), 1) ∷ (OfTwo (Bitwise Xor), 0) ∷ (OfTwo (Bitwise Xor), 1) ∷
+    (OfOne BitwiseNot, 0) ∷ (Scale Power, 1) ∷ []
 
--- Document 01: "Bitwise and MODULUS refuse FLOAT": the pop refuses it, so `real Modulus` and `bitwise` of FLOATs are never asked
-pub float-refused : (x : Binary32) → all (λ o. not (includes (typesOf o) (typeOf (Float x)))) wholeOperators ≡ true
+-- Document 01: "Bitwise and MODULUS refuse FLOAT"; document 02, Q-3, of POW: "a FLOAT y is fault 6". The pop refuses it, so `real Modulus`,
+-- `bitwise` of FLOATs and `exponent` of a FLOAT are never asked
+pub float-refused : (x : Binary32) → all (λ o. not (includes (typesOf (o .0) (o .1)) (typeOf (Float x)))) wholeOperands ≡ true
 unfolding all includes
 float-refused x = refl

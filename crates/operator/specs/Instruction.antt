@@ -1,4 +1,5 @@
--- Which instruction is which operator; the sets of types that a pop may take, and which of them an operator takes.
+-- Which instruction is which operator; the sets of types that a pop may take, and which of them an operator takes at
+-- which place.
 use Prim.Native.Nat.{ℕ}
 use mathlib.Core.Bool.{Bool, false, cond, _||_}
 use mathlib.Core.List.{List, [], _∷_}
@@ -19,7 +20,9 @@ use Rattle.operator.specs.declared.operators.Conversion.{Conversion}
 use Rattle.operator.specs.declared.operators.Conversion.the-variants.{ToChar, ToInt, ToFloat, Round, Floor, Ceil}
 use Rattle.operator.specs.declared.operators.Extremum.the-variants.{Min, Max}
 use Rattle.operator.specs.declared.operators.Operator.{Operator}
-use Rattle.operator.specs.declared.operators.Operator.the-variants.{OfOne, OfTwo, NotAnOperator}
+use Rattle.operator.specs.declared.operators.Operator.the-variants.{OfOne, OfTwo, Scale, NotAnOperator}
+use Rattle.operator.specs.declared.operators.Scaling.{Scaling}
+use Rattle.operator.specs.declared.operators.Scaling.the-variants.{Constrain, Map, Power}
 use Rattle.operator.specs.declared.operators.Unary.{Unary}
 use Rattle.operator.specs.declared.operators.Unary.the-variants.{Increment, Decrement, UnaryMinus, LogicalNot}
 use Rattle.operator.specs.declared.operators.Unary.the-variants.{BitwiseNot, Convert, Abs, Sq, Sqrt}
@@ -44,13 +47,17 @@ unaryTable =
     (32, OfOne (Convert Round)) ∷
     (33, OfOne (Convert Floor)) ∷ (34, OfOne (Convert Ceil)) ∷ (37, OfOne Abs) ∷ (41, OfOne Sq) ∷ (42, OfOne Sqrt) ∷ []
 
+-- Document 02, Q-3: "CONSTRAIN, MAP and POW".
+abbrev pub scalingTable : List (ℕ × Operator)
+scalingTable = (38, Scale Constrain) ∷ (39, Scale Map) ∷ (40, Scale Power) ∷ []
+
 unfoldable pub lookup : ℕ → List (ℕ × Operator) → Operator → Operator
 lookup n [] other = other
 lookup n (entry ∷ table) other = cond (eqb n (entry .0)) (entry .1) (lookup n table other)
 
 unfoldable pub operatorOf : ℕ → Operator
 unfolding lookup
-operatorOf n = lookup n binaryTable (lookup n unaryTable NotAnOperator)
+operatorOf n = lookup n binaryTable (lookup n unaryTable (lookup n scalingTable NotAnOperator))
 
 -- Document 01: "TOCHAR, TOINT, TOFLOAT take only the types of the guide's table 2."
 abbrev pub conversionTypes : Conversion → Types
@@ -87,10 +94,18 @@ binaryTypes (Logical o) = AnyNumber
 binaryTypes (Bitwise o) = CharOrInt
 binaryTypes (Chooses o) = AnyNumber
 
-abbrev pub typesOf : Operator → Types
-typesOf (OfOne o) = unaryTypes o
-typesOf (OfTwo o) = binaryTypes o
-typesOf NotAnOperator = Nothing
+-- Document 02, Q-3: "POW takes a whole y [..]; a FLOAT y is fault 6." y is pushed second.
+abbrev pub scalingTypes : Scaling → ℕ → Types
+scalingTypes Constrain place = AnyNumber
+scalingTypes Map place = AnyNumber
+scalingTypes Power place = cond (eqb place 0) AnyNumber CharOrInt
+
+-- The types that an operator takes at a place: 0 is that of the operand pushed first.
+abbrev pub typesOf : Operator → ℕ → Types
+typesOf (OfOne o) place = unaryTypes o
+typesOf (OfTwo o) place = binaryTypes o
+typesOf (Scale o) place = scalingTypes o place
+typesOf NotAnOperator place = Nothing
 
 -- the type bytes: 1 CHAR, 2 INT, 3 STRING, 4 FLOAT
 unfoldable pub includes : Types → ℕ → Bool

@@ -184,7 +184,7 @@ fn second_replaces(operator: Extremum, pair: Pair) -> bool
     }
 }
 
-fn choose(operator: Extremum, pair: Pair) -> Number
+pub fn choose(operator: Extremum, pair: Pair) -> Number
     ensures { λ r. ⌜ r ≡ extremum operator pair ⌝ }
 {
     if second_replaces(operator, pair) {

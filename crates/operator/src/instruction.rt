@@ -1,7 +1,8 @@
-// Which instruction is which operator, and which types an operator takes.
+// Which instruction is which operator, and which types an operator takes at which place.
 ghost use mathlib.Core.Path.{_≡_};
-ghost use Rattle.operator.specs.Instruction.{lookup, unaryTable, operatorOf, conversionTypes, unaryTypes};
-ghost use Rattle.operator.specs.Instruction.{arithmeticTypes, binaryTypes, typesOf, includes};
+ghost use Rattle.operator.specs.Instruction.{lookup, scalingTable, unaryTable, operatorOf};
+ghost use Rattle.operator.specs.Instruction.{conversionTypes, unaryTypes, arithmeticTypes, binaryTypes};
+ghost use Rattle.operator.specs.Instruction.{scalingTypes, typesOf, includes};
 use crate::operators::Arithmetic;
 use crate::operators::Binary;
 use crate::operators::Comparison;
@@ -9,6 +10,7 @@ use crate::operators::Connective;
 use crate::operators::Conversion;
 use crate::operators::Extremum;
 use crate::operators::Operator;
+use crate::operators::Scaling;
 use crate::operators::Unary;
 
 // The sets of types that a pop may take.
@@ -22,8 +24,20 @@ pub enum Types {
     Nothing,
 }
 
+fn scaling_operator(instruction: u8) -> Operator
+    ensures { λ r. ⌜ r ≡ lookup instruction scalingTable Operator.NotAnOperator ⌝ }
+{
+    match instruction {
+        38 => Operator::Scale(Scaling::Constrain),
+        39 => Operator::Scale(Scaling::Map),
+        40 => Operator::Scale(Scaling::Power),
+        _ => Operator::NotAnOperator,
+    }
+}
+
 fn unary_operator(instruction: u8) -> Operator
-    ensures { λ r. ⌜ r ≡ lookup instruction unaryTable Operator.NotAnOperator ⌝ }
+    ensures { λ r. ⌜ r ≡ lookup instruction unaryTable
+        (lookup instruction scalingTable Operator.NotAnOperator) ⌝ }
 {
     match instruction {
         7 => Operator::OfOne(Unary::Increment),
@@ -40,7 +54,7 @@ fn unary_operator(instruction: u8) -> Operator
         37 => Operator::OfOne(Unary::Abs),
         41 => Operator::OfOne(Unary::Sq),
         42 => Operator::OfOne(Unary::Sqrt),
-        _ => Operator::NotAnOperator,
+        _ => scaling_operator(instruction),
     }
 }
 
@@ -124,13 +138,31 @@ fn binary_types(operator: Binary) -> Types
     }
 }
 
-// The types that the operator takes, as first or second operand.
-pub fn types_of(operator: Operator) -> Types
-    ensures { λ r. ⌜ r ≡ typesOf operator ⌝ }
+// Document 02, Q-3: "a FLOAT y is fault 6".
+fn scaling_types(operator: Scaling, place: u8) -> Types
+    ensures { λ r. ⌜ r ≡ scalingTypes operator place ⌝ }
+{
+    match operator {
+        Scaling::Constrain => Types::AnyNumber,
+        Scaling::Map => Types::AnyNumber,
+        Scaling::Power => {
+            if place == 0 {
+                Types::AnyNumber
+            } else {
+                Types::CharOrInt
+            }
+        }
+    }
+}
+
+// The types that the operator takes at a place, 0 that of the operand pushed first.
+pub fn types_of(operator: Operator, place: u8) -> Types
+    ensures { λ r. ⌜ r ≡ typesOf operator place ⌝ }
 {
     match operator {
         Operator::OfOne(o) => unary_types(o),
         Operator::OfTwo(o) => binary_types(o),
+        Operator::Scale(o) => scaling_types(o, place),
         Operator::NotAnOperator => Types::Nothing,
     }
 }

@@ -1,4 +1,4 @@
-// The operators of document 01, grouped by what they do with their operands.
+// The operators of document 01, and document 02's for scaling, grouped by what they do with their operands.
 pub enum Arithmetic {
     Plus,
     Minus,
@@ -56,8 +56,16 @@ pub enum Unary {
     Sqrt,
 }
 
+// Document 02, Q-3: CONSTRAIN of three operands, MAP of five, POW of two. Crate scaling has what they answer.
+pub enum Scaling {
+    Constrain,
+    Map,
+    Power,
+}
+
 pub enum Operator {
     OfOne(Unary),
     OfTwo(Binary),
+    Scale(Scaling),
     NotAnOperator,
 }

@@ -1,7 +1,7 @@
 -- Popping, from what the code answers: the value or the number on top, or the fault.
 use Prim.Native.Nat.{ℕ, zero, suc, _+_, _-_, _≤_}
 use mathlib.Core.Path.{_≡_, refl, sym, ap, _∙_, subst, subst⁻¹}
-use mathlib.Core.Bool.{true, _||_}
+use mathlib.Core.Bool.{Bool, true, false, cond, _||_}
 use mathlib.Core.List.{List, [], _∷_, _++_}
 use mathlib.Core.Logic.{⊎-elim}
 use native.Mathlib.Omega.{arith}
@@ -13,7 +13,7 @@ use Rattle.buffer.specs.Buffer.{part}
 use Rattle.buffer.proofs.Bools.{true-not-false}
 use Rattle.buffer.proofs.Disjunctions.{or-cases}
 use Rattle.buffer.proofs.Parts.{part-length}
-use Rattle.operator.specs.Instruction.{arithmeticTypes, binaryTypes, conversionTypes, includes, unaryTypes}
+use Rattle.operator.specs.Instruction.{arithmeticTypes, binaryTypes, conversionTypes, includes, scalingTypes, typesOf, unaryTypes}
 use Rattle.number.specs.declared.Number.{Number}
 use Rattle.operator.specs.declared.instruction.Types.{Types}
 use Rattle.operator.specs.declared.instruction.Types.the-variants.{AnyNumber, CharOrInt, IntOrFloat, CharOrFloat, AnyString, AnyValue}
@@ -24,6 +24,10 @@ use Rattle.operator.specs.declared.operators.Binary.{Binary}
 use Rattle.operator.specs.declared.operators.Binary.the-variants.{Arithmetic as Calculates, Comparison, Logical, Bitwise, Extremum}
 use Rattle.operator.specs.declared.operators.Conversion.{Conversion}
 use Rattle.operator.specs.declared.operators.Conversion.the-variants.{ToChar, ToInt, ToFloat, Round, Floor, Ceil}
+use Rattle.operator.specs.declared.operators.Operator.{Operator}
+use Rattle.operator.specs.declared.operators.Operator.the-variants.{OfOne, OfTwo, Scale, NotAnOperator}
+use Rattle.operator.specs.declared.operators.Scaling.{Scaling}
+use Rattle.operator.specs.declared.operators.Scaling.the-variants.{Constrain, Map, Power}
 use Rattle.operator.specs.declared.operators.Unary.{Unary}
 use Rattle.operator.specs.declared.operators.Unary.the-variants.{Increment, Decrement, UnaryMinus, LogicalNot, BitwiseNot, Convert}
 use Rattle.operator.specs.declared.operators.Unary.the-variants.{Abs, Sq, Sqrt}
@@ -158,7 +162,7 @@ conversion-numeric Round = refl
 conversion-numeric Floor = refl
 conversion-numeric Ceil = refl
 
-pub unary-numeric : (o : Unary) → isNumeric (unaryTypes o) ≡ true
+unary-numeric : (o : Unary) → isNumeric (unaryTypes o) ≡ true
 unary-numeric Increment = refl
 unary-numeric Decrement = refl
 unary-numeric UnaryMinus = refl
@@ -176,12 +180,27 @@ arithmetic-numeric Times = refl
 arithmetic-numeric DividedBy = refl
 arithmetic-numeric Modulus = refl
 
-pub binary-numeric : (o : Binary) → isNumeric (binaryTypes o) ≡ true
+binary-numeric : (o : Binary) → isNumeric (binaryTypes o) ≡ true
 binary-numeric (Calculates o) = arithmetic-numeric o
 binary-numeric (Comparison o) = refl
 binary-numeric (Logical o) = refl
 binary-numeric (Bitwise o) = refl
 binary-numeric (Extremum o) = refl
+
+scaling-numeric : (o : Scaling) (place : ℕ) → isNumeric (scalingTypes o place) ≡ true
+scaling-numeric Constrain place = refl
+scaling-numeric Map place = refl
+scaling-numeric Power place = go (eqb place 0)
+  where
+    go : (b : Bool) → isNumeric (cond b AnyNumber CharOrInt) ≡ true
+    go true = refl
+    go false = refl
+
+pub operand-numeric : (o : Operator) (place : ℕ) → isNumeric (typesOf o place) ≡ true
+operand-numeric (OfOne o) place = unary-numeric o
+operand-numeric (OfTwo o) place = binary-numeric o
+operand-numeric (Scale o) place = scaling-numeric o place
+operand-numeric NotAnOperator place = refl
 
 -- ---- bytes with zeros behind them
 zero-at : (m i : ℕ) → _≡_ {A = ℕ} (getD (replicate m 0) i 0) 0

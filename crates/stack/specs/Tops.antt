@@ -4,9 +4,11 @@ use mathlib.Core.Bool.{Bool, true, false}
 use mathlib.Core.List.{List}
 use lib.ListN.{take}
 use Rattle.buffer.specs.Buffer.{part}
-use Rattle.machine.specs.Effect.{number}
-use Rattle.machine.specs.Stack.{Popped, popped, cannot}
+use lib.IntN.{pos}
+use Rattle.machine.specs.Effect.{Effect, faults, number}
+use Rattle.machine.specs.Stack.{Popped, popped, cannot, pop}
 use Rattle.number.specs.declared.Number.{Number}
+use Rattle.number.specs.declared.Number.the-variants.{Char}
 use Rattle.operator.specs.declared.instruction.Types.{Types}
 use Rattle.operator.specs.declared.instruction.Types.the-variants.{AnyNumber, CharOrInt, IntOrFloat, CharOrFloat}
 use Rattle.operator.specs.declared.instruction.Types.the-variants.{AnyString, AnyValue, Nothing}
@@ -46,6 +48,21 @@ numbered (cannot fault) = noNumber fault
 abbrev pub numberOn : List ℕ → TopNumber → Numbered
 numberOn stack (Is a below) = numberAbove a (take below stack)
 numberOn stack (NoNumber fault) = noNumber fault
+
+-- the number popped next, from what lies below one popped before; a fault met before stays
+abbrev pub nextNumbered : Types → Numbered → Numbered
+nextNumbered types (numberAbove a rest) = numbered (pop types rest)
+nextNumbered types (noNumber fault) = noNumber fault
+
+-- the number, of which 0 is never used where there is none
+abbrev pub numberIn : TopNumber → Number
+numberIn (Is a below) = a
+numberIn (NoNumber fault) = Char (pos 0)
+
+-- an instruction goes on with the number, or faults
+abbrev pub withNumbered : Numbered → (Number → List ℕ → Effect) → Effect
+withNumbered (numberAbove a rest) next = next a rest
+withNumbered (noNumber fault) next = faults fault
 
 -- how many bytes lie below it
 abbrev pub bytesBelow : TopNumber → ℕ

@@ -12,7 +12,8 @@ ghost use Prim.Native.Nat.{_≤_};
 ghost use lib.ListN.{length};
 ghost use Rattle.machine.specs.Stack.{pop, popNumber, popString};
 ghost use Rattle.number.specs.Value.{numberOf};
-ghost use Rattle.stack.specs.Tops.{bytesBelow, isNumeric, numberOn, numbered, valueEnd, valueOn};
+ghost use Rattle.stack.specs.Tops.{bytesBelow, isNumeric, nextNumbered, numberIn, numberOn};
+ghost use Rattle.stack.specs.Tops.{numbered, valueEnd, valueOn};
 
 pub fn wide(byte: u8) -> usize
     ensures { λ r. ⌜ r ≡ byte ⌝ }
@@ -95,5 +96,27 @@ pub fn top_number(stack: &[u8], types: Types) -> TopNumber
             TopNumber::Is(number_of(kind, &stack[at..end]), at)
         }
         TopValue::NoValue(fault) => TopNumber::NoNumber(fault),
+    }
+}
+
+// The number below one that was popped before it; a fault met before stays.
+pub fn next_number(stack: &[u8], above: TopNumber, types: Types) -> TopNumber
+    requires { ⌜ (isNumeric types ≡ true) × (bytesBelow above ≤ length (now stack)) ⌝ }
+    ensures { λ r. ⌜ (numberOn (now (stack .entry)) r ≡ nextNumbered types (numberOn (now (stack .entry)) above))
+        × (bytesBelow r ≤ length (now (stack .entry))) ⌝ }
+{
+    match above {
+        TopNumber::Is(_, below) => top_number(&stack[..below], types),
+        TopNumber::NoNumber(fault) => TopNumber::NoNumber(fault),
+    }
+}
+
+// The number popped; where there was none, one that is never used.
+pub fn number_in(top: TopNumber) -> Number
+    ensures { λ r. ⌜ r ≡ numberIn top ⌝ }
+{
+    match top {
+        TopNumber::Is(a, _) => a,
+        TopNumber::NoNumber(_) => Number::Char(0),
     }
 }

@@ -19,7 +19,11 @@ use Rattle.operator.specs.declared.instruction.Types.{Types}
 use Rattle.operator.specs.declared.Outcome.{Outcome}
 use Rattle.operator.specs.declared.Outcome.the-variants.{Value, DivisionByZero, OutOfRange}
 use Rattle.operator.specs.declared.operators.Operator.{Operator}
-use Rattle.operator.specs.declared.operators.Operator.the-variants.{OfOne, OfTwo, NotAnOperator}
+use Rattle.operator.specs.declared.operators.Operator.the-variants.{OfOne, OfTwo, Scale, NotAnOperator}
+use Rattle.operator.specs.declared.operators.Scaling.the-variants.{Constrain, Map, Power}
+use Rattle.scaling.specs.Constrain.{constrained}
+use Rattle.scaling.specs.Map.{mapped}
+use Rattle.scaling.specs.Power.{power}
 use Rattle.number.proofs.Encoding.{Fits}
 use Rattle.variable.specs.Table.{Cell}
 use Rattle.machine.specs.Effect.{Effect, goes, assigns, stops, faults, asks, Request, opens, closes, writes, reads, readsString}
@@ -31,6 +35,7 @@ use Rattle.machine.proofs.Bytes.ByteLists.{Bytes, IsByte}
 use Rattle.machine.proofs.Bytes.Each.{Each, each-at}
 use Rattle.machine.proofs.InBytes.NumberBytes.{number-fits, value-bytes}
 use Rattle.machine.proofs.InBytes.Outcomes.{Answers, binary-answers, unary-answers}
+use Rattle.machine.proofs.InBytes.Scaling.{constrained-fits, map-answers, power-answers}
 use Rattle.machine.proofs.InBytes.Stacks.{ByteItem, PopsBytes, pop-bytes, push-bytes}
 
 abbrev pub AsksBytes : Request → Type 0
@@ -120,10 +125,26 @@ pub operates-gives : (o : Operator) (stack : List ℕ) (next : List ℕ → Effe
     → ((s : List ℕ) → Bytes s → GivesBytes (next s)) → GivesBytes (operates o stack next)
 unfolding GivesBytes operates
 operates-gives (OfOne o) stack next h g =
-    number-gives (typesOf (OfOne o)) stack h _ λ x rest f b.
+    number-gives (typesOf (OfOne o) 0) stack h _ λ x rest f b.
     outcome-gives (unary o x) rest next (unary-answers o x f) b g
 operates-gives (OfTwo o) stack next h g =
-    number-gives (typesOf (OfTwo o)) stack h _ λ y rest f b.
-    number-gives (typesOf (OfTwo o)) rest b _ λ x below e c.
+    number-gives (typesOf (OfTwo o) 1) stack h _ λ y rest f b.
+    number-gives (typesOf (OfTwo o) 0) rest b _ λ x below e c.
     outcome-gives (binary o x y) below next (binary-answers o x y e f) c g
+operates-gives (Scale Constrain) stack next h g =
+    number-gives (typesOf (Scale Constrain) 2) stack h _ λ b rest fb k.
+    number-gives (typesOf (Scale Constrain) 1) rest k _ λ a rest fa k.
+    number-gives (typesOf (Scale Constrain) 0) rest k _ λ x rest fx k.
+    outcome-gives (Value (constrained x a b)) rest next (constrained-fits x a b fx fa fb) k g
+operates-gives (Scale Map) stack next h g =
+    number-gives (typesOf (Scale Map) 4) stack h _ λ e rest fe k.
+    number-gives (typesOf (Scale Map) 3) rest k _ λ d rest fd k.
+    number-gives (typesOf (Scale Map) 2) rest k _ λ c rest fc k.
+    number-gives (typesOf (Scale Map) 1) rest k _ λ b rest fb k.
+    number-gives (typesOf (Scale Map) 0) rest k _ λ a rest fa k.
+    outcome-gives (mapped a b c d e) rest next (map-answers a b c d e) k g
+operates-gives (Scale Power) stack next h g =
+    number-gives (typesOf (Scale Power) 1) stack h _ λ y rest fy k.
+    number-gives (typesOf (Scale Power) 0) rest k _ λ x rest fx k.
+    outcome-gives (power x y) rest next (power-answers x y) k g
 operates-gives NotAnOperator stack next h g = tt

@@ -56,7 +56,7 @@ Answers (Value a) = Fits a
 Answers DivisionByZero = Unit {0}
 Answers OutOfRange = Unit {0}
 
-abbrev BothFit : Pair → Type 0
+abbrev pub BothFit : Pair → Type 0
 BothFit (Chars x y) = SFits w8 x × SFits w8 y
 BothFit (Ints x y) = SFits w16 x × SFits w16 y
 BothFit (Floats x y) = T (fits binary32 x) × T (fits binary32 y)
@@ -68,7 +68,7 @@ flag-answers false = sfits-lit tt
 widened : {x : ℤ} → SFits w8 x → SFits w16 x
 widened f = sfits-widen tt f
 
-promoted-fit : (a b : Number) → Fits a → Fits b → BothFit (promoted a b)
+pub promoted-fit : (a b : Number) → Fits a → Fits b → BothFit (promoted a b)
 promoted-fit (Char x) (Char y) f g = (f, g)
 promoted-fit (Char x) (Int y) f g = (widened f, g)
 promoted-fit (Char x) (Float y) f g = (ofInt-fits binary32 x, g)
@@ -87,7 +87,7 @@ bits-fit w Or x y f g = sfits-toZ (fits-or (fits-ofZ f) (fits-ofZ g))
 bits-fit w Xor x y f g = sfits-toZ (fits-xor (fits-ofZ f) (fits-ofZ g))
 
 module _ (w : Width) (k : ℤ → Number) (is : (z : ℤ) → SFits w z → Fits (k z)) where
-  divisible-answers : (y z : ℤ) → Answers (divisible y (Value (k (wrapped w z))))
+  pub divisible-answers : (y z : ℤ) → Answers (divisible y (Value (k (wrapped w z))))
   divisible-answers (pos zero) z = tt
   divisible-answers (pos (suc n)) z = is _ (wrapped-fits w z)
   divisible-answers (negsuc n) z = is _ (wrapped-fits w z)
@@ -165,7 +165,7 @@ second-fits (Chars x y) f = f .1
 second-fits (Ints x y) f = f .1
 second-fits (Floats x y) f = f .1
 
-extremum-fits : (o : Extremum) (p : Pair) → BothFit p → Fits (extremum o p)
+pub extremum-fits : (o : Extremum) (p : Pair) → BothFit p → Fits (extremum o p)
 extremum-fits o p f = go (replaces o p)
   where
     go : (b : Bool) → Fits (cond b (second p) (first p))

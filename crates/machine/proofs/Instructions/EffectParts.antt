@@ -18,7 +18,10 @@ use Rattle.operator.specs.declared.instruction.Types.{Types}
 use Rattle.operator.specs.declared.Outcome.{Outcome}
 use Rattle.operator.specs.declared.Outcome.the-variants.{Value, DivisionByZero, OutOfRange}
 use Rattle.operator.specs.declared.operators.Operator.{Operator}
-use Rattle.operator.specs.declared.operators.Operator.the-variants.{OfOne, OfTwo, NotAnOperator}
+use Rattle.operator.specs.declared.operators.Operator.the-variants.{OfOne, OfTwo, Scale, NotAnOperator}
+use Rattle.operator.specs.declared.operators.Scaling.the-variants.{Constrain, Map, Power}
+use Rattle.scaling.specs.Map.{mapped}
+use Rattle.scaling.specs.Power.{power}
 use Rattle.variable.specs.Good.{goodSize}
 use Rattle.variable.specs.Table.{Cell}
 use Rattle.machine.specs.Effect.{Effect, goes, assigns, stops, faults, asks, unlessFaults, land, settle, withPopped, withNumber}
@@ -89,11 +92,27 @@ module _ (prog : List ℕ) (l : Local) where
   pub operates-does : (o : Operator) (stack : List ℕ) (next : List ℕ → Effect) → ((s : List ℕ) → Does prog l (next s))
       → Does prog l (operates o stack next)
   unfolding Does operates
-  operates-does (OfOne o) stack next h = number-does (typesOf (OfOne o)) stack _ λ x rest t. outcome-does (unary o x) _ λ a. h _
+  operates-does (OfOne o) stack next h = number-does (typesOf (OfOne o) 0) stack _ λ x rest t. outcome-does (unary o x) _ λ z. h _
   operates-does (OfTwo o) stack next h =
-      number-does (typesOf (OfTwo o)) stack _ λ y rest t.
-      number-does (typesOf (OfTwo o)) rest _ λ x below u.
-      outcome-does (binary o x y) _ λ a. h _
+      number-does (typesOf (OfTwo o) 1) stack _ λ y rest t.
+      number-does (typesOf (OfTwo o) 0) rest _ λ x below u.
+      outcome-does (binary o x y) _ λ z. h _
+  operates-does (Scale Constrain) stack next h =
+      number-does (typesOf (Scale Constrain) 2) stack _ λ b rest t.
+      number-does (typesOf (Scale Constrain) 1) rest _ λ a rest u.
+      number-does (typesOf (Scale Constrain) 0) rest _ λ x rest v.
+      h _
+  operates-does (Scale Map) stack next h =
+      number-does (typesOf (Scale Map) 4) stack _ λ e rest t.
+      number-does (typesOf (Scale Map) 3) rest _ λ d rest u.
+      number-does (typesOf (Scale Map) 2) rest _ λ c rest v.
+      number-does (typesOf (Scale Map) 1) rest _ λ b rest w.
+      number-does (typesOf (Scale Map) 0) rest _ λ a rest x.
+      outcome-does (mapped a b c d e) _ λ z. h _
+  operates-does (Scale Power) stack next h =
+      number-does (typesOf (Scale Power) 1) stack _ λ y rest t.
+      number-does (typesOf (Scale Power) 0) rest _ λ x rest u.
+      outcome-does (power x y) _ λ z. h _
   operates-does NotAnOperator stack next h = (omega arith, omega arith)
 
   -- the tests at the end of an instruction: stack and PC fit whatever it did

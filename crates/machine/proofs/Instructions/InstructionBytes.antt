@@ -10,7 +10,7 @@ use Rattle.buffer.specs.Lists.{all}
 use Rattle.buffer.proofs.Bools.{and-left, and-right}
 use Rattle.operator.specs.Instruction.{operatorOf}
 use Rattle.operator.specs.declared.operators.Operator.{Operator}
-use Rattle.operator.specs.declared.operators.Operator.the-variants.{OfOne, OfTwo, NotAnOperator}
+use Rattle.operator.specs.declared.operators.Operator.the-variants.{OfOne, OfTwo, Scale, NotAnOperator}
 use Rattle.machine.specs.Instruction.{find, instructionOf, operatorOr, others}
 use Rattle.machine.specs.Suppositions.{isBarred}
 use Rattle.machine.specs.declared.instruction.Instruction.{Instruction}
@@ -80,6 +80,7 @@ instruction-all test b p u h = go (operatorOf b)
     go : (o : Operator) → test b (operatorOr o (find b others)) ≡ true
     go (OfOne o) = p (OfOne o)
     go (OfTwo o) = p (OfTwo o)
+    go (Scale o) = p (Scale o)
     go NotAnOperator = find-all test b others u h
 
 pub instruction-asks-by : (b : ℕ) → asksBy b (instructionOf b) ≡ true

@@ -15,7 +15,11 @@ returns-2 c = let k = c .before in rw (sym (k .before .before .operator .ensures
 
 returns-3 : tie.Need-returns-3
 unfolding instructionOf
-returns-3 c = let k = c .before in rw (sym (k .before .before .operator .ensures) ∙ k .enum-told .given .1) (c .other .ensures)
+returns-3 c = let k = c .before in rw (sym (k .before .before .operator .ensures) ∙ k .o3 .given .1)
+
+returns-4 : tie.Need-returns-4
+unfolding instructionOf
+returns-4 c = let k = c .before in rw (sym (k .before .before .operator .ensures) ∙ k .enum-told .given .1) (c .other .ensures)
 
 pub instruction-spec : {M : Type 1} → statement M
 instruction-spec =
@@ -25,7 +29,9 @@ instruction-spec =
     (λ c. search needs)
     (λ c. search needs)
     (λ c. search needs)
+    (λ c. search needs)
     (λ c κs. search needs)
     returns
     returns-2
-    returns-3)
+    returns-3
+    returns-4)

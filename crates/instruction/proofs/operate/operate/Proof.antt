@@ -15,8 +15,11 @@ returns-2 : tie.Need-returns-2
 returns-2 c = rw (c .before .before .operator2 .given .1) (c .operate-two .ensures)
 
 returns-3 : tie.Need-returns-3
+returns-3 c = rw (c .before .before .operator3 .given .1) (c .scale .ensures)
+
+returns-4 : tie.Need-returns-4
 unfolding operates
-returns-3 c = rw (c .before .enum-told .given .1) (last-means (start (c .before) .args .stack .now) (c .last-step .ensures))
+returns-4 c = rw (c .before .enum-told .given .1) (last-means (start (c .before) .args .stack .now) (c .last-step .ensures))
 
 pub operate-spec : {M : Type 1} → statement M
 operate-spec =
@@ -28,6 +31,9 @@ operate-spec =
     (λ c κs. search needs)
     (λ c. search needs)
     (λ c κs. search needs)
+    (λ c. search needs)
+    (λ c κs. search needs)
     returns
     returns-2
-    returns-3)
+    returns-3
+    returns-4)

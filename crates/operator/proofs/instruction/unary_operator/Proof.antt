@@ -1,7 +1,8 @@
--- Each arm is its entry; the last one has none.
+-- Each arm is its entry; the last one leaves it to the table for scaling.
+use mathlib.Core.Path.{_∙_}
 use Prim.{Unit}
+use borrow.Author.Needs.{needs}
 use Rattle.operator.specs.Instruction.{lookup, unaryTable}
-use Rattle.operator.specs.declared.operators.Operator.the-variants.{NotAnOperator}
 use Rattle.operator.proofs.Table.{absent}
 use Rattle.operator.proofs.instruction.unary_operator.Statement.{statement}
 use Rattle.operator.proofs.instruction.unary_operator.Tie as tie
@@ -11,6 +12,7 @@ unfolding lookup
 unary-operator-spec =
     tie.close
     (tie.spec
+    (λ c κs. search needs)
     (λ c. rw (c .match .keys1))
     (λ c. rw (c .match .keys2))
     (λ c. rw (c .match .keys3))
@@ -25,4 +27,4 @@ unary-operator-spec =
     (λ c. rw (c .match .keys12))
     (λ c. rw (c .match .keys13))
     (λ c. rw (c .match .keys14))
-    (λ c. absent (c .before .args .instruction) unaryTable NotAnOperator Unit (c .match .rest)))
+    (λ c. c .scaling-operator .ensures ∙ absent (c .before .before .args .instruction) unaryTable _ Unit (c .before .match .rest)))

@@ -1,0 +1,53 @@
+-- Five operands come off, e first.
+use Rattle.machine.specs.Effect.{operates}
+use Rattle.operator.specs.declared.operators.Operator.the-variants.{Scale}
+use Rattle.operator.specs.declared.operators.Scaling.the-variants.{Map}
+use Rattle.scaling.specs.Map.{mapped}
+use Rattle.instruction.proofs.Operands.{behind, five-operands}
+use borrow.Author.Needs.{needs}
+use Rattle.instruction.proofs.operate.map.Statement.{statement}
+use Rattle.instruction.proofs.operate.map.Tie as tie
+
+push-answer-requires : tie.Need-push-answer-requires
+push-answer-requires c κs =
+    let a = c .before .before .before .before .before .before in
+    (a .before .before .before .before .before .before .before .pre, a .next-operand4 .ensures .1)
+
+returns : tie.Need-returns
+unfolding operates
+returns c =
+    let ne = c .before .before in
+    let nd = ne .before in
+    let nc = nd .before in
+    let nb = nc .before in
+    let na = nb .before in
+    let ka = na .before in
+    let a = ka .next-operand4 in
+    let b = ka .before .next-operand3 in
+    let c' = ka .before .before .next-operand2 in
+    let kd = ka .before .before .before in
+    let d = kd .next-operand in
+    let e = kd .before .top-operand in
+    let s = kd .before .before .before .before .args in
+    five-operands (s .stack .now) (Scale Map) (behind (s .code .now) (s .stack .now) (s .loopstart) (s .at)) mapped (e .result)
+    (d .result) (c' .result) (b .result) (a .result) (e .ensures .0) (d .ensures .0) (c' .ensures .0) (b .ensures .0) (a .ensures .0)
+    (rw (na .number-in .ensures, nb .number-in2 .ensures, nc .number-in3 .ensures, nd .number-in4 .ensures, ne .number-in5 .ensures)
+    at (c .before .map .ensures)) (c .push-answer .ensures)
+
+pub map-spec : {M : Type 1} → statement M
+map-spec =
+    tie.close
+    (tie.spec
+    (λ c κs. search needs)
+    (λ c κs. c .top-operand .ensures .1)
+    (λ c κs. c .next-operand .ensures .1)
+    (λ c κs. c .next-operand2 .ensures .1)
+    (λ c κs. c .next-operand3 .ensures .1)
+    (λ c κs. search needs)
+    (λ c κs. search needs)
+    (λ c κs. search needs)
+    (λ c κs. search needs)
+    (λ c κs. search needs)
+    (λ c κs. search needs)
+    push-answer-requires
+    returns)

@@ -1,0 +1,4 @@
+-- The laws of crate scaling, by topic.
+pub mod Sizes
+pub mod Mapping
+pub mod Powers

@@ -1,0 +1,4 @@
+pub mod Constrain
+pub mod Map
+pub mod Power
+pub mod Rows
