@@ -19,7 +19,7 @@ first = int(sys.argv[3]) if len(sys.argv) > 3 else 1
 last = int(sys.argv[4]) if len(sys.argv) > 4 else 10 ** 9
 per_file = int(sys.argv[5]) if len(sys.argv) > 5 else 50
 
-CRATES = "buffer decimal place integer root float number operator store variable machine".split()
+CRATES = "buffer decimal place integer root float number operator disc store variable machine".split()
 SKIP = set("Trace Observation Single Suppositions Isolation Refusals Ending NoPlace Demands Cases Bench Fields Tests AtPc Changed Faults Reaching Done LeftAlone DiscLengths Waiting NewFile".split())
 LOGIC = {"lib.Ieee": "span climb size odd units round neg sum add sub mul div lt eq le ne ofInt whole fits isNan ofFields ofBits nanBits toBits toUnsigned toSigned inUnsigned inSigned inFloat",
          "lib.Count": "trailingZeros leadingZeros"}
@@ -174,7 +174,7 @@ def main():
         ["use Prim.Native.Nat.{ℕ}", "use mathlib.Core.Bool.{true, false}", "use mathlib.Core.List.{List, [], _∷_}", "use mathlib.Core.Path.{_≡_, ap, refl}", "use lib.IntN.{ℤ, pos, negsuc}",
          "use Rattle.machine.specs.Answer.{Buffers, answer, bootAnswer, formatAnswer, turn, round, command, run, other, store, retrieve, erase, files, freeSpace, list}",
          "use Rattle.machine.specs.Operations.{suspend, resume, kill}", "use Rattle.machine_try.proofs.Try.{bytes, free-run, lent, says}", "use native.Mathlib.Nat.{not-suc-le-zero}", "use native.Mathlib.Omega.{arith}",
-         "use Rattle.place.specs.Place.{longest}", "use Rattle.store.specs.Directory.{taken}"] + uses) + "\n"
+         "use Rattle.place.specs.Place.{longest}", "use Rattle.disc.specs.Directory.{taken}"] + uses) + "\n"
     mods = ["Try"]
     chosen = [i for i in sorted(lines) if first <= i < last]
     if wrong:

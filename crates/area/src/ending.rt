@@ -1,12 +1,12 @@
 // A process's start and end, on the state by value.
 use crate::records::NO_LOOP;
 use crate::records::RUNNING;
+use disc::Entry;
 use machine::Kernel;
 use machine::OpenFile;
 use machine::Process;
 use machine::limits::STACK_SIZE;
 use place::Run;
-use store::Entry;
 ghost use mathlib.Core.Path.{_≡_};
 ghost use Prim.Native.Nat.{_<_, _≤_};
 ghost use Rattle.machine.specs.Limits.{slotCount};

@@ -1,6 +1,7 @@
 // One process record in the bytes of the work area, and next ID.
 // Document 01: "ten process records of 64 bytes: name 12, ID 2, state 1 [..], fault 1, code start 2, code length 2,
 // PC 2, loop 2 [..], file start 2, file length 2 [..], file offset 2, SP 1, spare 1 (zero), stack 32."
+use disc::layout::NAME_SIZE;
 use machine::OpenFile;
 use machine::Process;
 use machine::limits::NEXT_AT;
@@ -8,7 +9,6 @@ use machine::limits::RECORD_SIZE;
 use machine::limits::RECORDS_AT;
 use machine::limits::STACK_SIZE;
 use place::Run;
-use store::layout::NAME_SIZE;
 ghost use mathlib.Core.Path.{_≡_};
 ghost use Prim.Native.Nat.{_<_};
 ghost use lib.ListN.{length};

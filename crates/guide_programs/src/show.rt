@@ -1,9 +1,9 @@
 // A program stored on a formatted disc and run by rounds, with what it prints and how it ends.
 use crate::code::Code;
+use disc::layout::SHORT_DISC;
 use machine::limits::AREA_LENGTH;
 use machine::limits::RECORDS_AT;
 use running::MOST_ROUNDS;
-use store::layout::SHORT_DISC;
 
 // Milliseconds from one round to the next.
 const STEP: u32 = 100;

@@ -1,5 +1,6 @@
 // Literals, variables and output.
 use buffer::Found;
+use disc::name::text_length;
 use operator::instruction::Types;
 use stack::Action;
 use stack::STRING_KIND;
@@ -13,7 +14,6 @@ use stack::ends::with_part;
 use stack::tops::number_of;
 use stack::tops::top_value;
 use stack::tops::wide;
-use store::name::text_length;
 use variable::Variables;
 use variable::table::find_variable;
 use variable::table::value_of;

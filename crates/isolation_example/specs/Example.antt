@@ -6,7 +6,7 @@ use mathlib.Core.Path.{_≡_}
 use mathlib.Core.List.{List, [], _∷_}
 use lib.IntN.{pos}
 use lib.ListN.{drop, getD, length, replicate}
-use Rattle.store.specs.Layout.{shortDisc}
+use Rattle.disc.specs.Layout.{shortDisc}
 use Rattle.machine.specs.Answer.{Call, turn, round, command, run, other, store, booted}
 use Rattle.machine.specs.Isolation.{Started}
 use Rattle.machine.specs.Limits.{roundRoom}

@@ -1,7 +1,7 @@
 // What store and erase answer on an empty disc, on discs of another length and on a damaged one.
+use disc::layout::COUNT_AT;
+use disc::layout::SHORT_DISC;
 use machine::limits::AREA_LENGTH;
-use store::layout::COUNT_AT;
-use store::layout::SHORT_DISC;
 
 // A store on an empty disc, and one that must leave the disc as it was.
 pub fn store(label: &[u8], disc: &mut [u8], data: &[u8]) {

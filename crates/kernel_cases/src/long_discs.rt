@@ -2,10 +2,10 @@
 use crate::discs;
 use crate::variables;
 use buffer::bytes::word_at;
+use disc::layout::ENTRY_SIZE;
+use disc::layout::LONG_DISC;
+use disc::layout::NAME_SIZE;
 use machine::limits::AREA_LENGTH;
-use store::layout::ENTRY_SIZE;
-use store::layout::LONG_DISC;
-use store::layout::NAME_SIZE;
 
 // Where the third directory entry has its start.
 const THIRD_START: usize = 2 * ENTRY_SIZE + NAME_SIZE;

@@ -4,7 +4,7 @@ mod discs;
 mod long_discs;
 mod variables;
 
-use store::layout::SHORT_DISC;
+use disc::layout::SHORT_DISC;
 
 fn main() {
     discs::sizes();

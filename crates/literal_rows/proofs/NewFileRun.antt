@@ -10,10 +10,10 @@ use Rattle.buffer.specs.Lists.{all, any, flat, index, keep, pairs, same, tab}
 use Rattle.operator.specs.Instruction.{lookup as lookupOperator, operatorOf, includes}
 use Rattle.number.specs.Value.{numberOf}
 use Rattle.place.specs.Place.{apart, begins, fits, freeFrom, greatest, least, place}
+use Rattle.disc.specs.Directory.{beside as besideEntry, entryAt, goodDisc, goodEntry, goodFiles, isDiscLength, lookup}
+use Rattle.disc.specs.Name.{goodField, goodName, trimmed}
 use Rattle.store.specs.Answer.{checked, storeAnswer}
-use Rattle.store.specs.Directory.{beside as besideEntry, entryAt, goodDisc, goodEntry, goodFiles, isDiscLength, lookup}
 use Rattle.store.specs.File.{admission, entered, erased, placeOf, writtenAt}
-use Rattle.store.specs.Name.{goodField, goodName, trimmed}
 use Rattle.variable.specs.Good.{goodVariables}
 use Rattle.variable.specs.Table.{owned}
 use Rattle.machine.specs.Answer.{answer, formatAnswer, goodArea, otherAnswer}

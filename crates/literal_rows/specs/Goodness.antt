@@ -6,8 +6,8 @@ use mathlib.Core.List.{List, [], _∷_, _++_}
 use lib.ListN.{replicate, set}
 use Rattle.buffer.specs.Buffer.{overwrite}
 use Rattle.buffer.specs.Lists.{all}
-use Rattle.store.specs.Directory.{goodDisc}
-use Rattle.store.specs.Layout.{longDisc, shortDisc}
+use Rattle.disc.specs.Directory.{goodDisc}
+use Rattle.disc.specs.Layout.{longDisc, shortDisc}
 use Rattle.machine.specs.Answer.{goodArea}
 use Rattle.literal_rows.specs.Run.{areaBytes, discBytes}
 

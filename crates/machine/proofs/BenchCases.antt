@@ -15,10 +15,10 @@ use Rattle.number.specs.Text.{textOf}
 use Rattle.operator.specs.Unary.{unary}
 use Rattle.number.specs.Value.{numberOf}
 use Rattle.place.specs.Place.{apart, begins, fits, freeFrom, greatest, least, place}
+use Rattle.disc.specs.Directory.{beside, entryAt, goodDisc, goodEntry, goodFiles, isDiscLength, lookup}
+use Rattle.disc.specs.Name.{goodField, goodName, trimmed}
 use Rattle.store.specs.Answer.{checked, storeAnswer}
-use Rattle.store.specs.Directory.{beside, entryAt, goodDisc, goodEntry, goodFiles, isDiscLength, lookup}
 use Rattle.store.specs.File.{admission, entered, erased, placeOf, writtenAt}
-use Rattle.store.specs.Name.{goodField, goodName, trimmed}
 use Rattle.variable.specs.Assign.{assignedCells, added, assigned, placeFor, placing}
 use Rattle.variable.specs.Good.{goodVariables}
 use Rattle.variable.specs.Table.{freed, owned}

@@ -8,8 +8,8 @@ use lib.ListN.{length, replicate, set}
 use Rattle.buffer.specs.Buffer.{overwrite}
 use Rattle.buffer.specs.declared.Found.{Found}
 use Rattle.buffer.specs.declared.Found.the-variants.{At, Nowhere}
+use Rattle.disc.specs.Directory.{entryAt, files as entries, goodDisc, isDiscLength, lookup}
 use Rattle.store.specs.Answer.{Reported, Updated, filesAnswer, freeSpaceAnswer, retrieveAnswer, storeAnswer}
-use Rattle.store.specs.Directory.{entryAt, files as entries, goodDisc, isDiscLength, lookup}
 use Rattle.store.specs.File.{erased, unless}
 use Rattle.machine.specs.Area.{isAreaLength, kernelBytes, kernelOf}
 use Rattle.machine.specs.GoodArea.{goodKernel}

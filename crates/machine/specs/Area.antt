@@ -9,7 +9,7 @@ use Rattle.buffer.specs.Buffer.{part, wordAt, wordBytes}
 use Rattle.buffer.specs.Lists.{flat, tab}
 use Rattle.variable.specs.declared.Variable.{Variable}
 use Rattle.variable.specs.declared.Variables.{Variables}
-use Rattle.store.specs.Layout.{nameSize}
+use Rattle.disc.specs.Layout.{nameSize}
 use Rattle.variable.specs.Limits.{maxVariables, memorySize}
 use Rattle.machine.specs.Limits.{areaLength, countAt, entriesAt, entrySize, nextAt, recordSize, recordsAt}
 use Rattle.machine.specs.Limits.{slotCount, stackSize, zerosAt, zerosSize}

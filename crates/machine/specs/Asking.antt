@@ -3,7 +3,7 @@
 use Prim.Native.Nat.{ℕ, _+_}
 use mathlib.Core.List.{List}
 use Rattle.operator.specs.declared.instruction.Types.the-variants.{AnyNumber, AnyString, AnyValue}
-use Rattle.store.specs.Name.{trimmed}
+use Rattle.disc.specs.Name.{trimmed}
 use Rattle.machine.specs.Effect.{opens, closes, writes, reads, readsString, forks, awaits, Effect, asks}
 use Rattle.machine.specs.Effect.{withNumber, withPopped}
 use Rattle.machine.specs.Stack.{pop}

@@ -7,10 +7,10 @@ use mathlib.Core.List.{List, [], _∷_, _++_}
 use lib.ListN.{length, replicate}
 use Rattle.buffer.specs.declared.Found.{Found}
 use Rattle.buffer.specs.declared.Found.the-variants.{At, Nowhere}
-use Rattle.store.specs.Directory.{entryAt, lookup}
-use Rattle.store.specs.Layout.{dataStart, longDisc, shortDisc}
-use Rattle.store.specs.Name.{padded}
-use Rattle.store.specs.declared.Entry.{Entry}
+use Rattle.disc.specs.Directory.{entryAt, lookup}
+use Rattle.disc.specs.Layout.{dataStart, longDisc, shortDisc}
+use Rattle.disc.specs.Name.{padded}
+use Rattle.disc.specs.declared.Entry.{Entry}
 use Rattle.machine.specs.Answer.{Answer, Buffers, Call, other, store, answer, booted, formatAnswer}
 use Rattle.machine.specs.Area.{kernelOf}
 use Rattle.machine.specs.Limits.{areaLength}

@@ -14,10 +14,10 @@ use Rattle.float.specs.declared.whole.Size.the-variants.{Is, Refused}
 use Rattle.number.specs.Compare.{equals, sizeWithin}
 use Rattle.number.specs.declared.Number.{Number}
 use Rattle.place.specs.declared.Run.{Run}
-use Rattle.store.specs.Directory.{contents, entryAt, lookup}
+use Rattle.disc.specs.Directory.{contents, entryAt, lookup}
+use Rattle.disc.specs.Layout.{dataStart}
+use Rattle.disc.specs.Name.{trimmed}
 use Rattle.store.specs.File.{admission, readAt, stored, writtenAt}
-use Rattle.store.specs.Layout.{dataStart}
-use Rattle.store.specs.Name.{trimmed}
 use Rattle.store.specs.declared.Admission.{Admission}
 use Rattle.store.specs.declared.Admission.the-variants.{Start, Denied}
 use Rattle.machine.specs.Effect.{Request, opens, closes, writes, reads, readsString, forks, awaits}

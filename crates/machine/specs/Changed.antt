@@ -9,7 +9,7 @@ use lib.ListN.{length, getD, replicate}
 use Rattle.buffer.specs.Buffer.{overwrite, part}
 use Rattle.place.specs.Place.{fits}
 use Rattle.place.specs.ShortestFit.{ShortestFit}
-use Rattle.store.specs.Layout.{countAt, entrySize, nameSize}
+use Rattle.disc.specs.Layout.{countAt, entrySize, nameSize}
 use Rattle.variable.specs.Limits.{memorySize}
 use Rattle.variable.specs.Table.{counted, runOf}
 use Rattle.variable.specs.declared.Variables.{Variables}

@@ -11,8 +11,8 @@ use lib.ListN.{length}
 use Rattle.float.specs.declared.whole.Size.{Size}
 use Rattle.float.specs.declared.whole.Size.the-variants.{Is, Refused}
 use Rattle.number.specs.declared.Number.the-variants.{Int, Float}
-use Rattle.store.specs.Directory.{DiscLength, isDiscLength}
-use Rattle.store.specs.Layout.{dataStart, longDisc, shortDisc}
+use Rattle.disc.specs.Directory.{DiscLength, isDiscLength}
+use Rattle.disc.specs.Layout.{dataStart, longDisc, shortDisc}
 use Rattle.machine.specs.Answer.{Buffers, answer, other, store}
 use Rattle.machine.specs.Beyond.{newFileSize}
 use Rattle.machine.specs.Fields.{IsName, filesOn}

@@ -21,7 +21,7 @@ use Rattle.operator.specs.declared.operators.Scaling.the-variants.{Constrain, M
 use Rattle.scaling.specs.Constrain.{constrained}
 use Rattle.scaling.specs.Map.{mapped}
 use Rattle.scaling.specs.Power.{power}
-use Rattle.store.specs.Name.{trimmed}
+use Rattle.disc.specs.Name.{trimmed}
 use Rattle.variable.specs.Table.{Cell}
 use Rattle.machine.specs.Limits.{stackSize}
 use Rattle.machine.specs.Stack.{Item, Popped, popped, cannot, pop, push, stringKind}

@@ -10,8 +10,8 @@ use lib.ListN.{length, getD}
 use Rattle.buffer.specs.Buffer.{part, wordAt}
 use Rattle.buffer.specs.Lists.{flat, tab}
 use Rattle.decimal.specs.Decimal.{decimal}
-use Rattle.store.specs.Layout.{countAt, dataStart, entrySize, maxName, nameSize}
-use Rattle.store.specs.Name.{trimmed}
+use Rattle.disc.specs.Layout.{countAt, dataStart, entrySize, maxName, nameSize}
+use Rattle.disc.specs.Name.{trimmed}
 use Rattle.machine.specs.Limits.{nextAt, recordSize, recordsAt, slotCount}
 use Rattle.machine.specs.State.{paused, running}
 

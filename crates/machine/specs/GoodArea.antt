@@ -4,7 +4,7 @@ use mathlib.Core.Bool.{Bool, cond, _&&_, _||_, not}
 use mathlib.Core.List.{List}
 use lib.Dec.{eqb, leb, ltb}
 use Rattle.buffer.specs.Lists.{all, any, pairs, same}
-use Rattle.store.specs.declared.Entry.{Entry}
+use Rattle.disc.specs.declared.Entry.{Entry}
 use Rattle.variable.specs.Good.{goodVariables}
 use Rattle.machine.specs.Limits.{idLimit, stackSize}
 use Rattle.machine.specs.State.{isLive, liveIds, noLoop}

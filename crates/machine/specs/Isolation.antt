@@ -5,7 +5,7 @@ use mathlib.Core.Bool.{Bool, true, false, _&&_, not}
 use mathlib.Core.List.{List, [], _∷_, _++_}
 use Rattle.buffer.specs.declared.Found.{Found}
 use Rattle.buffer.specs.declared.Found.the-variants.{At, Nowhere}
-use Rattle.store.specs.Directory.{contents, entryAt, lookup, runOf}
+use Rattle.disc.specs.Directory.{contents, entryAt, lookup, runOf}
 use Rattle.machine.specs.Answer.{Call, turn, round, command, run, other}
 use Rattle.machine.specs.Observation.{Watched, inputs, notRefused, observations, placeIn, singleRun, watch}
 use Rattle.machine.specs.Single.{fresh}

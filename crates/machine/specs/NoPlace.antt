@@ -8,7 +8,7 @@ use Rattle.float.specs.declared.whole.Size.{Size}
 use Rattle.float.specs.declared.whole.Size.the-variants.{Is, Refused}
 use Rattle.place.specs.Place.{fits}
 use Rattle.place.specs.declared.Run.{Run}
-use Rattle.store.specs.Layout.{maxFiles}
+use Rattle.disc.specs.Layout.{maxFiles}
 use Rattle.variable.specs.Assign.{entryLimit, highEnd, lowEnd, takenRuns}
 use Rattle.variable.specs.declared.Variables.{Variables}
 use Rattle.machine.specs.Fields.{Free, IsName, filesOn}

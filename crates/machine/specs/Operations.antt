@@ -7,8 +7,8 @@ use Rattle.buffer.specs.Lists.{any, flat, keep}
 use Rattle.buffer.specs.declared.Found.{Found}
 use Rattle.buffer.specs.declared.Found.the-variants.{At, Nowhere}
 use Rattle.decimal.specs.Decimal.{decimal}
-use Rattle.store.specs.Name.{trimmed}
-use Rattle.store.specs.declared.Entry.{Entry}
+use Rattle.disc.specs.Name.{trimmed}
+use Rattle.disc.specs.declared.Entry.{Entry}
 use Rattle.machine.specs.GoodArea.{isOpenIn, isProgram}
 use Rattle.machine.specs.Ended.{ended}
 use Rattle.machine.specs.State.{isLive, isRunning, paused, processAt, running, slotOf, withProcess}

@@ -12,7 +12,7 @@ use Rattle.float.specs.declared.whole.Size.the-variants.{Is}
 use Rattle.number.specs.Compare.{equals}
 use Rattle.number.specs.Value.{numberOf}
 use Rattle.place.specs.ShortestFit.{ShortestFit}
-use Rattle.store.specs.Layout.{maxFiles}
+use Rattle.disc.specs.Layout.{maxFiles}
 use Rattle.machine.specs.Answer.{Buffers}
 use Rattle.machine.specs.AtPc.{AtPc, NumberOnTop, Onward, SameDisc, StringOnTop, ValueOnTop, ahead, byteAhead}
 use Rattle.machine.specs.AtPc.{fileIn, pcIn, processIn, stackIn, stateAfter, turnAnswer}

@@ -5,7 +5,7 @@ use mathlib.Core.Bool.{true, _&&_}
 use mathlib.Core.List.{List}
 use lib.Dec.{leb, ltb}
 use lib.ListN.{length}
-use Rattle.store.specs.Directory.{goodDisc, isDiscLength}
+use Rattle.disc.specs.Directory.{goodDisc, isDiscLength}
 use Rattle.machine.specs.Answer.{Buffers, goodArea}
 use Rattle.machine.specs.Area.{isAreaLength, kernelOf}
 use Rattle.machine.specs.Limits.{slotCount, turnRoom}

@@ -9,7 +9,7 @@ use Rattle.buffer.specs.Lists.{same}
 use Rattle.operator.specs.Instruction.{includes}
 use Rattle.operator.specs.declared.instruction.Types.{Types}
 use Rattle.operator.specs.declared.instruction.Types.the-variants.{AnyString}
-use Rattle.store.specs.Name.{trimmed}
+use Rattle.disc.specs.Name.{trimmed}
 
 -- a value as it lies: its type, and its bytes without length and type
 pub record Item : Type 0 where

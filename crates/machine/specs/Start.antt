@@ -6,8 +6,8 @@ use lib.Dec.{eqb}
 use lib.ListN.{replicate}
 use Rattle.buffer.specs.declared.Found.{Found}
 use Rattle.buffer.specs.declared.Found.the-variants.{At, Nowhere}
-use Rattle.store.specs.Directory.{entryAt, lookup}
-use Rattle.store.specs.declared.Entry.{Entry}
+use Rattle.disc.specs.Directory.{entryAt, lookup}
+use Rattle.disc.specs.declared.Entry.{Entry}
 use Rattle.machine.specs.Limits.{idLimit, stackSize}
 use Rattle.machine.specs.State.{endedSlot, noFile, noLoop, running, withProcess}
 use Rattle.machine.specs.declared.Kernel.{Kernel}

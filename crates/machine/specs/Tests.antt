@@ -7,8 +7,8 @@ use mathlib.Core.List.{List}
 use mathlib.Core.Logic.{_⊎_}
 use lib.IntN.{pos, negℤ}
 use lib.ListN.{length}
-use Rattle.store.specs.Directory.{DiscLength, goodDisc}
-use Rattle.store.specs.Layout.{dataStart, maxFiles}
+use Rattle.disc.specs.Directory.{DiscLength, goodDisc}
+use Rattle.disc.specs.Layout.{dataStart, maxFiles}
 use Rattle.machine.specs.Answer.{Answer, Buffers, Call, Other, turn, round, command, run, other, store, retrieve}
 use Rattle.machine.specs.Answer.{erase, files, freeSpace, list, answer, bootAnswer, formatAnswer, goodArea}
 use Rattle.machine.specs.Fields.{Ended, Free, HasId, IsName, Named, NoFile, Uses, filesOn, filesText, nextId}

@@ -1,7 +1,7 @@
 -- A turn: the instruction of one process, on the kernel's state and the disc.
 use Prim.Native.Nat.{ℕ}
 use mathlib.Core.List.{List, []}
-use Rattle.store.specs.Directory.{contents}
+use Rattle.disc.specs.Directory.{contents}
 use Rattle.variable.specs.Assign.{assigned, placingFault, valueOf}
 use Rattle.variable.specs.Table.{owned}
 use Rattle.variable.specs.declared.Placing.{Placing}

@@ -3,11 +3,11 @@
 pub mod instruction;
 pub mod limits;
 
+use disc::layout::NAME_SIZE;
 use limits::SLOT_COUNT;
 use limits::STACK_SIZE;
 use limits::ZEROS_SIZE;
 use place::Run;
-use store::layout::NAME_SIZE;
 use variable::Variables;
 ghost use Rattle.machine.specs.Cases.{Bench, Delays, Misreadings};
 ghost use Rattle.machine.specs.Demands.{BytesKept, EventsAreCalls, FaultTouchesOwn, GoodKept, LengthsKept};

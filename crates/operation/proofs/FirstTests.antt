@@ -7,7 +7,7 @@ use native.Mathlib.Omega.{arith}
 use lib.ListN.{length}
 use borrow.Author.Tests.{le-leb, lt-leb}
 use Rattle.buffer.specs.declared.Found.the-variants.{At}
-use Rattle.store.specs.Directory.{goodDisc, isDiscLength}
+use Rattle.disc.specs.Directory.{goodDisc, isDiscLength}
 use Rattle.store.specs.File.{unless}
 use Rattle.machine.specs.Answer.{goodArea, onGood, refused, withRoom}
 use Rattle.machine.specs.Answer.{Answer as Expected}

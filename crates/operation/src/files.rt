@@ -13,7 +13,7 @@ ghost use Rattle.machine.specs.Area.{kernelOf};
 ghost use Rattle.machine.specs.Refusals.{Passes};
 ghost use Rattle.machine.specs.Start.{starting};
 ghost use Rattle.operation.specs.Answers.{answered, lent};
-ghost use Rattle.store.specs.Directory.{lookup};
+ghost use Rattle.disc.specs.Directory.{lookup};
 
 // Document 01, Erase: "10; 11 a live process runs it or has it open."
 fn erase_file(disc: &mut [u8], area: &[u8], name: &[u8]) -> Answer
@@ -22,10 +22,10 @@ fn erase_file(disc: &mut [u8], area: &[u8], name: &[u8]) -> Answer
         ≡ eraseAt (lookup (now (disc .entry)) (now (name .entry))) (kernelOf (now (area .entry)))
         (lent (now (disc .entry)) (now (area .entry)) out)) ⌝ }
 {
-    match store::directory::find(disc, name) {
+    match disc::directory::find(disc, name) {
         Found::Nowhere => Answer::Refused(Refusal::NoSuchFile),
         Found::At(i) => {
-            if area::processes::is_in_use(area, store::directory::entry_at(disc, i)) {
+            if area::processes::is_in_use(area, disc::directory::entry_at(disc, i)) {
                 return Answer::Refused(Refusal::FileInUse);
             }
             store::file::erase_entry(disc, i);
@@ -54,7 +54,7 @@ fn run_file(disc: &[u8], area: &mut [u8], name: &[u8]) -> Answer
     match request::start::find_start(disc, area, name) {
         Starting::Starts(slot, i) => {
             let k = area::kernel::kernel_of(area);
-            let entry = store::directory::entry_at(disc, i);
+            let entry = disc::directory::entry_at(disc, i);
             area::kernel::put_kernel(area, request::start::start(k, slot, entry));
             Answer::Done(k.next)
         }

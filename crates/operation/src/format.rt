@@ -46,7 +46,7 @@ pub fn format(disc: &mut [u8], area: &mut [u8]) -> Answer
     ensures { λ r. ⌜ ((out : List ℕ) → answered r (now (disc .exit)) (now (area .exit)) out
         ≡ formatAnswer (lent (now (disc .entry)) (now (area .entry)) out)) ⌝ }
 {
-    if !store::good::is_disc_length(disc.len()) {
+    if !disc::good::is_disc_length(disc.len()) {
         return Answer::Refused(Refusal::WrongLength);
     }
     if area.len() != AREA_LENGTH {

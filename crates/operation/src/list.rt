@@ -29,7 +29,7 @@ fn with_line(text: Text, p: Process) -> Text
     let counted = decimal::append_decimal(text, p.id as u32);
     let state = [b' ', p.state, b' '];
     let stated = buffer::text::append(counted, &state);
-    let named = store::name::append_name(stated, name);
+    let named = disc::name::append_name(stated, name);
     buffer::text::append(named, b"\n")
 }
 

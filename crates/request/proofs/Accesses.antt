@@ -24,10 +24,10 @@ use Rattle.process.specs.Stepping.{Stepping, stackOf}
 use Rattle.stack.specs.Steps.{about, keeping}
 use Rattle.stack.specs.declared.Step.{Step}
 use Rattle.stack.proofs.Steps.{pushed-length}
-use Rattle.store.specs.Directory.{contents}
+use Rattle.disc.specs.Directory.{contents}
+use Rattle.disc.specs.Name.{trimmed}
+use Rattle.disc.proofs.Names.{text-with-zero, trimmed-short}
 use Rattle.store.specs.File.{readAt, writtenAt}
-use Rattle.store.specs.Name.{trimmed}
-use Rattle.store.proofs.Names.{text-with-zero, trimmed-short}
 use Rattle.request.specs.Answers.{Ahead, Lies, accessTo, textRead}
 use Rattle.request.specs.declared.Access.{Access}
 use Rattle.request.specs.declared.Access.the-variants.{Inside, NoFile, PastEnd}

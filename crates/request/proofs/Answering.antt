@@ -21,7 +21,7 @@ use Rattle.number.specs.declared.Number.{Number}
 use Rattle.process.specs.Stepping.{Left, Stepping, left, pushing, stackOf}
 use Rattle.stack.specs.Steps.{about, keeping}
 use Rattle.stack.specs.declared.Step.{Step}
-use Rattle.store.specs.declared.Entry.{Entry}
+use Rattle.disc.specs.declared.Entry.{Entry}
 use Rattle.request.specs.Answers.{after, isAwaitedBy}
 
 module _ {area : List ℕ} {slot : ℕ} {p : Process} {d : Step} (s : Stepping area slot p d) (disc : List ℕ) where

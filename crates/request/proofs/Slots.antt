@@ -12,7 +12,7 @@ use Rattle.machine.specs.Area.{kernelOf}
 use Rattle.machine.specs.Limits.{idLimit, slotCount}
 use Rattle.machine.specs.Start.{startIn, starting}
 use Rattle.machine.specs.State.{endedSlot, isLive}
-use Rattle.store.specs.Directory.{lookup}
+use Rattle.disc.specs.Directory.{lookup}
 
 pub ended-slot-low : (area : List ℕ) {slot : ℕ} → endedSlot (kernelOf area) ≡ At slot → slot < slotCount
 unfolding endedSlot kernelOf

@@ -5,7 +5,7 @@ use Rattle.machine.specs.Area.{kernelOf}
 use Rattle.machine.specs.Limits.{idLimit, slotCount}
 use Rattle.machine.specs.Start.{starts, refuses}
 use Rattle.machine.specs.Start.{Starting as StartOf}
-use Rattle.store.specs.Directory.{entryAt, fileCount}
+use Rattle.disc.specs.Directory.{entryAt, fileCount}
 use mathlib.Core.Path.{_≡_}
 use Rattle.request.specs.declared.Starting.{Starting}
 use Rattle.request.specs.declared.Starting.the-variants.{Starts, NoSlot, NoFile, NoId}

@@ -18,7 +18,7 @@ ghost use Rattle.process.specs.Stepping.{Stepping, left, stackOf};
 ghost use Rattle.request.specs.Answers.{after};
 ghost use Rattle.request.specs.Starts.{Startable};
 ghost use Rattle.stack.specs.Steps.{about, keeping};
-ghost use Rattle.store.specs.Directory.{Readable, entryAt};
+ghost use Rattle.disc.specs.Directory.{Readable, entryAt};
 
 const INT_KIND: u8 = 2;
 
@@ -55,7 +55,7 @@ fn push_child(
     let id = [buffer::bytes::high(k.next), buffer::bytes::low(k.next)];
     let tail = [INT_KIND];
     let parent = moved(p, d, &id, &tail, file);
-    let mut after = start(k, child, store::directory::entry_at(disc, i));
+    let mut after = start(k, child, disc::directory::entry_at(disc, i));
     after.processes[slot] = parent;
     area::kernel::put_kernel(area, after);
 }

@@ -1,5 +1,6 @@
 // OPEN: a file that is there, or a new one.
 use buffer::Found;
+use disc::layout::DATA_START;
 use float::whole::Size;
 use machine::OpenFile;
 use machine::Process;
@@ -9,7 +10,6 @@ use process::advance::go_on;
 use process::ending::finish;
 use stack::Step;
 use store::Admission;
-use store::layout::DATA_START;
 ghost use mathlib.Core.Path.{_≡_};
 ghost use mathlib.Core.List.{List};
 ghost use Prim.Native.Nat.{ℕ};
@@ -19,7 +19,7 @@ ghost use Rattle.machine.specs.Effect.{opens};
 ghost use Rattle.process.specs.Stepping.{Stepping, left, stackOf};
 ghost use Rattle.request.specs.Answers.{after, runFrom};
 ghost use Rattle.stack.specs.Steps.{about, keeping};
-ghost use Rattle.store.specs.Directory.{Readable};
+ghost use Rattle.disc.specs.Directory.{Readable};
 ghost use Rattle.store.specs.File.{admission};
 
 // Document 01, fault 13: "OPEN's new file refused by name, size or store's 8 or 9"
@@ -80,9 +80,9 @@ pub fn open_file(disc: &mut [u8], area: &mut [u8], slot: usize, p: Process, d: S
 {
     let bytes = d.bytes;
     let len = d.len as usize;
-    match store::directory::find(disc, &bytes[..len]) {
+    match disc::directory::find(disc, &bytes[..len]) {
         Found::At(i) => {
-            let entry = store::directory::entry_at(disc, i);
+            let entry = disc::directory::entry_at(disc, i);
             open_run(area, slot, p, d, entry.start, entry.len);
         }
         Found::Nowhere => open_new(disc, area, slot, p, d, size),

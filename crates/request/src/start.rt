@@ -4,9 +4,9 @@ use area::ending::started_process;
 use area::processes::ended_slot;
 use area::records::next_id;
 use buffer::Found;
+use disc::Entry;
 use machine::Kernel;
 use machine::limits::ID_LIMIT;
-use store::Entry;
 ghost use mathlib.Core.Path.{_≡_};
 ghost use Prim.Native.Nat.{_<_};
 ghost use lib.ListN.{length};
@@ -14,7 +14,7 @@ ghost use Rattle.machine.specs.Area.{kernelOf};
 ghost use Rattle.machine.specs.Limits.{areaLength, slotCount};
 ghost use Rattle.machine.specs.Start.{started, starting};
 ghost use Rattle.request.specs.Starts.{Inside, startingOf};
-ghost use Rattle.store.specs.Directory.{Readable};
+ghost use Rattle.disc.specs.Directory.{Readable};
 
 // Document 01, Run: "12 no ended slot, 10, 13 next ID is 32768. Takes the lowest ended slot"
 pub fn find_start(disc: &[u8], area: &[u8], name: &[u8]) -> Starting
@@ -25,7 +25,7 @@ pub fn find_start(disc: &[u8], area: &[u8], name: &[u8]) -> Starting
 {
     match ended_slot(area) {
         Found::Nowhere => Starting::NoSlot,
-        Found::At(slot) => match store::directory::find(disc, name) {
+        Found::At(slot) => match disc::directory::find(disc, name) {
             Found::Nowhere => Starting::NoFile,
             Found::At(i) => {
                 if next_id(area) == ID_LIMIT {

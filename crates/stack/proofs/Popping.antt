@@ -31,7 +31,7 @@ use Rattle.operator.specs.declared.operators.Scaling.the-variants.{Constrain, M
 use Rattle.operator.specs.declared.operators.Unary.{Unary}
 use Rattle.operator.specs.declared.operators.Unary.the-variants.{Increment, Decrement, UnaryMinus, LogicalNot, BitwiseNot, Convert}
 use Rattle.operator.specs.declared.operators.Unary.the-variants.{Abs, Sq, Sqrt}
-use Rattle.store.specs.Name.{trimmed}
+use Rattle.disc.specs.Name.{trimmed}
 use Rattle.machine.specs.Effect.{Effect, number, withNumber, withPopped}
 use Rattle.machine.specs.Stack.{Item, Popped, popped, cannot, pop, stringKind}
 use Rattle.machine.proofs.Instructions.Popping.{Pops, TakenOff, number-kinds, pop-pops}

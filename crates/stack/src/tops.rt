@@ -2,10 +2,10 @@
 use crate::STRING_KIND;
 use crate::TopNumber;
 use crate::TopValue;
+use disc::name::text_length;
 use number::Number;
 use operator::instruction::Types;
 use operator::instruction::takes;
-use store::name::text_length;
 ghost use mathlib.Core.Bool.{true};
 ghost use mathlib.Core.Path.{_≡_};
 ghost use Prim.Native.Nat.{_≤_};

@@ -13,16 +13,16 @@ use Rattle.buffer.specs.declared.Found.the-variants.{At, Nowhere}
 use Rattle.buffer.proofs.Bools.{and-left}
 use Rattle.place.specs.Place.{fits}
 use Rattle.place.proofs.Place.{Fits, no-place-none-fits, place-fits}
-use Rattle.store.specs.Directory.{fileCount, goodDisc, isDiscLength, lookup, taken}
+use Rattle.disc.specs.Directory.{fileCount, goodDisc, isDiscLength, lookup, taken}
+use Rattle.disc.specs.Layout.{dataStart, maxFiles}
+use Rattle.disc.specs.Name.{goodName}
+use Rattle.disc.proofs.Goodness.{good-disc-is}
 use Rattle.store.specs.File.{admission, denyIfFound, goodSize, placeOf, startOr, unless}
-use Rattle.store.specs.Layout.{dataStart, maxFiles}
-use Rattle.store.specs.Name.{goodName}
 use Rattle.store.specs.declared.Admission.{Admission}
 use Rattle.store.specs.declared.Admission.the-variants.{Start, Denied}
 use Rattle.store.specs.declared.Refusal.{Refusal}
 use Rattle.store.specs.declared.Refusal.the-variants.{WrongLength, BadDisc, ShortOutput, BadName, BadSize, NameExists, DirectoryFull}
 use Rattle.store.specs.declared.Refusal.the-variants.{NoRun, NoSuchFile}
-use Rattle.store.proofs.Goodness.{good-disc-is}
 
 -- admitted at start s
 pub record Admitted (disc name : List ℕ) (n s : ℕ) : Type 0 where

@@ -13,18 +13,19 @@ use Rattle.buffer.specs.declared.Found.the-variants.{At, Nowhere}
 use Rattle.buffer.proofs.Bools.{true-not-false}
 use Rattle.place.specs.Place.{isAt, longest}
 use Rattle.place.proofs.Place.{longest-fits, longest-most}
+use Rattle.disc.specs.Directory.{goodDisc, isDiscLength, taken}
+use Rattle.disc.specs.Layout.{dataStart}
+use Rattle.disc.proofs.Lengths.{disc-bounds}
 use Rattle.store.specs.Answer.{Reported, Updated, answerNumber, freeSpaceAnswer}
 use Rattle.store.specs.Answer.{storeAnswer, storeAt, updated}
-use Rattle.store.specs.Directory.{goodDisc, isDiscLength, taken}
 use Rattle.store.specs.File.{admission, placeOf, stored}
-use Rattle.store.specs.Layout.{dataStart}
 use Rattle.store.specs.declared.Admission.{Admission}
 use Rattle.store.specs.declared.Admission.the-variants.{Start, Denied}
 use Rattle.store.specs.declared.Answer.the-variants.{Done, Refused}
 use Rattle.store.specs.declared.Refusal.{Refusal}
 use Rattle.store.specs.declared.Refusal.the-variants.{WrongLength, BadDisc, ShortOutput, BadName, BadSize, NameExists, DirectoryFull}
 use Rattle.store.specs.declared.Refusal.the-variants.{NoRun, NoSuchFile}
-use Rattle.store.proofs.Checks.{by-checks, disc-bounds}
+use Rattle.store.proofs.Checks.{by-checks}
 use Rattle.store.proofs.Admissions.{Admitted, Denial, admitted, denied}
 
 -- ---- numbers

@@ -16,11 +16,11 @@ use Rattle.buffer.proofs.Parts.{byte-before, byte-behind, byte-inside, byte-of-
 use Rattle.buffer.proofs.Parts.{part-of-append-left, part-of-append-right, part-of-part, same-part}
 use Rattle.buffer.proofs.Tables.{tab-without}
 use Rattle.place.specs.declared.Run.{Run}
-use Rattle.store.specs.Directory.{entryAt, entryBytes, fileCount, files}
+use Rattle.disc.specs.Directory.{entryAt, entryBytes, fileCount, files}
+use Rattle.disc.specs.Layout.{countAt, dataStart, entrySize, maxFiles, nameSize}
+use Rattle.disc.proofs.Entries.{entry-bytes-length, entry-laid, same-count, same-entry, same-files}
+use Rattle.disc.proofs.Names.{padded-length}
 use Rattle.store.specs.File.{entered, erased, newEntry, writtenAt}
-use Rattle.store.specs.Layout.{countAt, dataStart, entrySize, maxFiles, nameSize}
-use Rattle.store.proofs.Entries.{entry-bytes-length, entry-laid, same-count, same-entry, same-files}
-use Rattle.store.proofs.Names.{padded-length}
 
 -- ---- s laid over entries from place at on, and a new file count
 record DirectoryChange (disc : List ℕ) (at : ℕ) (s : List ℕ) (count : ℕ) (after : List ℕ) : Type 0 where

@@ -13,11 +13,11 @@ use Rattle.buffer.proofs.Parts.{part-around, part-length, part-outside}
 use Rattle.place.specs.Place.{apart}
 use Rattle.place.specs.declared.Run.{Run}
 use Rattle.place.proofs.Place.{apart-is}
-use Rattle.store.specs.Directory.{contents, entryAt, fileCount, goodDisc, runOf}
+use Rattle.disc.specs.Directory.{contents, entryAt, fileCount, goodDisc, runOf}
+use Rattle.disc.specs.Layout.{dataStart}
+use Rattle.disc.proofs.Goodness.{beside-at, good-entry-at}
 use Rattle.store.specs.File.{entered, erased, readAt, writtenAt}
-use Rattle.store.specs.Layout.{dataStart}
 use Rattle.store.proofs.Changes.{Inside, Present, Room, entered-data, erased-data}
-use Rattle.store.proofs.Goodness.{beside-at, good-entry-at}
 use Rattle.store.proofs.Invariant.{file-inside}
 
 -- ---- lengths

@@ -12,14 +12,14 @@ use Rattle.buffer.specs.declared.Found.the-variants.{At}
 use Rattle.buffer.proofs.Parts.{part-of-part}
 use Rattle.place.specs.Place.{runFrom}
 use Rattle.place.proofs.Place.{apart-sym}
-use Rattle.store.specs.Directory.{contents, entryAt, fileCount, goodDisc, lookup, runOf}
+use Rattle.disc.specs.Directory.{contents, entryAt, fileCount, goodDisc, lookup, runOf}
+use Rattle.disc.specs.Layout.{countAt, entrySize}
+use Rattle.disc.proofs.Goodness.{good-entry-at}
 use Rattle.store.specs.File.{entered, newEntry, readAt, stored}
-use Rattle.store.specs.Layout.{countAt, entrySize}
 use Rattle.store.proofs.Admissions.{Admitted}
 use Rattle.store.proofs.Changes.{Inside, entered-byte, entered-count, entered-length, entered-new, entered-old, written-byte}
 use Rattle.store.proofs.Changes.{written-count, written-entry, written-length}
 use Rattle.store.proofs.Contents.{entered-contents, written-elsewhere, written-read}
-use Rattle.store.proofs.Goodness.{good-entry-at}
 use Rattle.store.proofs.Invariant.{entered-good, new-entry-beside, room, written-good}
 use Rattle.store.proofs.LookupChanges.{entered-found, written-lookup}
 

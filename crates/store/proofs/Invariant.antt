@@ -9,15 +9,15 @@ use Rattle.buffer.proofs.Tables.{all-map, all-tab-at, all-tab-each}
 use Rattle.place.specs.Place.{apart, runFrom}
 use Rattle.place.specs.declared.Run.{Run}
 use Rattle.place.proofs.Place.{apart-sym}
-use Rattle.store.specs.Directory.{beside, entryAt, fileCount, files, goodDisc, runOf}
+use Rattle.disc.specs.Directory.{beside, entryAt, fileCount, files, goodDisc, runOf}
+use Rattle.disc.proofs.Goodness.{Beside, GoodEntry, good-disc-is, good-entry-at, good-files-less, good-files-more, is-beside}
+use Rattle.disc.proofs.Goodness.{is-good-disc, is-good-entry}
+use Rattle.disc.proofs.Lookups.{lookup-none}
+use Rattle.disc.proofs.Names.{good-name-is, padded-good}
 use Rattle.store.specs.File.{entered, erased, newEntry, writtenAt}
 use Rattle.store.proofs.Admissions.{Admitted}
 use Rattle.store.proofs.Changes.{Inside, Present, Room, entered-count, entered-files, entered-length, erased-count, erased-files}
 use Rattle.store.proofs.Changes.{erased-length, written-count, written-files, written-length}
-use Rattle.store.proofs.Goodness.{Beside, GoodEntry, good-disc-is, good-entry-at, good-files-less, good-files-more, is-beside}
-use Rattle.store.proofs.Goodness.{is-good-disc, is-good-entry}
-use Rattle.store.proofs.Lookups.{lookup-none}
-use Rattle.store.proofs.Names.{good-name-is, padded-good}
 
 -- ---- what enters
 module _ {disc name : List ℕ} {n s : ℕ} (a : Admitted disc name n s) where

@@ -8,16 +8,16 @@ use lib.ListN.{length}
 use Rattle.buffer.specs.Lists.{index}
 use Rattle.buffer.specs.declared.Found.the-variants.{At}
 use Rattle.place.specs.declared.Run.{Run}
-use Rattle.store.specs.Directory.{fileCount, goodDisc, lookup, named, nowhereUnless}
+use Rattle.disc.specs.Directory.{fileCount, goodDisc, lookup, named, nowhereUnless}
+use Rattle.disc.specs.Name.{goodName}
+use Rattle.disc.specs.declared.Entry.{Entry}
+use Rattle.disc.proofs.Goodness.{good-disc-is}
+use Rattle.disc.proofs.Lookups.{lookup-is}
 use Rattle.store.specs.File.{entered, writtenAt}
-use Rattle.store.specs.Name.{goodName}
-use Rattle.store.specs.declared.Entry.{Entry}
 use Rattle.store.proofs.Admissions.{Admitted}
 use Rattle.store.proofs.Changes.{Inside, entered-count, entered-new}
 use Rattle.store.proofs.Changes.{written-files}
-use Rattle.store.proofs.Goodness.{good-disc-is}
 use Rattle.store.proofs.Invariant.{entered-good, room}
-use Rattle.store.proofs.Lookups.{lookup-is}
 
 -- ---- what enters
 module _ {disc name : List ℕ} {n s : ℕ} (good : goodDisc disc ≡ true) (a : Admitted disc name n s) where

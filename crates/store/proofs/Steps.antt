@@ -12,12 +12,12 @@ use Rattle.buffer.specs.declared.text.Text.{Text}
 use Rattle.buffer.proofs.Buffer.{overwrite-joined, overwrite-set}
 use Rattle.buffer.proofs.Parts.{part-length}
 use Rattle.buffer.proofs.Texts.{appended-joined}
-use Rattle.store.specs.Directory.{contents, entryBytes, fileCount, runOf}
+use Rattle.disc.specs.Directory.{contents, entryBytes, fileCount, runOf}
+use Rattle.disc.specs.Layout.{countAt, dataStart, entrySize, maxFiles}
+use Rattle.disc.specs.declared.Entry.{Entry}
 use Rattle.store.specs.Answer.{reported, retrieveFile, textAnswer}
 use Rattle.store.specs.File.{entered, erased, newEntry, stored, writtenAt}
-use Rattle.store.specs.Layout.{countAt, dataStart, entrySize, maxFiles}
 use Rattle.store.specs.declared.Answer.the-variants.{Done, Refused}
-use Rattle.store.specs.declared.Entry.{Entry}
 use Rattle.store.specs.declared.Refusal.the-variants.{ShortOutput}
 
 module _ (d : List ℕ) (h : dataStart ≤ length d) where

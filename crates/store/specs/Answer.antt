@@ -10,17 +10,17 @@ use Rattle.buffer.specs.declared.Found.{Found}
 use Rattle.buffer.specs.declared.Found.the-variants.{At, Nowhere}
 use Rattle.decimal.specs.Decimal.{decimal}
 use Rattle.place.specs.Place.{longest}
-use Rattle.store.specs.Directory.{contents, entryAt, files, goodDisc, isDiscLength, lookup, runOf, taken}
+use Rattle.disc.specs.Directory.{contents, entryAt, files, goodDisc, isDiscLength, lookup, runOf, taken}
+use Rattle.disc.specs.Layout.{dataStart}
+use Rattle.disc.specs.Name.{trimmed}
+use Rattle.disc.specs.declared.Entry.{Entry}
 use Rattle.store.specs.File.{admission, stored, unless}
-use Rattle.store.specs.Layout.{dataStart}
-use Rattle.store.specs.Name.{trimmed}
 use Rattle.store.specs.declared.Admission.{Admission}
 use Rattle.store.specs.declared.Admission.the-variants.{Start, Denied}
 use Rattle.store.specs.declared.Answer.{Answer}
 use Rattle.store.specs.declared.Answer.the-variants.{Done, Refused}
 use Rattle.store.specs.declared.Checked.{Checked}
 use Rattle.store.specs.declared.Checked.the-variants.{Usable, Unusable}
-use Rattle.store.specs.declared.Entry.{Entry}
 use Rattle.store.specs.declared.Refusal.{Refusal}
 use Rattle.store.specs.declared.Refusal.the-variants.{WrongLength, BadDisc, ShortOutput, BadName, BadSize}
 use Rattle.store.specs.declared.Refusal.the-variants.{NameExists, DirectoryFull, NoRun, NoSuchFile}

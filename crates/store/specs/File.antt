@@ -9,12 +9,12 @@ use Rattle.buffer.specs.declared.Found.{Found}
 use Rattle.buffer.specs.declared.Found.the-variants.{At, Nowhere}
 use Rattle.place.specs.Place.{place, runFrom}
 use Rattle.place.specs.declared.Run.{Run}
-use Rattle.store.specs.Directory.{contents, entryBytes, fileCount, lookup, taken}
-use Rattle.store.specs.Layout.{countAt, dataStart, entrySize, maxFiles}
-use Rattle.store.specs.Name.{goodName, padded}
+use Rattle.disc.specs.Directory.{contents, entryBytes, fileCount, lookup, taken}
+use Rattle.disc.specs.Layout.{countAt, dataStart, entrySize, maxFiles}
+use Rattle.disc.specs.Name.{goodName, padded}
+use Rattle.disc.specs.declared.Entry.{Entry}
 use Rattle.store.specs.declared.Admission.{Admission}
 use Rattle.store.specs.declared.Admission.the-variants.{Start, Denied}
-use Rattle.store.specs.declared.Entry.{Entry}
 use Rattle.store.specs.declared.Refusal.the-variants.{BadName, BadSize, NameExists, DirectoryFull, NoRun}
 
 -- the rest where the test holds, else the refusal: the order of refusals is the order of the lines

@@ -1,5 +1,2 @@
-pub mod Layout
-pub mod Name
-pub mod Directory
 pub mod File
 pub mod Answer

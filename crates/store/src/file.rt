@@ -1,28 +1,28 @@
 // What becomes of files: a new one enters, one goes, bytes are written and read inside one.
 use crate::Admission;
-use crate::Entry;
 use crate::Refusal;
-use crate::layout::COUNT_AT;
-use crate::layout::DATA_START;
-use crate::layout::ENTRY_SIZE;
-use crate::layout::MAX_FILES;
 use buffer::Found;
+use disc::Entry;
+use disc::layout::COUNT_AT;
+use disc::layout::DATA_START;
+use disc::layout::ENTRY_SIZE;
+use disc::layout::MAX_FILES;
 use place::Run;
 ghost use mathlib.Core.Path.{_≡_};
 ghost use Prim.Native.Nat.{_+_, _<_, _≤_};
 ghost use lib.ListN.{drop, length};
 ghost use Rattle.buffer.specs.Buffer.{overwrite, part, zeros};
-ghost use Rattle.store.specs.Directory.{Readable, contents, fileCount};
+ghost use Rattle.disc.specs.Directory.{Readable, contents, fileCount};
+ghost use Rattle.disc.specs.Layout.{dataStart, entrySize, maxFiles, nameSize};
+ghost use Rattle.disc.specs.Name.{trimmed};
 ghost use Rattle.store.specs.File.{admission, entered, erased, readAt, stored, writtenAt};
-ghost use Rattle.store.specs.Layout.{dataStart, entrySize, maxFiles, nameSize};
-ghost use Rattle.store.specs.Name.{trimmed};
 
 // Whether a new file of n bytes is admitted under this name, and where it goes.
 pub fn admit(disc: &[u8], name: &[u8], n: usize) -> Admission
     requires { ⌜ Readable (now disc) ⌝ }
     ensures { λ r. ⌜ r ≡ admission (now (disc .entry)) (now (name .entry)) n ⌝ }
 {
-    if !crate::name::is_good_name(name) {
+    if !disc::name::is_good_name(name) {
         return Admission::Denied(Refusal::BadName);
     }
     if n < 1 {
@@ -31,14 +31,14 @@ pub fn admit(disc: &[u8], name: &[u8], n: usize) -> Admission
     if disc.len() - DATA_START < n {
         return Admission::Denied(Refusal::BadSize);
     }
-    let count = crate::directory::file_count(disc);
+    let count = disc::directory::file_count(disc);
     if MAX_FILES <= count {
         return Admission::Denied(Refusal::DirectoryFull);
     }
-    if let Found::At(_) = crate::directory::find(disc, name) {
+    if let Found::At(_) = disc::directory::find(disc, name) {
         return Admission::Denied(Refusal::NameExists);
     }
-    let runs = crate::directory::taken_runs(disc);
+    let runs = disc::directory::taken_runs(disc);
     match place::find_place(runs, count, DATA_START, disc.len(), n) {
         Found::At(start) => Admission::Start(start),
         Found::Nowhere => Admission::Denied(Refusal::NoRun),
@@ -51,14 +51,14 @@ pub fn enter(disc: &mut [u8], name: &[u8], n: usize, start: usize)
     requires { ⌜ (fileCount (now disc) < maxFiles) × (length (now name) ≤ nameSize) × (n < 65536) × (start < 65536) ⌝ }
     ensures { λ _. ⌜ now (disc .exit) ≡ entered (now (disc .entry)) (now (name .entry)) n start ⌝ }
 {
-    let count = crate::directory::file_count(disc);
-    let field = crate::name::pad(name);
+    let count = disc::directory::file_count(disc);
+    let field = disc::name::pad(name);
     let entry = Entry {
         name: field,
         start: start as u16,
         len: n as u16,
     };
-    crate::directory::put_entry(disc, count, entry);
+    disc::directory::put_entry(disc, count, entry);
     disc[COUNT_AT] = (count + 1) as u8;
 }
 
@@ -92,7 +92,7 @@ pub fn erase_entry(disc: &mut [u8], i: usize)
     requires { ⌜ i < fileCount (now disc) ⌝ }
     ensures { λ _. ⌜ now (disc .exit) ≡ erased (now (disc .entry)) i ⌝ }
 {
-    let last = crate::directory::file_count(disc) - 1;
+    let last = disc::directory::file_count(disc) - 1;
     let zeros = [0u8; ENTRY_SIZE];
     move_up(disc, i * ENTRY_SIZE, (last - i) * ENTRY_SIZE);
     buffer::bytes::overwrite_at(disc, last * ENTRY_SIZE, &zeros);
@@ -125,5 +125,5 @@ pub fn text_ahead(disc: &[u8], run: Run, offset: usize) -> usize
     let start = run.start as usize;
     let at = start + offset;
     let end = start + run.len as usize;
-    crate::name::text_length(&disc[at..end])
+    disc::name::text_length(&disc[at..end])
 }

@@ -2,26 +2,39 @@
 use crate::Admission;
 use crate::Answer;
 use crate::Checked;
-use crate::Entry;
 use crate::Refusal;
-use crate::layout::DATA_START;
 use buffer::Found;
 use buffer::text::Text;
+use disc::Entry;
+use disc::layout::DATA_START;
 use place::Run;
 ghost use mathlib.Core.Path.{_≡_};
 ghost use Prim.Native.Nat.{_+_, _*_, _≤_};
 ghost use Rattle.buffer.specs.Lists.{flat};
 ghost use Rattle.buffer.specs.Text.{appended, emptyText, textSize};
-ghost use Rattle.store.specs.Answer.{answerNumber, fileLine, filesAnswer, freeSpaceAnswer, reported};
+ghost use Rattle.disc.specs.Directory.{Readable, files};
+ghost use Rattle.disc.specs.Layout.{lineSize, maxFiles};
+ghost use Rattle.store.specs.Answer.{answerNumber, checked, fileLine, filesAnswer, freeSpaceAnswer, reported};
 ghost use Rattle.store.specs.Answer.{retrieveAnswer, storeAnswer, updated};
-ghost use Rattle.store.specs.Directory.{Readable, files};
-ghost use Rattle.store.specs.Layout.{lineSize, maxFiles};
+
+// Document 01: "1: a buffer has the wrong length. 2: disc not good." Every operation tries these first.
+pub fn check(disc: &[u8]) -> Checked
+    ensures { λ r. ⌜ r ≡ checked (now (disc .entry)) ⌝ }
+{
+    if !disc::good::is_disc_length(disc.len()) {
+        return Checked::Unusable(Refusal::WrongLength);
+    }
+    if !disc::good::is_good_disc(disc) {
+        return Checked::Unusable(Refusal::BadDisc);
+    }
+    Checked::Usable
+}
 
 pub fn store(disc: &mut [u8], name: &[u8], data: &[u8]) -> Answer
     ensures { λ r. ⌜ updated r (now (disc .exit)) ≡ storeAnswer (now (disc .entry)) (now (name .entry))
         (now («data» .entry)) ⌝ }
 {
-    if let Checked::Unusable(refusal) = crate::good::check(disc) {
+    if let Checked::Unusable(refusal) = check(disc) {
         return Answer::Refused(refusal);
     }
     match crate::file::admit(disc, name, data.len()) {
@@ -42,13 +55,13 @@ pub fn retrieve(disc: &[u8], name: &[u8], out: &mut [u8]) -> Answer
     ensures { λ r. ⌜ reported r (now (out .exit)) ≡ retrieveAnswer (now (disc .entry)) (now (name .entry))
         (now (out .entry)) ⌝ }
 {
-    if let Checked::Unusable(refusal) = crate::good::check(disc) {
+    if let Checked::Unusable(refusal) = check(disc) {
         return Answer::Refused(refusal);
     }
-    match crate::directory::find(disc, name) {
+    match disc::directory::find(disc, name) {
         Found::Nowhere => Answer::Refused(Refusal::NoSuchFile),
         Found::At(i) => {
-            let entry = crate::directory::entry_at(disc, i);
+            let entry = disc::directory::entry_at(disc, i);
             let len = entry.len as usize;
             let start = entry.start as usize;
             if out.len() < len {
@@ -67,7 +80,7 @@ fn with_line(text: Text, entry: Entry) -> Text
     ensures { λ r. ⌜ (r ≡ appended text (fileLine entry)) × (r .len ≤ text .len + lineSize) ⌝ }
 {
     let name = entry.name;
-    let named = crate::name::append_name(text, name);
+    let named = disc::name::append_name(text, name);
     let spaced = buffer::text::append(named, b" ");
     let counted = decimal::append_decimal(spaced, entry.len as u32);
     buffer::text::append(counted, b"\n")
@@ -78,11 +91,11 @@ fn files_text(disc: &[u8]) -> Text
     ensures { λ r. ⌜ (r ≡ appended emptyText (flat fileLine (files (now (disc .entry)))))
         × (r .len ≤ maxFiles * lineSize) ⌝ }
 {
-    let count = crate::directory::file_count(disc);
+    let count = disc::directory::file_count(disc);
     let mut text = buffer::text::empty_text();
     let mut i: usize = 0;
     while i < count {
-        let entry = crate::directory::entry_at(disc, i);
+        let entry = disc::directory::entry_at(disc, i);
         text = with_line(text, entry);
         i += 1;
     }
@@ -92,7 +105,7 @@ fn files_text(disc: &[u8]) -> Text
 pub fn files(disc: &[u8], out: &mut [u8]) -> Answer
     ensures { λ r. ⌜ reported r (now (out .exit)) ≡ filesAnswer (now (disc .entry)) (now (out .entry)) ⌝ }
 {
-    if let Checked::Unusable(refusal) = crate::good::check(disc) {
+    if let Checked::Unusable(refusal) = check(disc) {
         return Answer::Refused(refusal);
     }
     let text = files_text(disc);
@@ -109,11 +122,11 @@ pub fn files(disc: &[u8], out: &mut [u8]) -> Answer
 pub fn free_space(disc: &[u8]) -> Answer
     ensures { λ r. ⌜ answerNumber r ≡ freeSpaceAnswer (now (disc .entry)) ⌝ }
 {
-    if let Checked::Unusable(refusal) = crate::good::check(disc) {
+    if let Checked::Unusable(refusal) = check(disc) {
         return Answer::Refused(refusal);
     }
-    let count = crate::directory::file_count(disc);
-    let runs = crate::directory::taken_runs(disc);
+    let count = disc::directory::file_count(disc);
+    let runs = disc::directory::taken_runs(disc);
     let len = place::longest_run(runs, count, DATA_START, disc.len());
     Answer::Done(len as u16)
 }

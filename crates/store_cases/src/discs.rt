@@ -1,9 +1,9 @@
 // The operations by document 01's numbers, as the firmware sees them, and the discs that the cases start from.
 use buffer::Found;
+use disc::layout::SHORT_DISC;
 use store::Checked;
-use store::layout::SHORT_DISC;
 ghost use Prim.Native.Nat.{_<_, _≤_};
-ghost use Rattle.store.specs.Layout.{maxFiles};
+ghost use Rattle.disc.specs.Layout.{maxFiles};
 
 pub fn store(disc: &mut [u8], name: &[u8], data: &[u8]) -> i32 {
     store::numbers::number(store::operations::store(disc, name, data))
@@ -23,10 +23,10 @@ pub fn free_space(disc: &[u8]) -> i32 {
 
 // Erases the file of that name, if the disc is good and has one. Whether it is in use, only the kernel knows.
 fn erase(disc: &mut [u8], name: &[u8]) {
-    if let Checked::Unusable(_) = store::good::check(disc) {
+    if let Checked::Unusable(_) = store::operations::check(disc) {
         return;
     }
-    if let Found::At(i) = store::directory::find(disc, name) {
+    if let Found::At(i) = disc::directory::find(disc, name) {
         store::file::erase_entry(disc, i);
     }
 }
@@ -78,6 +78,6 @@ pub fn with_garbage() -> [u8; SHORT_DISC] {
 pub fn start_of(disc: [u8; SHORT_DISC], i: usize) -> i32
     requires { ⌜ i < maxFiles ⌝ }
 {
-    let entry = store::directory::entry_at(&disc, i);
+    let entry = disc::directory::entry_at(&disc, i);
     entry.start as i32
 }

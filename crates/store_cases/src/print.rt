@@ -1,9 +1,9 @@
 // Whether bytes are as they must be.
+use disc::layout::SHORT_DISC;
 use printing::text;
-use store::layout::SHORT_DISC;
 ghost use Prim.Native.Nat.{_+_, _≤_};
 ghost use lib.ListN.{length};
-ghost use Rattle.store.specs.Layout.{shortDisc};
+ghost use Rattle.disc.specs.Layout.{shortDisc};
 
 // Whether the disc has these bytes from place at on.
 pub fn part_line(label: &[u8], disc: [u8; SHORT_DISC], at: usize, bytes: &[u8])

@@ -11,8 +11,8 @@ use borrow.Author.Tests.{le-leb}
 use Rattle.buffer.proofs.Bools.{and-both}
 use Rattle.buffer.proofs.Lists.{all-weaker}
 use Rattle.place.specs.declared.Run.{Run}
-use Rattle.store.specs.Directory.{files}
-use Rattle.store.proofs.Goodness.{good-entry-at}
+use Rattle.disc.specs.Directory.{files}
+use Rattle.disc.proofs.Goodness.{good-entry-at}
 use Rattle.variable.specs.Good.{goodVariable}
 use Rattle.variable.specs.Limits.{valueSize}
 use Rattle.variable.specs.Table.{owned}

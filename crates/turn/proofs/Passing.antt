@@ -4,8 +4,8 @@ use mathlib.Core.Path.{_≡_}
 use mathlib.Core.List.{List}
 use lib.ListN.{length}
 use borrow.Author.Tests.{eqb-true}
-use Rattle.store.specs.Directory.{Readable, files}
-use Rattle.store.proofs.Checks.{readable}
+use Rattle.disc.specs.Directory.{Readable, files}
+use Rattle.disc.proofs.Lengths.{readable}
 use Rattle.variable.specs.Limits.{maxVariables}
 use Rattle.variable.proofs.Goodness.{GoodVariables, good-variables-is}
 use Rattle.machine.specs.Area.{kernelOf}

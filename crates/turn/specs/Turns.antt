@@ -16,7 +16,7 @@ use Rattle.stack.specs.declared.Action.{Action}
 use Rattle.stack.specs.declared.Action.the-variants.{Push, Print, Assign, Stop, Fault, Open, Close, Write, Read}
 use Rattle.stack.specs.declared.Action.the-variants.{ReadString, Fork, Await}
 use Rattle.stack.specs.declared.Step.{Step}
-use Rattle.store.specs.Directory.{Readable}
+use Rattle.disc.specs.Directory.{Readable}
 
 -- ---- what carrying out a step needs
 -- by what it does: room for what is pushed (FORK's ID is an INT of two bytes and its type), a byte to assign, the

@@ -17,11 +17,11 @@ use Rattle.buffer.proofs.Kept.{any-at}
 use Rattle.buffer.proofs.Lists.{tab-at, tab-length}
 use Rattle.place.specs.Place.{apart}
 use Rattle.place.specs.declared.Run.{Run}
-use Rattle.store.specs.Directory.{entryAt, fileCount, files, runOf}
-use Rattle.store.specs.Layout.{entrySize, maxFiles, nameSize}
-use Rattle.store.specs.declared.Entry.{Entry}
-use Rattle.store.proofs.Goodness.{GoodEntry, beside-at, good-entry-at}
-use Rattle.store.proofs.InPlace.{run-in-place}
+use Rattle.disc.specs.Directory.{entryAt, fileCount, files, runOf}
+use Rattle.disc.specs.Layout.{entrySize, maxFiles, nameSize}
+use Rattle.disc.specs.declared.Entry.{Entry}
+use Rattle.disc.proofs.Goodness.{GoodEntry, beside-at, good-entry-at}
+use Rattle.disc.proofs.InPlace.{run-in-place}
 use Rattle.validation.specs.Columns.{FileOf, Listed, fileRuns}
 use Rattle.validation.proofs.Columns.{column-at, column-behind}
 

@@ -6,7 +6,7 @@ use mathlib.Core.List.{List, map}
 use native.Mathlib.Omega.{arith}
 use Rattle.buffer.specs.Lists.{all, keep, pairs}
 use Rattle.buffer.proofs.Lists.{map-tab}
-use Rattle.store.specs.Directory.{files}
+use Rattle.disc.specs.Directory.{files}
 use Rattle.variable.specs.Good.{goodVariables}
 use Rattle.machine.specs.Answer.{goodArea}
 use Rattle.machine.specs.Area.{kernelOf, variablesOf}

@@ -7,8 +7,8 @@ use lib.Dec.{eqb, leb, ltb}
 use lib.ListN.{getD, replicate}
 use Rattle.buffer.specs.Buffer.{fourAt, overwrite, wordAt}
 use Rattle.buffer.specs.Lists.{tab}
-use Rattle.store.specs.Directory.{Readable, fileCount, goodDisc}
-use Rattle.store.specs.Layout.{entrySize as fileEntrySize, maxFiles, nameSize}
+use Rattle.disc.specs.Directory.{Readable, fileCount, goodDisc}
+use Rattle.disc.specs.Layout.{entrySize as fileEntrySize, maxFiles, nameSize}
 use Rattle.variable.specs.Good.{goodSize}
 use Rattle.variable.specs.Limits.{memorySize}
 use Rattle.variable.specs.declared.Variable.{Variable}

@@ -3,7 +3,7 @@ use mathlib.Core.Bool.{_&&_}
 use mathlib.Core.List.{List}
 use Prim.Native.Nat.{ℕ}
 use lib.ListN.{length}
-use Rattle.store.specs.Directory.{goodDisc, isDiscLength}
+use Rattle.disc.specs.Directory.{goodDisc, isDiscLength}
 use Rattle.store.specs.File.{unless}
 use Rattle.machine.specs.Answer.{goodArea}
 use Rattle.machine.specs.Area.{isAreaLength}

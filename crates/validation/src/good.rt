@@ -15,7 +15,7 @@ ghost use lib.Dec.{eqb};
 ghost use lib.ListN.{length};
 ghost use Rattle.buffer.specs.Buffer.{part};
 ghost use Rattle.buffer.specs.Lists.{all};
-ghost use Rattle.store.specs.Directory.{Readable, goodDisc};
+ghost use Rattle.disc.specs.Directory.{Readable, goodDisc};
 ghost use Rattle.machine.specs.Answer.{goodArea};
 ghost use Rattle.machine.specs.Area.{kernelOf};
 ghost use Rattle.machine.specs.GoodArea.{goodHeader};

@@ -17,13 +17,13 @@ pub enum Tested {
 pub fn check(disc: &[u8], area: &[u8]) -> Tested
     ensures { λ r. ⌜ r ≡ tested (now (disc .entry)) (now (area .entry)) ⌝ }
 {
-    if !store::good::is_disc_length(disc.len()) {
+    if !disc::good::is_disc_length(disc.len()) {
         return Tested::WrongLength;
     }
     if area.len() != AREA_LENGTH {
         return Tested::WrongLength;
     }
-    if !store::good::is_good_disc(disc) {
+    if !disc::good::is_good_disc(disc) {
         return Tested::BadDisc;
     }
     if !good::is_good_area(disc, area) {

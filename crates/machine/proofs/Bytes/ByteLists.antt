@@ -7,7 +7,7 @@ use lib.Dec.{eqb, leb}
 use lib.ListN.{drop, getD, length, replicate, take}
 use Rattle.buffer.specs.Buffer.{overwrite, part, wordAt, wordBytes}
 use Rattle.decimal.specs.Decimal.{decimal, ifMore, lastDigits, maxDigits}
-use Rattle.store.specs.Name.{trimmed, unlessZero}
+use Rattle.disc.specs.Name.{trimmed, unlessZero}
 use Rattle.machine.specs.Area.{AreBytes}
 use Rattle.machine.proofs.Bytes.Each.{Each, at-each, each-append, each-at, each-drop, each-replicate, each-take}
 

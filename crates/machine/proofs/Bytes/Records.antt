@@ -11,7 +11,7 @@ use Rattle.buffer.specs.Lists.{tab}
 use Rattle.buffer.proofs.Buffer.{word-split}
 use Rattle.buffer.proofs.Parts.{part-byte, part-length, part-split}
 use Rattle.variable.specs.declared.Variable.{Variable}
-use Rattle.store.specs.Layout.{nameSize}
+use Rattle.disc.specs.Layout.{nameSize}
 use Rattle.machine.specs.Area.{AreBytes, processBytes, processOf, registerBytes, registerSize, stackAt, variableBytes, variableOf}
 use Rattle.machine.specs.Limits.{entrySize, recordSize, stackSize}
 use Rattle.machine.specs.declared.Process.{Process}

@@ -11,10 +11,10 @@ use borrow.Author.Tests.{eqb-false, eqb-true}
 use Rattle.buffer.specs.Buffer.{part}
 use Rattle.buffer.proofs.Lists.{tab-at, tab-length}
 use Rattle.buffer.proofs.Parts.{part-length}
-use Rattle.store.specs.declared.Entry.{Entry}
+use Rattle.disc.specs.declared.Entry.{Entry}
 use Rattle.variable.specs.Table.{Shaped}
 use Rattle.variable.specs.declared.Variables.{Variables}
-use Rattle.store.specs.Layout.{nameSize}
+use Rattle.disc.specs.Layout.{nameSize}
 use Rattle.variable.specs.Limits.{memorySize}
 use Rattle.machine.specs.Area.{kernelOf, processOf, stackAt, variablesOf}
 use Rattle.machine.specs.Limits.{areaLength, recordSize, recordsAt, slotCount, stackSize, zerosAt, zerosSize}

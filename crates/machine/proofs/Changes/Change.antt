@@ -9,9 +9,9 @@ use mathlib.Core.Path.{_≡_}
 use mathlib.Core.Bool.{Bool, true, false}
 use mathlib.Core.List.{List}
 use lib.ListN.{getD, length}
-use Rattle.store.specs.Directory.{entryAt, fileCount, files, goodDisc, isDiscLength}
+use Rattle.disc.specs.Directory.{entryAt, fileCount, files, goodDisc, isDiscLength}
+use Rattle.disc.specs.declared.Entry.{Entry}
 use Rattle.store.specs.File.{erased, stored, writtenAt}
-use Rattle.store.specs.declared.Entry.{Entry}
 use Rattle.store.proofs.Admissions.{Admitted}
 use Rattle.variable.specs.Assign.{assigned, valueBytes}
 use Rattle.variable.specs.Good.{goodSize}

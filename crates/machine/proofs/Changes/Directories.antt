@@ -9,8 +9,8 @@ use Rattle.buffer.specs.Lists.{any}
 use Rattle.buffer.proofs.Bools.{and-both}
 use Rattle.buffer.proofs.Lists.{all-each, tab-at, tab-length}
 use Rattle.place.specs.declared.Run.{Run}
-use Rattle.store.specs.Directory.{entryAt, fileCount, files, goodDisc, isDiscLength, runOf}
-use Rattle.store.specs.declared.Entry.{Entry}
+use Rattle.disc.specs.Directory.{entryAt, fileCount, files, goodDisc, isDiscLength, runOf}
+use Rattle.disc.specs.declared.Entry.{Entry}
 use Rattle.machine.specs.Beyond.{fileRun}
 use Rattle.machine.specs.GoodArea.{goodProcess, isOpenIn, isProgram}
 use Rattle.machine.specs.Operations.{uses}

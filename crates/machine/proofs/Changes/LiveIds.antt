@@ -10,7 +10,7 @@ use Rattle.buffer.specs.declared.Found.the-variants.{Nowhere}
 use Rattle.buffer.proofs.Bools.{and-both, and-left, and-right, not-is-true, not-true-is-false}
 use Rattle.buffer.proofs.Kept.{keep-none}
 use Rattle.buffer.proofs.Lists.{all-weaker}
-use Rattle.store.specs.Directory.{files}
+use Rattle.disc.specs.Directory.{files}
 use Rattle.variable.specs.Good.{goodVariable, goodVariables}
 use Rattle.variable.specs.Table.{cellOf, counted, owned, ownedBy}
 use Rattle.variable.specs.declared.Variable.{Variable}

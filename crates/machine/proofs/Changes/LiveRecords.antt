@@ -7,7 +7,7 @@ use native.Mathlib.Omega.{arith}
 use lib.Dec.{eqb}
 use lib.ListN.{length}
 use Rattle.place.specs.declared.Run.{Run}
-use Rattle.store.specs.Directory.{contents}
+use Rattle.disc.specs.Directory.{contents}
 use Rattle.store.proofs.Contents.{file-length}
 use Rattle.variable.proofs.Views.{take-bound}
 use Rattle.machine.specs.State.{isLive, isRunning, localOf, paused, processAt}

@@ -11,7 +11,7 @@ use borrow.Author.Tests.{eqb-false, eqb-true}
 use Rattle.buffer.specs.Lists.{all, any, pairs}
 use Rattle.buffer.specs.declared.Found.the-variants.{Nowhere}
 use Rattle.buffer.proofs.Lists.{all-each}
-use Rattle.store.specs.declared.Entry.{Entry}
+use Rattle.disc.specs.declared.Entry.{Entry}
 use Rattle.machine.specs.GoodArea.{goodKernel, goodProcess, otherId}
 use Rattle.machine.specs.State.{isLive, liveIds, noProcess, processAt, slotOf, withProcess}
 use Rattle.machine.specs.declared.Kernel.{Kernel}

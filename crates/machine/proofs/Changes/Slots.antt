@@ -11,7 +11,7 @@ use Rattle.buffer.specs.declared.Found.the-variants.{At, Nowhere}
 use Rattle.buffer.proofs.Bools.{and-both, and-left, and-right, not-true-is-false, true-not-false}
 use Rattle.buffer.proofs.Lists.{index-is, index-miss}
 use Rattle.buffer.proofs.Tables.{index-at, index-none}
-use Rattle.store.specs.Directory.{files}
+use Rattle.disc.specs.Directory.{files}
 use Rattle.machine.specs.Area.{kernelOf}
 use Rattle.machine.specs.Limits.{slotCount}
 use Rattle.machine.specs.Observation.{placeIn}

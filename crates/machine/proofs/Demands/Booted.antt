@@ -6,9 +6,9 @@ use mathlib.Core.List.{List}
 use lib.ListN.{getD, length, length-replicate, replicate}
 use Rattle.buffer.specs.Lists.{all, any, keep, pairs, tab}
 use Rattle.buffer.proofs.Bools.{and-both, and-left, and-right}
-use Rattle.store.specs.Directory.{goodDisc, goodFiles, isDiscLength}
+use Rattle.disc.specs.Directory.{goodDisc, goodFiles, isDiscLength}
 use Rattle.variable.specs.Good.{goodVariables}
-use Rattle.store.specs.Layout.{countAt}
+use Rattle.disc.specs.Layout.{countAt}
 use Rattle.machine.specs.Answer.{Buffers, bootAnswer, booted, formatAnswer, goodArea}
 use Rattle.machine.specs.Area.{isAreaLength, kernelOf, variablesOf}
 use Rattle.machine.specs.GoodArea.{goodHeader, goodKernel, goodProcess, otherId}

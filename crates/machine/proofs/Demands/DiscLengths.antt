@@ -13,8 +13,8 @@ use borrow.Author.Tests.{leb-true, leb-false}
 use Rattle.buffer.specs.Lists.{all, pairs, tab}
 use Rattle.float.specs.Whole.{sized, sizeOf, wholeOf, within}
 use Rattle.float.specs.declared.whole.Size.the-variants.{Is, Refused}
-use Rattle.store.specs.Directory.{DiscLength, goodDisc, goodFiles}
-use Rattle.store.specs.Layout.{dataStart, maxFiles}
+use Rattle.disc.specs.Directory.{DiscLength, goodDisc, goodFiles}
+use Rattle.disc.specs.Layout.{dataStart, maxFiles}
 use Rattle.machine.specs.Answer.{Answer, Buffers, answer, other, store}
 use Rattle.machine.specs.DiscLengths.{EmptyDiscTakes, Fitting, OpenTakes, Taken, dataBytes}
 use Rattle.machine.specs.Fields.{Free, IsName, NoFile, filesOn}

@@ -9,7 +9,7 @@ use lib.ListN.{length}
 use Rattle.buffer.proofs.Bools.{true-not-false}
 use Rattle.number.specs.declared.Number.{Number}
 use Rattle.variable.specs.Table.{freed, isOf}
-use Rattle.store.specs.Directory.{lookup}
+use Rattle.disc.specs.Directory.{lookup}
 use Rattle.buffer.specs.declared.Found.the-variants.{Nowhere}
 use Rattle.machine.specs.Beyond.{newFileSize}
 use Rattle.machine.specs.Answer.{Buffers}

@@ -9,10 +9,10 @@ use borrow.Author.Tests.{eq-eqb, eqb-true, not-true}
 use Rattle.buffer.specs.declared.Found.{Found}
 use Rattle.buffer.specs.declared.Found.the-variants.{At, Nowhere}
 use Rattle.buffer.proofs.Bools.{and-both, and-left, and-right}
-use Rattle.store.specs.Directory.{entryAt, isDiscLength, lookup}
+use Rattle.disc.specs.Directory.{entryAt, isDiscLength, lookup}
+use Rattle.disc.proofs.Lookups.{lookup-at}
 use Rattle.store.specs.File.{erased, stored}
 use Rattle.store.proofs.Calls.{store-cases}
-use Rattle.store.proofs.Lookups.{lookup-at}
 use Rattle.machine.specs.Answer.{Answer, Buffers, Other, store, retrieve, erase, files, freeSpace, list, Call, turn, round}
 use Rattle.machine.specs.Answer.{command, run, other}
 use Rattle.machine.specs.Answer.{answer, commandAnswer, eraseAt, goodArea, onDisc, onGood, otherAnswer, runAt}

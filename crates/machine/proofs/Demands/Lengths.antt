@@ -14,8 +14,9 @@ use Rattle.buffer.specs.declared.Found.{Found}
 use Rattle.buffer.specs.declared.Found.the-variants.{At, Nowhere}
 use Rattle.buffer.proofs.Bools.{and-right}
 use Rattle.buffer.proofs.Buffer.{overwrite-length}
+use Rattle.disc.specs.Directory.{contents, entryAt, files as entries, goodDisc, isDiscLength, lookup, runOf}
+use Rattle.disc.proofs.Lookups.{lookup-at}
 use Rattle.store.specs.Answer.{Reported, fileLine, filesAnswer, reported, retrieveAnswer, retrieveAt}
-use Rattle.store.specs.Directory.{contents, entryAt, files as entries, goodDisc, isDiscLength, lookup, runOf}
 use Rattle.store.specs.File.{unless}
 use Rattle.store.specs.declared.Answer.the-variants.{Done, Refused}
 use Rattle.store.specs.declared.Refusal.the-variants.{ShortOutput}
@@ -25,7 +26,6 @@ use Rattle.store.proofs.Checks.{by-checks}
 use Rattle.store.proofs.Contents.{file-length}
 use Rattle.store.proofs.Effects.{stored-length}
 use Rattle.store.proofs.Invariant.{present}
-use Rattle.store.proofs.Lookups.{lookup-at}
 use Rattle.machine.specs.Answer.{Answer, Buffers, Other, store, retrieve, erase, files, freeSpace, list, Call, turn, round}
 use Rattle.machine.specs.Answer.{command, run, other, answer, bootAnswer, commandAnswer, done, eraseAt, formatAnswer, onDisc}
 use Rattle.machine.specs.Answer.{onGood, otherAnswer, refused, runAt}

@@ -22,7 +22,8 @@ use Rattle.number.specs.Compare.{sizeWithin}
 use Rattle.number.specs.declared.Number.{Number}
 use Rattle.number.specs.declared.Number.the-variants.{Char, Int, Float}
 use Rattle.place.specs.Place.{runFrom}
-use Rattle.store.specs.Directory.{entryAt, goodDisc, isDiscLength, lookup}
+use Rattle.disc.specs.Directory.{entryAt, goodDisc, isDiscLength, lookup}
+use Rattle.disc.specs.Layout.{dataStart}
 use Rattle.store.specs.File.{admission, goodSize, stored}
 use Rattle.store.specs.declared.Admission.{Admission}
 use Rattle.store.specs.declared.Admission.the-variants.{Start, Denied}
@@ -30,7 +31,6 @@ use Rattle.store.specs.declared.Refusal.{Refusal}
 use Rattle.store.specs.declared.Refusal.the-variants.{WrongLength, BadDisc, ShortOutput, BadName, BadSize, NameExists, DirectoryFull, NoRun}
 use Rattle.store.specs.declared.Refusal.the-variants.{NoSuchFile}
 use Rattle.store.proofs.Admissions.{Denial, denied, denied-full}
-use Rattle.store.specs.Layout.{dataStart}
 use Rattle.machine.specs.Beyond.{Answered, answered, breaks, continues, created, createdAt, newFileSize, opened, openedAt}
 use Rattle.machine.specs.Effect.{opens}
 use Rattle.machine.specs.NoPlace.{NewFileRefused, by-name, by-size, by-full, by-no-run}

@@ -17,7 +17,7 @@ use Rattle.number.specs.declared.Number.{Number}
 use Rattle.place.specs.Place.{place}
 use Rattle.place.specs.declared.Run.{Run}
 use Rattle.place.proofs.Place.{no-place-none-fits}
-use Rattle.store.specs.Directory.{goodDisc, isDiscLength, lookup}
+use Rattle.disc.specs.Directory.{goodDisc, isDiscLength, lookup}
 use Rattle.variable.specs.Assign.{addressOr, assigned, assignAt, entryLimit, highEnd, ifEntry, lowEnd, placeFor, placing, placingFault}
 use Rattle.variable.specs.Assign.{valueOf}
 use Rattle.variable.specs.Assign.{takenRuns}

@@ -14,11 +14,12 @@ use Rattle.buffer.specs.declared.Found.{Found}
 use Rattle.buffer.specs.declared.Found.the-variants.{At, Nowhere}
 use Rattle.buffer.proofs.Bools.{and-both, and-left, and-right, not-is-true, not-true-is-false, true-not-false}
 use Rattle.place.specs.Place.{longest}
+use Rattle.disc.specs.Directory.{DiscLength, entryAt, fileCount, files as entries, goodDisc, isDiscLength, lookup, taken}
+use Rattle.disc.specs.Layout.{dataStart, maxFiles}
+use Rattle.disc.proofs.Lengths.{disc-length-is, is-disc-length}
 use Rattle.store.specs.Answer.{checked, fileLine, filesAnswer, freeSpaceAnswer, ifUsable, reported, retrieveAnswer, retrieveAt, storeAnswer}
 use Rattle.store.specs.Answer.{storeAt}
-use Rattle.store.specs.Directory.{DiscLength, entryAt, fileCount, files as entries, goodDisc, isDiscLength, lookup, taken}
 use Rattle.store.specs.File.{admission, denyIfFound, goodSize, placeOf, startOr, unless}
-use Rattle.store.specs.Layout.{dataStart, maxFiles}
 use Rattle.store.specs.declared.Admission.{Admission}
 use Rattle.store.specs.declared.Admission.the-variants.{Denied}
 use Rattle.store.specs.declared.Answer.the-variants.{Refused}
@@ -26,7 +27,6 @@ use Rattle.store.specs.declared.Checked.{Checked}
 use Rattle.store.specs.declared.Checked.the-variants.{Usable, Unusable}
 use Rattle.store.specs.declared.Refusal.{Refusal}
 use Rattle.store.specs.declared.Refusal.the-variants.{WrongLength, BadDisc, ShortOutput, BadName, BadSize, DirectoryFull}
-use Rattle.store.proofs.Checks.{disc-length-is, is-disc-length}
 use Rattle.machine.specs.Answer.{Answer, Buffers, Other, store, retrieve, erase, files, freeSpace, list, Call, turn, round}
 use Rattle.machine.specs.Answer.{command, run, other}
 use Rattle.machine.specs.Answer.{answer, bootAnswer, commandAnswer, eraseAt, formatAnswer, goodArea, onDisc, onGood, onOutput}

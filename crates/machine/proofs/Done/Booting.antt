@@ -3,7 +3,7 @@ use mathlib.Core.Path.{_≡_, refl, _∙_}
 use mathlib.Core.Bool.{_&&_}
 use lib.ListN.{length, replicate}
 use lib.Seq.{getD-set-other}
-use Rattle.store.specs.Directory.{isDiscLength}
+use Rattle.disc.specs.Directory.{isDiscLength}
 use Rattle.machine.specs.Answer.{bootAnswer, booted, formatAnswer}
 use Rattle.machine.specs.Area.{isAreaLength}
 use Rattle.machine.specs.Done.{BootDone, Booted, FormatDone, Zeroed}

@@ -6,10 +6,10 @@ use mathlib.Core.List.{List}
 use mathlib.Core.Logic.{inl, inr}
 use native.Mathlib.Omega.{arith}
 use lib.ListN.{length, getD, getD-replicate}
-use Rattle.store.specs.Directory.{goodDisc}
+use Rattle.disc.specs.Directory.{goodDisc}
+use Rattle.disc.specs.Layout.{entrySize}
+use Rattle.disc.specs.declared.Entry.{Entry}
 use Rattle.store.specs.File.{erased, stored}
-use Rattle.store.specs.Layout.{entrySize}
-use Rattle.store.specs.declared.Entry.{Entry}
 use Rattle.store.proofs.Admissions.{Admitted}
 use Rattle.store.proofs.Changes.{Present, erased-byte, erased-count, erased-moved, erased-vacated}
 use Rattle.store.proofs.Effects.{stored-byte, stored-count, stored-data, stored-new}

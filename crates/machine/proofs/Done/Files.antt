@@ -11,16 +11,16 @@ use Rattle.buffer.specs.Lists.{flat}
 use Rattle.buffer.specs.declared.Found.{Found}
 use Rattle.buffer.specs.declared.Found.the-variants.{At, Nowhere}
 use Rattle.place.specs.ShortestFit.{ShortestFit}
+use Rattle.disc.specs.Directory.{contents, entryAt, files as entries, lookup, runOf}
+use Rattle.disc.specs.declared.Entry.{Entry}
+use Rattle.disc.proofs.Lookups.{lookup-at}
 use Rattle.store.specs.Answer.{Reported, fileLine, filesAnswer, reported, retrieveAnswer, retrieveAt}
-use Rattle.store.specs.Directory.{contents, entryAt, files as entries, lookup, runOf}
 use Rattle.store.specs.File.{unless}
 use Rattle.store.specs.declared.Answer.the-variants.{Done, Refused}
-use Rattle.store.specs.declared.Entry.{Entry}
 use Rattle.store.specs.declared.Refusal.the-variants.{ShortOutput}
 use Rattle.store.proofs.Calls.{free-space-fits, free-space-most, refused-not-done, store-cases}
 use Rattle.store.proofs.Checks.{by-checks}
 use Rattle.store.proofs.Invariant.{present}
-use Rattle.store.proofs.Lookups.{lookup-at}
 use Rattle.machine.specs.Answer.{Answer, answer, eraseAt, otherAnswer}
 use Rattle.machine.specs.Changed.{Enters, Leaves}
 use Rattle.machine.specs.Done.{EraseDone, FilesDone, FreeSpaceDone, RetrieveDone, StoreDone}

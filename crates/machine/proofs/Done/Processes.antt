@@ -9,7 +9,7 @@ use lib.ListN.{length}
 use Rattle.buffer.specs.Buffer.{overwrite}
 use Rattle.buffer.specs.declared.Found.{Found}
 use Rattle.buffer.specs.declared.Found.the-variants.{At, Nowhere}
-use Rattle.store.specs.Directory.{entryAt, lookup}
+use Rattle.disc.specs.Directory.{entryAt, lookup}
 use Rattle.machine.specs.Answer.{Answer, Buffers, answer, commandAnswer, list, other, otherAnswer, runAt}
 use Rattle.machine.specs.Area.{kernelOf}
 use Rattle.machine.specs.Changed.{Starts}

@@ -2,7 +2,7 @@
 use Prim.Native.Nat.{ℕ, _+_}
 use mathlib.Core.Path.{_≡_, ap, _∙_}
 use mathlib.Core.List.{List}
-use Rattle.store.specs.declared.Entry.{Entry}
+use Rattle.disc.specs.declared.Entry.{Entry}
 use Rattle.machine.specs.Area.{kernelOf}
 use Rattle.machine.specs.Changed.{Starts}
 use Rattle.machine.specs.Fields.{nextId}

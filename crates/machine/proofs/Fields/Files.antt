@@ -15,12 +15,12 @@ use Rattle.place.specs.Place.{apart, fits, runFrom}
 use Rattle.place.specs.ShortestFit.{ShortestFit}
 use Rattle.place.proofs.ShortestFit.{place-shortest-fit, shortest-fit-as}
 use Rattle.place.proofs.Place.{apart-is, fits-is, is-apart, is-fits, no-place-none-fits, place-fits}
-use Rattle.store.specs.Directory.{Readable, entryAt, fileCount, files, goodDisc, isDiscLength, lookup, runOf, taken}
+use Rattle.disc.specs.Directory.{Readable, entryAt, fileCount, files, goodDisc, isDiscLength, lookup, runOf, taken}
+use Rattle.disc.specs.Layout.{dataStart, entrySize, nameSize}
+use Rattle.disc.specs.declared.Entry.{Entry}
+use Rattle.disc.proofs.Lengths.{readable}
+use Rattle.disc.proofs.Lookups.{Located, lookup-at, lookup-is, lookup-none}
 use Rattle.store.specs.File.{placeOf}
-use Rattle.store.specs.Layout.{dataStart, entrySize, nameSize}
-use Rattle.store.specs.declared.Entry.{Entry}
-use Rattle.store.proofs.Checks.{readable}
-use Rattle.store.proofs.Lookups.{Located, lookup-at, lookup-is, lookup-none}
 use Rattle.machine.specs.Fields.{Free, Named, NoFile, entryStart, sizeOf, startOf}
 use Rattle.machine.proofs.Fields.Names.{good-is-name, is-name-good, padded-spells, spells-padded}
 use Rattle.machine.proofs.Fields.Parts.{part-first, part-word}

@@ -7,8 +7,8 @@ use native.Mathlib.Nat.{le-refl}
 use native.Mathlib.Omega.{arith}
 use Rattle.buffer.specs.Lists.{consIf, flat, keep, tab}
 use Rattle.buffer.proofs.Lists.{flat-snoc}
+use Rattle.disc.specs.Directory.{entryAt, fileCount, files}
 use Rattle.store.specs.Answer.{fileLine}
-use Rattle.store.specs.Directory.{entryAt, fileCount, files}
 use Rattle.machine.specs.Area.{kernelOf}
 use Rattle.machine.specs.Fields.{fileText, filesText, processText, processesText}
 use Rattle.machine.specs.Limits.{slotCount}

@@ -11,9 +11,9 @@ use borrow.Author.Tests.{le-leb, leb-true, ltb-false, ltb-true}
 use Rattle.buffer.specs.Buffer.{part}
 use Rattle.buffer.proofs.Bools.{and-both, and-left, and-right}
 use Rattle.buffer.proofs.Lists.{all-at, all-each}
-use Rattle.store.specs.Layout.{nameSize}
-use Rattle.store.specs.Name.{goodName, isNameByte, padded}
-use Rattle.store.proofs.Names.{good-name-is, is-good-name, padded-length}
+use Rattle.disc.specs.Layout.{nameSize}
+use Rattle.disc.specs.Name.{goodName, isNameByte, padded}
+use Rattle.disc.proofs.Names.{good-name-is, is-good-name, padded-length}
 use Rattle.machine.specs.Fields.{IsName, Spells}
 use Rattle.machine.proofs.Fields.Parts.{is-part, part-is}
 

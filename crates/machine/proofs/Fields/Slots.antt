@@ -17,11 +17,11 @@ use Rattle.buffer.proofs.Kept.{any-at}
 use Rattle.buffer.proofs.Lists.{tab-at, tab-length, tab-same}
 use Rattle.buffer.proofs.Parts.{part-byte}
 use Rattle.buffer.proofs.Tables.{index-at, index-none}
-use Rattle.store.specs.Directory.{entryAt, files}
-use Rattle.store.specs.Layout.{nameSize}
-use Rattle.store.specs.declared.Entry.{Entry}
-use Rattle.store.proofs.Checks.{readable}
-use Rattle.store.proofs.Goodness.{one-of-name}
+use Rattle.disc.specs.Directory.{entryAt, files}
+use Rattle.disc.specs.Layout.{nameSize}
+use Rattle.disc.specs.declared.Entry.{Entry}
+use Rattle.disc.proofs.Lengths.{readable}
+use Rattle.disc.proofs.Goodness.{one-of-name}
 use Rattle.machine.specs.Area.{kernelOf, processOf}
 use Rattle.machine.specs.Fields.{Ended, HasId, Live, Lowest, Uses, entryStart, filesOn, idOf, nextId, openSize, openStart}
 use Rattle.machine.specs.Fields.{recordStart, sizeOf, startOf, stateByte}

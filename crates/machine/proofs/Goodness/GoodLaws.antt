@@ -11,7 +11,7 @@ use borrow.Author.Tests.{eq-eqb, eqb-true, le-leb, leb-true, ltb-false, ltb-true
 use Rattle.buffer.specs.Lists.{all, pairs}
 use Rattle.buffer.proofs.Bools.{and-left, and-right, and-both, not-is-true, not-true-is-false, true-not-false}
 use Rattle.buffer.proofs.Lists.{all-at, pairs-at}
-use Rattle.store.specs.declared.Entry.{Entry}
+use Rattle.disc.specs.declared.Entry.{Entry}
 use Rattle.variable.specs.Good.{goodVariables}
 use Rattle.machine.specs.GoodArea.{goodHeader, goodKernel, goodProcess, otherId}
 use Rattle.machine.specs.Limits.{idLimit}

@@ -9,7 +9,7 @@ use borrow.Author.Tests.{eq-eqb, eqb-false, eqb-true, le-leb, leb-true, lt-ltb, 
 use Rattle.buffer.specs.Lists.{any, same}
 use Rattle.buffer.proofs.Bools.{and-left, and-right, and-both, true-not-false}
 use Rattle.buffer.proofs.Lists.{same-eq, same-refl}
-use Rattle.store.specs.declared.Entry.{Entry}
+use Rattle.disc.specs.declared.Entry.{Entry}
 use Rattle.machine.specs.GoodArea.{goodFile, goodId, goodLive, goodProcess, goodRegisters, isOpenIn, isProgram}
 use Rattle.machine.specs.Limits.{stackSize}
 use Rattle.machine.specs.State.{isLive, noLoop}

@@ -16,11 +16,11 @@ use Rattle.float.specs.declared.whole.Size.{Size}
 use Rattle.float.specs.declared.whole.Size.the-variants.{Is, Refused}
 use Rattle.number.specs.declared.Number.{Number}
 use Rattle.place.specs.Place.{runFrom}
-use Rattle.store.specs.Directory.{contents, entryAt, files, lookup}
+use Rattle.disc.specs.Directory.{contents, entryAt, files, lookup}
+use Rattle.disc.specs.declared.Entry.{Entry}
 use Rattle.store.specs.File.{admission, readAt, stored, writtenAt}
 use Rattle.store.specs.declared.Admission.{Admission}
 use Rattle.store.specs.declared.Admission.the-variants.{Start, Denied}
-use Rattle.store.specs.declared.Entry.{Entry}
 use Rattle.store.proofs.Admissions.{Admitted, admitted, zeros-admitted}
 use Rattle.machine.specs.Beyond.{advanced, Answered, carriesOn, breaks, answered, continues, created, createdAt, fileRun, forked}
 use Rattle.machine.specs.Beyond.{inside, isAwaited, newFileSize, opened, openedAt, pushed, pushId, received, unlessBreaks}

@@ -10,14 +10,14 @@ use borrow.Author.Tests.{leb-true}
 use Rattle.buffer.specs.Buffer.{overwrite, part, wordBytes}
 use Rattle.buffer.proofs.Bools.{and-right}
 use Rattle.place.specs.declared.Run.{Run}
-use Rattle.store.specs.Directory.{contents, entryAt, entryBytes, fileCount, isDiscLength}
+use Rattle.disc.specs.Directory.{contents, entryAt, entryBytes, fileCount, isDiscLength}
+use Rattle.disc.specs.Layout.{countAt, entrySize, nameSize}
+use Rattle.disc.specs.Name.{goodName, isNameByte, padded}
+use Rattle.disc.specs.declared.Entry.{Entry}
+use Rattle.disc.proofs.Lengths.{disc-bounds}
+use Rattle.disc.proofs.Names.{good-name-is}
 use Rattle.store.specs.File.{entered, erased, newEntry, readAt, stored, writtenAt}
-use Rattle.store.specs.Layout.{countAt, entrySize, nameSize}
-use Rattle.store.specs.Name.{goodName, isNameByte, padded}
-use Rattle.store.specs.declared.Entry.{Entry}
 use Rattle.store.proofs.Admissions.{Admitted}
-use Rattle.store.proofs.Checks.{disc-bounds}
-use Rattle.store.proofs.Names.{good-name-is}
 use Rattle.machine.proofs.Bytes.ByteLists.{Bytes, IsByte, append-bytes, byte-at, filled-bytes, one-byte, overwrite-bytes, part-bytes}
 use Rattle.machine.proofs.Bytes.ByteLists.{take-bytes, word-at, word-bytes}
 use Rattle.machine.proofs.InBytes.ByteSteps.{ByteEntry}

@@ -6,7 +6,7 @@ use native.Mathlib.Omega.{arith}
 use Rattle.buffer.specs.Buffer.{part, wordBytes}
 use Rattle.buffer.specs.Lists.{flat}
 use Rattle.place.specs.declared.Run.{Run}
-use Rattle.store.specs.Layout.{nameSize}
+use Rattle.disc.specs.Layout.{nameSize}
 use Rattle.variable.specs.Limits.{maxVariables, memorySize}
 use Rattle.variable.specs.declared.Variable.{Variable}
 use Rattle.variable.specs.declared.Variables.{Variables}

@@ -5,7 +5,7 @@ use mathlib.Core.List.{List, _++_}
 use native.Mathlib.Omega.{arith}
 use lib.ListN.{drop, length, replicate}
 use Rattle.buffer.specs.Lists.{keep}
-use Rattle.store.specs.declared.Entry.{Entry}
+use Rattle.disc.specs.declared.Entry.{Entry}
 use Rattle.variable.specs.Assign.{added, assigned, newVariable, valueBytes}
 use Rattle.variable.specs.Table.{cellOf, counted, freed, freedAll, isOf, noVariable, owned, ownedBy}
 use Rattle.variable.specs.declared.Value.{Value}

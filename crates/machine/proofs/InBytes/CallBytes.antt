@@ -12,12 +12,12 @@ use Rattle.buffer.specs.declared.Found.{Found}
 use Rattle.buffer.specs.declared.Found.the-variants.{At, Nowhere}
 use Rattle.buffer.proofs.Bools.{and-right}
 use Rattle.decimal.specs.Decimal.{decimal}
+use Rattle.disc.specs.Directory.{contents, entryAt, fileCount, files as entries, isDiscLength, lookup, runOf}
+use Rattle.disc.specs.Name.{trimmed}
+use Rattle.disc.specs.declared.Entry.{Entry}
 use Rattle.store.specs.Answer.{Reported, fileLine, filesAnswer, reported, retrieveAnswer, retrieveAt}
-use Rattle.store.specs.Directory.{contents, entryAt, fileCount, files as entries, isDiscLength, lookup, runOf}
 use Rattle.store.specs.File.{unless}
-use Rattle.store.specs.Name.{trimmed}
 use Rattle.store.specs.declared.Answer.the-variants.{Done, Refused}
-use Rattle.store.specs.declared.Entry.{Entry}
 use Rattle.store.specs.declared.Refusal.the-variants.{ShortOutput}
 use Rattle.store.proofs.Calls.{store-cases}
 use Rattle.store.proofs.Checks.{by-checks}

@@ -10,7 +10,7 @@ use Rattle.buffer.specs.Buffer.{part}
 use Rattle.operator.specs.Instruction.{includes}
 use Rattle.number.specs.Text.{textOf}
 use Rattle.operator.specs.declared.instruction.Types.{Types}
-use Rattle.store.specs.Name.{trimmed}
+use Rattle.disc.specs.Name.{trimmed}
 use Rattle.machine.specs.Effect.{newline, number, printed}
 use Rattle.machine.specs.Limits.{stackSize}
 use Rattle.machine.specs.Stack.{Item, Popped, popped, cannot, pop, popNumber, popString, push, pushItem, pushString, stringKind}

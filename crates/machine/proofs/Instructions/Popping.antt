@@ -19,8 +19,8 @@ use Rattle.number.specs.Text.{textOf}
 use Rattle.operator.specs.declared.instruction.Types.{Types}
 use Rattle.operator.specs.declared.instruction.Types.the-variants.{AnyNumber, AnyString, AnyValue}
 use Rattle.number.proofs.Texts.{text-short}
-use Rattle.store.specs.Name.{trimmed}
-use Rattle.store.proofs.Names.{text-with-zero, trimmed-short}
+use Rattle.disc.specs.Name.{trimmed}
+use Rattle.disc.proofs.Names.{text-with-zero, trimmed-short}
 use Rattle.variable.specs.Good.{goodSize}
 use Rattle.variable.specs.Limits.{maxString}
 use Rattle.machine.specs.Effect.{number, printed}

@@ -13,8 +13,8 @@ use Rattle.buffer.specs.declared.Found.{Found}
 use Rattle.buffer.specs.declared.Found.the-variants.{At, Nowhere}
 use Rattle.buffer.proofs.Bools.{true-not-false}
 use Rattle.buffer.proofs.Tables.{index-at}
-use Rattle.store.specs.Directory.{entryAt, lookup}
-use Rattle.store.specs.declared.Entry.{Entry}
+use Rattle.disc.specs.Directory.{entryAt, lookup}
+use Rattle.disc.specs.declared.Entry.{Entry}
 use Rattle.machine.specs.Limits.{idLimit}
 use Rattle.machine.specs.Start.{started, startedProcess, starting, startIn, starts}
 use Rattle.machine.specs.State.{endedSlot, isLive, noProcess, processAt}

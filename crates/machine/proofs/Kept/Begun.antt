@@ -3,7 +3,7 @@ use Prim.Native.Nat.{ℕ, _<_}
 use mathlib.Core.Path.{_≡_}
 use mathlib.Core.List.{List, []}
 use Rattle.buffer.specs.declared.Found.the-variants.{At}
-use Rattle.store.specs.Directory.{entryAt, lookup}
+use Rattle.disc.specs.Directory.{entryAt, lookup}
 use Rattle.variable.specs.Table.{owned}
 use Rattle.machine.specs.Limits.{slotCount}
 use Rattle.machine.specs.Start.{startedProcess}

@@ -8,7 +8,7 @@ use native.Mathlib.Omega.{arith}
 use lib.ListN.{getD}
 use Rattle.buffer.specs.declared.Found.the-variants.{At, Nowhere}
 use Rattle.place.specs.declared.Run.{Run}
-use Rattle.store.specs.Directory.{contents}
+use Rattle.disc.specs.Directory.{contents}
 use Rattle.variable.specs.Table.{owned}
 use Rattle.machine.specs.State.{isLive, processAt, slotOf}
 use Rattle.machine.specs.Turn.{programOf}

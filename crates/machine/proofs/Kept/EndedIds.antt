@@ -9,7 +9,7 @@ use native.Mathlib.Omega.{arith}
 use lib.Dec.{eqb}
 use borrow.Author.Tests.{eqb-false, eqb-true}
 use Rattle.buffer.specs.declared.Found.the-variants.{Nowhere}
-use Rattle.store.specs.declared.Entry.{Entry}
+use Rattle.disc.specs.declared.Entry.{Entry}
 use Rattle.machine.specs.Start.{started, startedProcess}
 use Rattle.machine.specs.State.{isLive, processAt, slotOf}
 use Rattle.machine.specs.declared.Kernel.{Kernel}

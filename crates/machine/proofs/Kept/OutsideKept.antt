@@ -6,14 +6,14 @@ use mathlib.Core.List.{List}
 use native.Mathlib.Omega.{arith}
 use lib.ListN.{length}
 use Rattle.buffer.proofs.Bools.{and-left, true-not-false}
-use Rattle.store.specs.Directory.{entryAt, fileCount, goodDisc}
+use Rattle.disc.specs.Directory.{entryAt, fileCount, goodDisc}
+use Rattle.disc.specs.declared.Entry.{Entry}
+use Rattle.disc.proofs.Lookups.{lookup-at}
 use Rattle.store.specs.File.{erased, stored}
-use Rattle.store.specs.declared.Entry.{Entry}
 use Rattle.store.proofs.Admissions.{Admitted}
 use Rattle.store.proofs.Changes.{erased-length, erased-to}
 use Rattle.store.proofs.Effects.{stored-found, stored-good, stored-length, stored-old}
 use Rattle.store.proofs.Invariant.{erased-good, present}
-use Rattle.store.proofs.Lookups.{lookup-at}
 use Rattle.machine.specs.Operations.{inUse, uses}
 use Rattle.machine.specs.State.{isLive, noProcess, processAt}
 use Rattle.machine.specs.declared.Kernel.{Kernel}

@@ -5,10 +5,10 @@ use mathlib.Core.Path.{_≡_, ap, _∙_, subst⁻¹}
 use mathlib.Core.Bool.{true}
 use mathlib.Core.List.{List}
 use Rattle.place.specs.declared.Run.{Run}
-use Rattle.store.specs.Directory.{contents, entryAt, runOf}
+use Rattle.disc.specs.Directory.{contents, entryAt, runOf}
+use Rattle.disc.proofs.Goodness.{good-entry-at}
 use Rattle.store.proofs.Contents.{erased-contents}
 use Rattle.store.proofs.Effects.{stored-contents}
-use Rattle.store.proofs.Goodness.{good-entry-at}
 use Rattle.store.proofs.Invariant.{present}
 use Rattle.variable.specs.Table.{owned}
 use Rattle.machine.specs.State.{isLive, processAt}

@@ -6,7 +6,7 @@ use mathlib.Core.List.{List, []}
 use lib.ListN.{length}
 use Rattle.buffer.specs.declared.Found.the-variants.{Nowhere}
 use Rattle.buffer.proofs.Bools.{true-not-false}
-use Rattle.store.specs.Directory.{files}
+use Rattle.disc.specs.Directory.{files}
 use Rattle.variable.specs.Assign.{assigned, assignedCells, newCell, valueBytes}
 use Rattle.variable.specs.Table.{owned}
 use Rattle.variable.specs.declared.Placing.the-variants.{Address}

@@ -8,7 +8,7 @@ use lib.ListN.{length}
 use Rattle.buffer.specs.Lists.{any, same}
 use Rattle.buffer.proofs.Bools.{true-not-false}
 use Rattle.place.specs.declared.Run.{Run}
-use Rattle.store.specs.Directory.{files}
+use Rattle.disc.specs.Directory.{files}
 use Rattle.variable.specs.Assign.{assigned, valueBytes}
 use Rattle.variable.specs.Good.{goodSize, goodVariables}
 use Rattle.variable.specs.Table.{Shaped, freedAll, ownedBy}

@@ -5,7 +5,7 @@ use mathlib.Core.Bool.{true}
 use mathlib.Core.List.{List}
 use Rattle.buffer.specs.declared.Found.the-variants.{Nowhere}
 use Rattle.buffer.proofs.Bools.{true-not-false}
-use Rattle.store.specs.Directory.{files}
+use Rattle.disc.specs.Directory.{files}
 use Rattle.variable.specs.Table.{owned}
 use Rattle.variable.proofs.Freeing.{owned-freed-all-other}
 use Rattle.variable.proofs.Goodness.{good-variables-is}

@@ -9,12 +9,12 @@ use lib.Dec.{eqb}
 use lib.ListN.{length, length-set}
 use Rattle.buffer.specs.Lists.{any}
 use Rattle.buffer.proofs.Lists.{all-each}
-use Rattle.store.specs.Directory.{entryAt, files}
-use Rattle.store.specs.declared.Entry.{Entry}
-use Rattle.store.proofs.Goodness.{good-entry-at}
-use Rattle.store.proofs.Lookups.{lookup-at}
-use Rattle.store.proofs.Names.{field-length}
-use Rattle.store.specs.Layout.{nameSize}
+use Rattle.disc.specs.Directory.{entryAt, files}
+use Rattle.disc.specs.declared.Entry.{Entry}
+use Rattle.disc.specs.Layout.{nameSize}
+use Rattle.disc.proofs.Goodness.{good-entry-at}
+use Rattle.disc.proofs.Lookups.{lookup-at}
+use Rattle.disc.proofs.Names.{field-length}
 use Rattle.machine.specs.GoodArea.{goodProcess, isProgram}
 use Rattle.machine.specs.Limits.{idLimit}
 use Rattle.machine.specs.Start.{started, startedProcess}

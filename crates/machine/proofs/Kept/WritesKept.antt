@@ -8,11 +8,11 @@ use lib.ListN.{length}
 use borrow.Author.Tests.{eqb-false, eqb-true}
 use Rattle.place.specs.Place.{apart}
 use Rattle.place.specs.declared.Run.{Run}
-use Rattle.store.specs.Directory.{contents, entryAt, isDiscLength, runOf}
-use Rattle.store.specs.declared.Entry.{Entry}
+use Rattle.disc.specs.Directory.{contents, entryAt, isDiscLength, runOf}
+use Rattle.disc.specs.declared.Entry.{Entry}
+use Rattle.disc.proofs.Goodness.{beside-at, good-disc-is}
 use Rattle.store.proofs.Changes.{Inside, written-files, written-length}
 use Rattle.store.proofs.Contents.{written-elsewhere}
-use Rattle.store.proofs.Goodness.{beside-at, good-disc-is}
 use Rattle.store.proofs.Invariant.{file-inside, written-good}
 use Rattle.machine.specs.Beyond.{fileRun}
 use Rattle.machine.specs.GoodArea.{goodKernel}

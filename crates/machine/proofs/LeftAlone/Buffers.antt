@@ -13,8 +13,8 @@ use Rattle.buffer.specs.Buffer.{overwrite}
 use Rattle.buffer.specs.Lists.{flat}
 use Rattle.buffer.specs.declared.Found.{Found}
 use Rattle.buffer.specs.declared.Found.the-variants.{At, Nowhere}
+use Rattle.disc.specs.Directory.{contents, entryAt, files as entries, isDiscLength, lookup, runOf}
 use Rattle.store.specs.Answer.{Reported, fileLine, filesAnswer, reported, retrieveAnswer, retrieveAt}
-use Rattle.store.specs.Directory.{contents, entryAt, files as entries, isDiscLength, lookup, runOf}
 use Rattle.store.specs.File.{unless}
 use Rattle.store.specs.declared.Answer.the-variants.{Done, Refused}
 use Rattle.store.specs.declared.Refusal.the-variants.{ShortOutput}

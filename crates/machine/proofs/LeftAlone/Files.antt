@@ -13,18 +13,18 @@ use Rattle.buffer.specs.declared.Found.{Found}
 use Rattle.buffer.specs.declared.Found.the-variants.{At, Nowhere}
 use Rattle.buffer.proofs.Bools.{and-left, and-right, true-not-false}
 use Rattle.place.specs.declared.Run.{Run}
-use Rattle.store.specs.Directory.{contents, entryAt, fileCount, goodDisc, isDiscLength, lookup, runOf}
+use Rattle.disc.specs.Directory.{contents, entryAt, fileCount, goodDisc, isDiscLength, lookup, runOf}
+use Rattle.disc.specs.declared.Entry.{Entry}
+use Rattle.disc.proofs.Lengths.{readable}
+use Rattle.disc.proofs.Goodness.{good-disc-is, good-entry-at}
+use Rattle.disc.proofs.Lookups.{Located, located-once, lookup-at}
 use Rattle.store.specs.File.{erased, stored, writtenAt}
-use Rattle.store.specs.declared.Entry.{Entry}
 use Rattle.store.proofs.Admissions.{Admitted}
 use Rattle.store.proofs.Calls.{store-cases}
 use Rattle.store.proofs.Changes.{Inside, written-count, written-entry}
-use Rattle.store.proofs.Checks.{readable}
 use Rattle.store.proofs.Contents.{erased-contents, written-other-file}
 use Rattle.store.proofs.Effects.{stored-contents}
-use Rattle.store.proofs.Goodness.{good-disc-is, good-entry-at}
 use Rattle.store.proofs.Invariant.{file-inside, present}
-use Rattle.store.proofs.Lookups.{Located, located-once, lookup-at}
 use Rattle.machine.specs.Answer.{Answer, Buffers, Other, store, retrieve, erase, files, freeSpace, list, Call, turn, round}
 use Rattle.machine.specs.Answer.{command, run, other, answer, eraseAt, otherAnswer}
 use Rattle.machine.specs.Area.{kernelOf}

@@ -12,7 +12,7 @@ use Rattle.buffer.specs.declared.Found.{Found}
 use Rattle.buffer.specs.declared.Found.the-variants.{At}
 use Rattle.buffer.proofs.Bools.{and-both, and-false-right, and-left, and-right, true-not-false}
 use Rattle.buffer.proofs.Disjunctions.{or-false-left, or-false-right}
-use Rattle.store.specs.Directory.{contents, files}
+use Rattle.disc.specs.Directory.{contents, files}
 use Rattle.machine.specs.Answer.{Answer, Buffers, Call, turn, round, command, run, other, answer, commandAnswer}
 use Rattle.machine.specs.Area.{kernelBytes, kernelOf}
 use Rattle.machine.specs.Beyond.{fileRun}

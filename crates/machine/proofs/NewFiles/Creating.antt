@@ -16,9 +16,9 @@ use Rattle.number.specs.declared.Number.{Number}
 use Rattle.operator.specs.Instruction.{lookup as lookupOperator, operatorOf}
 use Rattle.operator.specs.declared.instruction.Types.the-variants.{AnyNumber, AnyString}
 use Rattle.place.specs.Place.{runFrom}
-use Rattle.store.specs.Directory.{contents, fileCount, lookup}
+use Rattle.disc.specs.Directory.{contents, fileCount, lookup}
+use Rattle.disc.specs.Name.{trimmed}
 use Rattle.store.specs.File.{admission, stored}
-use Rattle.store.specs.Name.{trimmed}
 use Rattle.store.specs.declared.Admission.{Admission}
 use Rattle.store.specs.declared.Admission.the-variants.{Start, Denied}
 use Rattle.store.proofs.Admissions.{Admitted, admitted, zeros-admitted}

@@ -6,9 +6,9 @@ use native.Mathlib.Omega.{arith}
 use lib.ListN.{length, getD, length-append}
 use borrow.Author.Tests.{le-leb, lt-ltb, ne-eqb}
 use Rattle.operator.specs.Instruction.{lookup as lookupOperator, operatorOf}
-use Rattle.store.specs.Directory.{contents}
-use Rattle.store.specs.Name.{trimmed}
-use Rattle.store.proofs.Names.{trimmed-zeros}
+use Rattle.disc.specs.Directory.{contents}
+use Rattle.disc.specs.Name.{trimmed}
+use Rattle.disc.proofs.Names.{trimmed-zeros}
 use Rattle.machine.specs.Asking.{past}
 use Rattle.machine.specs.Beyond.{answered, fileRun}
 use Rattle.machine.specs.Effect.{asks, readsString}

@@ -8,7 +8,7 @@ use lib.ListN.{length}
 use borrow.Author.Tests.{eqb-true}
 use Rattle.buffer.specs.Buffer.{zeros}
 use Rattle.buffer.proofs.Bools.{true-not-false}
-use Rattle.store.specs.Directory.{contents, fileCount}
+use Rattle.disc.specs.Directory.{contents, fileCount}
 use Rattle.machine.specs.Answer.{Answer, Buffers, Call, turn, answer, turnedAnswer}
 use Rattle.machine.specs.Area.{kernelOf}
 use Rattle.machine.specs.Beyond.{fileRun}

@@ -8,7 +8,7 @@ use lib.ListN.{length, length-append}
 use lib.Seq.{getD-set-other}
 use Rattle.buffer.specs.Lists.{any}
 use Rattle.buffer.proofs.Bools.{true-not-false}
-use Rattle.store.specs.declared.Entry.{Entry}
+use Rattle.disc.specs.declared.Entry.{Entry}
 use Rattle.machine.specs.Beyond.{Answered, carriesOn, answered, forked, isAwaited, pushId}
 use Rattle.machine.specs.Effect.{Request, opens, closes, writes, reads, readsString, forks, awaits}
 use Rattle.machine.specs.Limits.{stackSize}

@@ -6,7 +6,7 @@ use mathlib.Core.List.{List, _++_}
 use native.Mathlib.Omega.{arith}
 use lib.ListN.{length, replicate, take, length-append, length-replicate}
 use lib.Seq.{take-at}
-use Rattle.store.specs.Directory.{files}
+use Rattle.disc.specs.Directory.{files}
 use Rattle.variable.specs.Assign.{assigned, valueOf}
 use Rattle.variable.specs.Good.{goodSize}
 use Rattle.variable.specs.declared.Placing.{Placing}

@@ -16,16 +16,16 @@ use Rattle.float.specs.declared.whole.Size.{Size}
 use Rattle.float.specs.declared.whole.Size.the-variants.{Is, Refused}
 use Rattle.number.specs.declared.Number.{Number}
 use Rattle.place.specs.Place.{runFrom}
-use Rattle.store.specs.Directory.{contents, entryAt, fileCount, files, lookup}
+use Rattle.disc.specs.Directory.{contents, entryAt, fileCount, files, lookup}
+use Rattle.disc.specs.Name.{trimmed}
+use Rattle.disc.specs.declared.Entry.{Entry}
+use Rattle.disc.proofs.Goodness.{good-entry-at}
+use Rattle.disc.proofs.Lookups.{lookup-at}
 use Rattle.store.specs.File.{admission, readAt, stored, writtenAt}
-use Rattle.store.specs.Name.{trimmed}
 use Rattle.store.specs.declared.Admission.{Admission}
 use Rattle.store.specs.declared.Admission.the-variants.{Start, Denied}
-use Rattle.store.specs.declared.Entry.{Entry}
 use Rattle.store.proofs.Admissions.{Admitted, admitted, zeros-admitted}
 use Rattle.store.proofs.Effects.{stored-count, stored-new}
-use Rattle.store.proofs.Goodness.{good-entry-at}
-use Rattle.store.proofs.Lookups.{lookup-at}
 use Rattle.machine.specs.Beyond.{advanced, Answered, breaks, continues, created, createdAt, fileRun, inside, newFileSize, opened}
 use Rattle.machine.specs.Beyond.{openedAt}
 use Rattle.machine.specs.Beyond.{ownFile, pushed, received, unlessBreaks, withOpenFile, written}

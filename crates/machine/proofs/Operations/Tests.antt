@@ -5,7 +5,7 @@ use mathlib.Core.Bool.{Bool, true, false, _&&_}
 use native.Mathlib.Omega.{arith}
 use lib.IntN.{pos, negsuc}
 use lib.ListN.{length}
-use Rattle.store.specs.Directory.{goodDisc, isDiscLength}
+use Rattle.disc.specs.Directory.{goodDisc, isDiscLength}
 use Rattle.store.specs.File.{unless}
 use Rattle.machine.specs.Answer.{Answer, Buffers, goodArea, onGood, refused}
 use Rattle.machine.specs.Area.{isAreaLength}

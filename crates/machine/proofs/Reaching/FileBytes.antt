@@ -13,11 +13,11 @@ use borrow.Author.Tests.{eqb-false, leb-false}
 use Rattle.buffer.specs.Buffer.{part}
 use Rattle.buffer.proofs.Parts.{part-byte, part-of-part}
 use Rattle.place.specs.declared.Run.{Run}
-use Rattle.store.specs.Directory.{contents, files}
+use Rattle.disc.specs.Directory.{contents, files}
+use Rattle.disc.specs.Name.{trimmed, unlessZero}
+use Rattle.disc.proofs.Names.{text-ends, text-with-zero}
 use Rattle.store.specs.File.{readAt, writtenAt}
-use Rattle.store.specs.Name.{trimmed, unlessZero}
 use Rattle.store.proofs.Contents.{file-length}
-use Rattle.store.proofs.Names.{text-ends, text-with-zero}
 use Rattle.machine.specs.Answer.{Buffers}
 use Rattle.machine.specs.AtPc.{Onward, SameDisc, processIn, stackIn}
 use Rattle.machine.specs.Beyond.{advanced, answered, continues, fileRun, pushed, received, unlessBreaks}

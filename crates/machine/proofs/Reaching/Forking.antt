@@ -9,8 +9,8 @@ use borrow.Author.Tests.{eqb-true}
 use Rattle.buffer.specs.declared.Found.{Found}
 use Rattle.buffer.specs.declared.Found.the-variants.{At, Nowhere}
 use Rattle.buffer.proofs.Bools.{true-not-false}
-use Rattle.store.specs.Directory.{entryAt, lookup}
-use Rattle.store.specs.declared.Entry.{Entry}
+use Rattle.disc.specs.Directory.{entryAt, lookup}
+use Rattle.disc.specs.declared.Entry.{Entry}
 use Rattle.machine.specs.Answer.{Buffers}
 use Rattle.machine.specs.AtPc.{Onward, SameDisc, processIn, stateAfter}
 use Rattle.machine.specs.Beyond.{answered, carriesOn, forked, pushId}

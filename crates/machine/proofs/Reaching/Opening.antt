@@ -12,7 +12,7 @@ use Rattle.number.specs.Value.{numberOf}
 use Rattle.number.specs.declared.Number.{Number}
 use Rattle.place.specs.Place.{runFrom}
 use Rattle.place.specs.declared.Run.{Run}
-use Rattle.store.specs.Directory.{entryAt, lookup, runOf}
+use Rattle.disc.specs.Directory.{entryAt, lookup, runOf}
 use Rattle.store.specs.File.{admission, stored}
 use Rattle.store.specs.declared.Admission.{Admission}
 use Rattle.store.specs.declared.Admission.the-variants.{Start, Denied}

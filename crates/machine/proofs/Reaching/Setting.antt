@@ -34,7 +34,7 @@ use Rattle.variable.proofs.Freeing.{freed-counted, freed-memory, freed-shaped}
 use Rattle.variable.proofs.Goodness.{good-variables-is}
 use Rattle.variable.proofs.Reading.{value-made}
 use Rattle.variable.proofs.Setting.{assigned-is, assigned-placing, place-address}
-use Rattle.store.specs.Directory.{files}
+use Rattle.disc.specs.Directory.{files}
 use Rattle.machine.specs.Answer.{Buffers}
 use Rattle.machine.specs.AtPc.{Onward, SameDisc, ValueOnTop, byteAhead, processIn, stateAfter}
 use Rattle.machine.specs.Changed.{Assigns}

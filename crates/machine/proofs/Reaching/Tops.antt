@@ -14,8 +14,8 @@ use Rattle.buffer.proofs.Disjunctions.{or-second}
 use Rattle.operator.specs.Instruction.{includes}
 use Rattle.operator.specs.declared.instruction.Types.{Types}
 use Rattle.operator.specs.declared.instruction.Types.the-variants.{AnyNumber, AnyString, AnyValue}
-use Rattle.store.specs.Name.{trimmed}
-use Rattle.store.proofs.Names.{trimmed-at}
+use Rattle.disc.specs.Name.{trimmed}
+use Rattle.disc.proofs.Names.{trimmed-at}
 use Rattle.machine.specs.AtPc.{NumberOnTop, StringOnTop, ValueOnTop}
 use Rattle.machine.specs.Stack.{popped, pop, popNumber, popString, stringKind}
 use Rattle.machine.proofs.Instructions.Popping.{is-well-formed, number-no-string}

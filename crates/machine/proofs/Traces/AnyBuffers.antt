@@ -8,7 +8,7 @@ use mathlib.Core.Logic.{_⊎_, inl, inr}
 use lib.Dec.{leb}
 use lib.ListN.{length}
 use Rattle.buffer.proofs.Bools.{true-not-false}
-use Rattle.store.specs.Directory.{goodDisc, isDiscLength}
+use Rattle.disc.specs.Directory.{goodDisc, isDiscLength}
 use Rattle.store.specs.File.{unless}
 use Rattle.machine.specs.Answer.{Answer, Buffers, Other, store, retrieve, erase, files, freeSpace, list, Call, turn, round}
 use Rattle.machine.specs.Answer.{command, run, other}

@@ -13,9 +13,9 @@ use Rattle.buffer.specs.declared.Found.{Found}
 use Rattle.buffer.specs.declared.Found.the-variants.{At, Nowhere}
 use Rattle.buffer.proofs.Bools.{and-right, true-not-false}
 use Rattle.place.specs.declared.Run.{Run}
-use Rattle.store.specs.Directory.{contents, entryAt, lookup}
+use Rattle.disc.specs.Directory.{contents, entryAt, lookup}
+use Rattle.disc.proofs.Lookups.{lookup-at}
 use Rattle.store.proofs.Calls.{store-cases}
-use Rattle.store.proofs.Lookups.{lookup-at}
 use Rattle.variable.specs.Table.{owned}
 use Rattle.machine.specs.Answer.{Answer, Buffers, Other, store, retrieve, erase, files, freeSpace, list, Call, turn, round}
 use Rattle.machine.specs.Answer.{command, run, other}

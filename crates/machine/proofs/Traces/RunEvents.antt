@@ -12,7 +12,7 @@ use Rattle.buffer.specs.Lists.{all}
 use Rattle.buffer.specs.declared.Found.{Found}
 use Rattle.buffer.specs.declared.Found.the-variants.{At, Nowhere}
 use Rattle.buffer.proofs.Bools.{and-right}
-use Rattle.store.specs.Directory.{entryAt, lookup}
+use Rattle.disc.specs.Directory.{entryAt, lookup}
 use Rattle.machine.specs.Answer.{Answer, Buffers, Other, store, retrieve, erase, files, freeSpace, list, Call, turn, round}
 use Rattle.machine.specs.Answer.{command, run, other}
 use Rattle.machine.specs.Answer.{answer, commandAnswer, eraseAt, onGood, otherAnswer, refused, runAt, turnedAnswer}

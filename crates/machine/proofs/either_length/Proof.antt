@@ -1,6 +1,6 @@
 -- `machine::either_length` meets its contract: the sizes by computing, the rest by laws.
 use mathlib.Core.Path.{refl}
-use Rattle.store.proofs.Checks.{as-before}
+use Rattle.disc.proofs.Lengths.{as-before}
 use Rattle.machine.specs.DiscLengths.{EitherLength}
 use Rattle.machine.proofs.Demands.DiscLengths.{empty-disc-takes, open-takes}
 use Rattle.machine.proofs.either_length.Statement.{statement}

@@ -4,8 +4,8 @@ use mathlib.Core.Bool.{true}
 use borrow.Author.Needs.{needs}
 use borrow.Author.Tests.{eq-eqb, ne-eqb, not-true, not-false}
 use lib.ListN.{length}
-use Rattle.store.specs.Directory.{goodDisc, isDiscLength}
-use Rattle.store.proofs.Checks.{disc-bounds, readable}
+use Rattle.disc.specs.Directory.{goodDisc, isDiscLength}
+use Rattle.disc.proofs.Lengths.{disc-bounds, readable}
 use Rattle.machine.specs.Area.{isAreaLength}
 use Rattle.validation.specs.Tests.{tested}
 use Rattle.validation.proofs.check.Statement.{statement}

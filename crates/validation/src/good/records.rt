@@ -13,19 +13,19 @@ use area::records::STATE_AT;
 use area::records::record_at;
 use buffer::bytes::four_at;
 use buffer::bytes::word_at;
+use disc::layout::ENTRY_SIZE;
+use disc::layout::MAX_FILES;
+use disc::layout::NAME_SIZE;
 use machine::limits::NEXT_AT;
 use machine::limits::SLOT_COUNT;
 use machine::limits::STACK_SIZE;
-use store::layout::ENTRY_SIZE;
-use store::layout::MAX_FILES;
-use store::layout::NAME_SIZE;
 ghost use mathlib.Core.Path.{_≡_};
 ghost use mathlib.Core.Bool.{true, _||_};
 ghost use Prim.Native.Nat.{_+_, _<_};
 ghost use lib.Dec.{eqb};
 ghost use lib.ListN.{length};
 ghost use Rattle.buffer.specs.Lists.{all, any};
-ghost use Rattle.store.specs.Directory.{Readable, files};
+ghost use Rattle.disc.specs.Directory.{Readable, files};
 ghost use Rattle.machine.specs.Area.{kernelOf, processOf};
 ghost use Rattle.machine.specs.GoodArea.{goodFile, goodLive, goodProcess, goodRegisters, isProgram};
 ghost use Rattle.machine.specs.Limits.{areaLength, recordSize};
@@ -37,7 +37,7 @@ pub fn file_runs(disc: &[u8]) -> [u32; MAX_FILES]
     requires { ⌜ Readable (now disc) ⌝ }
     ensures { λ r. ⌜ r ≡ fileRuns (now (disc .entry)) ⌝ }
 {
-    let count = store::directory::file_count(disc);
+    let count = disc::directory::file_count(disc);
     let mut runs = [0u32; MAX_FILES];
     let mut i: usize = 0;
     while i < count {
@@ -82,7 +82,7 @@ fn is_good_program(disc: &[u8], runs: &[u32; MAX_FILES], bytes: &[u8]) -> bool
     if MAX_FILES <= file {
         return false;
     }
-    store::good::same_name(bytes, 0, disc, file * ENTRY_SIZE)
+    disc::good::same_name(bytes, 0, disc, file * ENTRY_SIZE)
 }
 
 // "file offset at most [its] length", "an open file equal to some directory file"

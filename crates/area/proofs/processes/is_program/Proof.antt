@@ -3,7 +3,7 @@ use mathlib.Core.Path.{sym}
 use native.Mathlib.Omega.{arith}
 use borrow.Author.Needs.{needs}
 use lib.Seq.{length-take-le}
-use Rattle.store.specs.Layout.{nameSize}
+use Rattle.disc.specs.Layout.{nameSize}
 use Rattle.machine.specs.GoodArea.{isProgram}
 use Rattle.area.proofs.processes.is_program.Statement.{statement}
 use Rattle.area.proofs.processes.is_program.Tie as tie

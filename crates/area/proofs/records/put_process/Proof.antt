@@ -5,7 +5,7 @@ use native.Mathlib.Omega.{arith}
 use borrow.Author.Needs.{needs}
 use lib.ListN.{length}
 use Rattle.buffer.specs.Buffer.{overwrite}
-use Rattle.store.specs.Layout.{nameSize}
+use Rattle.disc.specs.Layout.{nameSize}
 use Rattle.machine.specs.Area.{registerBytes, stackAt}
 use Rattle.machine.specs.Limits.{stackSize}
 use Rattle.area.specs.Parts.{recordAt}

@@ -4,7 +4,7 @@ use Prim.Native.Nat.{_-_, _≤_}
 use native.Mathlib.Omega.{arith}
 use Rattle.buffer.specs.Buffer.{part}
 use Rattle.operator.specs.declared.instruction.Types.the-variants.{AnyString}
-use Rattle.store.specs.Name.{trimmed}
+use Rattle.disc.specs.Name.{trimmed}
 use Rattle.stack.proofs.Popping.{OnTop, string-text, value-faults, value-on-top}
 use borrow.Author.Needs.{needs}
 use Rattle.instruction.proofs.reach.fork_process.Statement.{statement}

@@ -8,7 +8,7 @@ use native.Mathlib.Omega.{arith}
 use Rattle.buffer.specs.Buffer.{part}
 use Rattle.buffer.proofs.Parts.{part-of-take}
 use Rattle.operator.specs.declared.instruction.Types.the-variants.{AnyNumber, AnyString}
-use Rattle.store.specs.Name.{trimmed}
+use Rattle.disc.specs.Name.{trimmed}
 use Rattle.stack.proofs.Popping.{NumberOnTop, OnTop, number-faults, number-on-top, string-text, value-faults, value-on-top}
 use borrow.Author.Needs.{needs}
 use Rattle.instruction.proofs.reach.open_file.Statement.{statement}

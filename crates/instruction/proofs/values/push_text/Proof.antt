@@ -8,8 +8,8 @@ use native.Mathlib.Omega.{arith}
 use borrow.Author.Tests.{le-leb, lt-leb}
 use Rattle.buffer.specs.Buffer.{part}
 use Rattle.buffer.proofs.Parts.{part-to}
-use Rattle.store.specs.Name.{trimmed}
-use Rattle.store.proofs.Names.{text-with-zero}
+use Rattle.disc.specs.Name.{trimmed}
+use Rattle.disc.proofs.Names.{text-with-zero}
 use Rattle.stack.proofs.Steps.{last-means}
 use borrow.Author.Needs.{needs}
 use Rattle.instruction.proofs.values.push_text.Statement.{statement}

@@ -5,8 +5,8 @@ use mathlib.Core.List.{List}
 use native.Mathlib.Omega.{arith}
 use borrow.Author.Needs.{needs}
 use Rattle.buffer.specs.declared.Found.{Found}
-use Rattle.store.specs.Directory.{entryAt}
-use Rattle.store.proofs.Lookups.{Located, lookup-at}
+use Rattle.disc.specs.Directory.{entryAt}
+use Rattle.disc.proofs.Lookups.{Located, lookup-at}
 use Rattle.machine.specs.Answer.{Answer, eraseAt}
 use Rattle.machine.specs.Area.{kernelOf}
 use Rattle.machine.specs.Operations.{inUse}

@@ -6,7 +6,7 @@ use mathlib.Core.List.{List}
 use lib.ListN.{length}
 use borrow.Author.Needs.{needs}
 use borrow.Author.Tests.{eq-eqb, ne-eqb, not-false, not-true}
-use Rattle.store.specs.Directory.{isDiscLength}
+use Rattle.disc.specs.Directory.{isDiscLength}
 use Rattle.machine.specs.Answer.{formatAnswer}
 use Rattle.operation.specs.Answers.{answered}
 use Rattle.operation.specs.declared.Answer.the-variants.{Done}

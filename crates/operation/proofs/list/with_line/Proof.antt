@@ -8,7 +8,7 @@ use lib.ListN.{length}
 use Rattle.buffer.specs.Text.{appended, textSize}
 use Rattle.buffer.specs.declared.text.Text.{Text}
 use Rattle.decimal.specs.Decimal.{decimal}
-use Rattle.store.specs.Name.{trimmed}
+use Rattle.disc.specs.Name.{trimmed}
 use Rattle.store.proofs.Steps.{line-appended}
 use Rattle.machine.specs.Operations.{processLine}
 use Rattle.operation.proofs.Lines.{id-digits}

@@ -5,8 +5,8 @@ use native.Mathlib.Omega.{arith}
 use borrow.Author.Needs.{needs}
 use lib.ListN.{length, drop}
 use Rattle.place.specs.declared.Run.{Run}
-use Rattle.store.specs.Directory.{contents}
-use Rattle.store.specs.Name.{trimmed}
+use Rattle.disc.specs.Directory.{contents}
+use Rattle.disc.specs.Name.{trimmed}
 use Rattle.request.specs.Answers.{Ahead}
 use Rattle.request.proofs.Accesses.{no-file, past-end, text-granted, text-received, text-short, textIn}
 use Rattle.request.proofs.Answering.{answers, breaks-off}

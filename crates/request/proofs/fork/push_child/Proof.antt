@@ -12,7 +12,7 @@ use Rattle.machine.specs.State.{withLocal, withProcess}
 use Rattle.machine.specs.declared.Kernel.{Kernel}
 use Rattle.process.specs.Stepping.{stackOf}
 use Rattle.stack.specs.Steps.{keeping}
-use Rattle.store.specs.Directory.{entryAt}
+use Rattle.disc.specs.Directory.{entryAt}
 use Rattle.request.proofs.Answering.{forks-on}
 use Rattle.request.proofs.fork.push_child.Statement.{statement}
 use Rattle.request.proofs.fork.push_child.Tie as tie

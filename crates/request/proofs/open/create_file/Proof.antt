@@ -10,9 +10,9 @@ use Rattle.machine.specs.Beyond.{Answered, createdAt}
 use Rattle.machine.specs.Limits.{stackSize}
 use Rattle.process.specs.Stepping.{left, stackOf}
 use Rattle.stack.specs.Steps.{about, keeping}
+use Rattle.disc.proofs.Names.{good-name-is}
 use Rattle.store.specs.declared.Admission.{Admission}
 use Rattle.store.proofs.Admissions.{Admitted, admitted}
-use Rattle.store.proofs.Names.{good-name-is}
 use Rattle.request.proofs.Answering.{about-inside, about-length, answers, breaks-off}
 use Rattle.request.proofs.open.create_file.Statement.{statement}
 use Rattle.request.proofs.open.create_file.Tie as tie

@@ -9,8 +9,8 @@ use Rattle.machine.specs.Beyond.{Answered, answered, continues, opened, openedA
 use Rattle.machine.specs.Limits.{stackSize}
 use Rattle.process.specs.Stepping.{stackOf}
 use Rattle.stack.specs.Steps.{about, keeping}
-use Rattle.store.specs.declared.Entry.{Entry}
-use Rattle.store.proofs.Lookups.{lookup-at}
+use Rattle.disc.specs.declared.Entry.{Entry}
+use Rattle.disc.proofs.Lookups.{lookup-at}
 use Rattle.request.specs.Answers.{runFrom}
 use Rattle.request.proofs.Answering.{about-inside, about-length, answers}
 use Rattle.request.proofs.open.open_file.Statement.{statement}

@@ -6,8 +6,8 @@ use Rattle.buffer.specs.declared.Found.the-variants.{At}
 use Rattle.machine.specs.Area.{kernelOf}
 use Rattle.machine.specs.Limits.{idLimit}
 use Rattle.machine.specs.State.{endedSlot}
-use Rattle.store.specs.Directory.{lookup}
-use Rattle.store.proofs.Lookups.{lookup-at}
+use Rattle.disc.specs.Directory.{lookup}
+use Rattle.disc.proofs.Lookups.{lookup-at}
 use Rattle.request.proofs.Slots.{ended-slot-low, starting-by}
 use Rattle.request.proofs.start.find_start.Statement.{statement}
 use Rattle.request.proofs.start.find_start.Tie as tie

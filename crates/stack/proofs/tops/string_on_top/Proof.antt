@@ -8,7 +8,7 @@ use native.Mathlib.Omega.{arith}
 use borrow.Author.Tests.{le-leb, lt-leb}
 use Rattle.buffer.specs.Buffer.{part}
 use Rattle.buffer.proofs.Parts.{part-length}
-use Rattle.store.specs.Name.{trimmed}
+use Rattle.disc.specs.Name.{trimmed}
 use Rattle.machine.specs.Stack.{popString}
 use Rattle.machine.proofs.Instructions.Popping.{is-well-formed, not-well-formed}
 use borrow.Author.Needs.{needs}

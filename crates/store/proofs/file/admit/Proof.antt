@@ -4,11 +4,11 @@ use mathlib.Core.Bool.{true}
 use borrow.Author.Tests.{le-leb, lt-leb, le-ltb, lt-ltb, not-true, not-false}
 use lib.Dec.{ltb}
 use Rattle.buffer.specs.declared.Found.{Found}
-use Rattle.store.specs.Directory.{fileCount, lookup}
+use Rattle.disc.specs.Directory.{fileCount, lookup}
+use Rattle.disc.specs.Layout.{maxFiles}
+use Rattle.disc.specs.Name.{goodName}
+use Rattle.disc.proofs.Entries.{taken-first}
 use Rattle.store.specs.File.{admission, denyIfFound, goodSize, placeOf, startOr}
-use Rattle.store.specs.Layout.{maxFiles}
-use Rattle.store.specs.Name.{goodName}
-use Rattle.store.proofs.Entries.{taken-first}
 use native.Mathlib.Omega.{arith}
 use borrow.Author.Needs.{needs}
 use Rattle.store.proofs.file.admit.Statement.{statement}

@@ -3,8 +3,8 @@ use Prim.Native.Nat.{ℕ, _*_}
 use mathlib.Core.Path.{ap, _∙_}
 use mathlib.Core.List.{List}
 use Rattle.buffer.specs.Buffer.{overwrite}
-use Rattle.store.specs.Directory.{entryBytes}
-use Rattle.store.specs.Layout.{entrySize}
+use Rattle.disc.specs.Directory.{entryBytes}
+use Rattle.disc.specs.Layout.{entrySize}
 use Rattle.store.proofs.Steps.{entered-steps}
 use native.Mathlib.Omega.{arith}
 use borrow.Author.Needs.{needs}

@@ -7,7 +7,7 @@ use lib.Seq.{paste, paste-zero}
 use Rattle.buffer.specs.Buffer.{part}
 use Rattle.buffer.proofs.Buffer.{moved-next, overwrite-next, overwrite-end}
 use Rattle.buffer.proofs.Parts.{part-length}
-use Rattle.store.specs.Layout.{entrySize}
+use Rattle.disc.specs.Layout.{entrySize}
 use native.Mathlib.Omega.{arith}
 use borrow.Author.Needs.{needs}
 use Rattle.store.proofs.file.move_up.Statement.{statement}

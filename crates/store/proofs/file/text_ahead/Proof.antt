@@ -8,8 +8,8 @@ use lib.ListN.{length, take, drop, length-drop}
 use lib.Seq.{length-take-le, take-all}
 use Rattle.buffer.specs.Buffer.{part}
 use Rattle.buffer.proofs.Parts.{part-length, part-of-part}
-use Rattle.store.specs.Directory.{contents}
-use Rattle.store.specs.Name.{trimmed}
+use Rattle.disc.specs.Directory.{contents}
+use Rattle.disc.specs.Name.{trimmed}
 use Rattle.store.proofs.file.text_ahead.Statement.{statement}
 use Rattle.store.proofs.file.text_ahead.Tie as tie
 

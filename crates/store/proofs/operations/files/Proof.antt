@@ -8,8 +8,8 @@ use Rattle.buffer.specs.Lists.{flat}
 use Rattle.buffer.specs.Text.{textSize, written}
 use Rattle.buffer.specs.declared.text.Text.{Text}
 use Rattle.buffer.proofs.Texts.{only-written}
+use Rattle.disc.specs.Directory.{files}
 use Rattle.store.specs.Answer.{checked, fileLine, filesAnswer}
-use Rattle.store.specs.Directory.{files}
 use Rattle.store.specs.declared.Checked.the-variants.{Usable}
 use Rattle.store.proofs.Checks.{Fit, usable}
 use Rattle.store.proofs.Steps.{text-done, text-short}

@@ -7,9 +7,9 @@ use Rattle.buffer.specs.Text.{appended, emptyText}
 use Rattle.buffer.specs.declared.text.Text.{Text}
 use Rattle.buffer.proofs.Lists.{flat-tab-next}
 use Rattle.buffer.proofs.Texts.{appended-joined}
+use Rattle.disc.specs.Directory.{entryAt, fileCount}
+use Rattle.disc.specs.Layout.{lineSize}
 use Rattle.store.specs.Answer.{fileLine}
-use Rattle.store.specs.Directory.{entryAt, fileCount}
-use Rattle.store.specs.Layout.{lineSize}
 use native.Mathlib.Omega.{arith}
 use borrow.Author.Needs.{needs}
 use Rattle.store.proofs.operations.files_text.Statement.{statement}

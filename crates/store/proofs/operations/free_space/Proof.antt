@@ -7,12 +7,12 @@ use lib.ListN.{length}
 use Rattle.place.specs.Place.{longest}
 use Rattle.place.specs.declared.Run.{Run}
 use Rattle.place.proofs.Place.{longest-bound}
+use Rattle.disc.specs.Directory.{taken}
+use Rattle.disc.specs.Layout.{dataStart}
+use Rattle.disc.proofs.Entries.{taken-first}
 use Rattle.store.specs.Answer.{checked, freeSpaceAnswer}
-use Rattle.store.specs.Directory.{taken}
-use Rattle.store.specs.Layout.{dataStart}
 use Rattle.store.specs.declared.Checked.the-variants.{Usable}
 use Rattle.store.proofs.Checks.{Fit, usable}
-use Rattle.store.proofs.Entries.{taken-first}
 use native.Mathlib.Omega.{arith}
 use borrow.Author.Needs.{needs}
 use Rattle.store.proofs.operations.free_space.Statement.{statement}

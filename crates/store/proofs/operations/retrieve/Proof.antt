@@ -5,12 +5,12 @@ use mathlib.Core.List.{List}
 use lib.ListN.{length, length-drop, length-take}
 use Rattle.buffer.specs.Buffer.{overwrite, part}
 use Rattle.buffer.specs.declared.Found.{Found}
+use Rattle.disc.specs.declared.Entry.{Entry}
+use Rattle.disc.proofs.Goodness.{GoodEntry, good-entry-at}
+use Rattle.disc.proofs.Lookups.{Located, lookup-at}
 use Rattle.store.specs.Answer.{checked, retrieveAnswer, retrieveAt, retrieveFile}
 use Rattle.store.specs.declared.Checked.the-variants.{Usable}
-use Rattle.store.specs.declared.Entry.{Entry}
 use Rattle.store.proofs.Checks.{Fit, usable}
-use Rattle.store.proofs.Goodness.{GoodEntry, good-entry-at}
-use Rattle.store.proofs.Lookups.{Located, lookup-at}
 use Rattle.store.proofs.Steps.{file-done, file-short}
 use native.Mathlib.Omega.{arith}
 use borrow.Author.Needs.{needs}

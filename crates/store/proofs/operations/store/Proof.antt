@@ -3,6 +3,7 @@ use Prim.Native.Nat.{ℕ, _+_, _<_}
 use mathlib.Core.Path.{_≡_, sym, ap, _∙_}
 use mathlib.Core.List.{List}
 use lib.ListN.{length}
+use Rattle.disc.proofs.Names.{good-name-is}
 use Rattle.store.specs.Answer.{checked, storeAnswer, storeAt, updated}
 use Rattle.store.specs.File.{stored}
 use Rattle.store.specs.declared.Admission.{Admission}
@@ -10,7 +11,6 @@ use Rattle.store.specs.declared.Answer.the-variants.{Done}
 use Rattle.store.specs.declared.Checked.the-variants.{Usable}
 use Rattle.store.proofs.Admissions.{Admitted, admitted}
 use Rattle.store.proofs.Checks.{Fit, usable}
-use Rattle.store.proofs.Names.{good-name-is}
 use native.Mathlib.Omega.{arith}
 use borrow.Author.Needs.{needs}
 use Rattle.store.proofs.operations.store.Statement.{statement}

@@ -6,8 +6,8 @@ use lib.ListN.{length}
 use Rattle.buffer.specs.Text.{appended, textSize}
 use Rattle.buffer.specs.declared.text.Text.{Text}
 use Rattle.decimal.specs.Decimal.{decimal}
+use Rattle.disc.specs.Name.{trimmed}
 use Rattle.store.specs.Answer.{fileLine}
-use Rattle.store.specs.Name.{trimmed}
 use Rattle.store.proofs.Steps.{line-appended}
 use native.Mathlib.Omega.{arith}
 use borrow.Author.Needs.{needs}

@@ -1,9 +1,9 @@
 -- `store_cases::discs::erase` is safe: a disc that passed the tests can be read, and a file that was found is there to be erased.
 use mathlib.Core.Path.{sym, _∙_}
 use borrow.Author.Needs.{needs}
-use Rattle.store.specs.Directory.{Readable}
+use Rattle.disc.specs.Directory.{Readable}
+use Rattle.disc.proofs.Lookups.{lookup-at}
 use Rattle.store.proofs.Checks.{usable}
-use Rattle.store.proofs.Lookups.{lookup-at}
 use Rattle.store_cases.proofs.discs.erase.Statement.{statement}
 use Rattle.store_cases.proofs.discs.erase.Tie as tie
 

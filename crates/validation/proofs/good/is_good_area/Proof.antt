@@ -6,7 +6,7 @@ use Prim.Native.Nat.{ℕ}
 use borrow.Author.Needs.{needs}
 use borrow.Author.Tests.{not-true, not-false}
 use Rattle.buffer.specs.Lists.{all, keep, pairs}
-use Rattle.store.specs.Directory.{files}
+use Rattle.disc.specs.Directory.{files}
 use Rattle.variable.specs.Good.{goodVariables}
 use Rattle.machine.specs.Area.{kernelOf, variablesOf}
 use Rattle.machine.specs.GoodArea.{goodHeader, goodProcess}

@@ -9,7 +9,7 @@ use borrow.Author.Tests.{not-true, not-false}
 use Rattle.buffer.specs.Buffer.{wordAt}
 use Rattle.buffer.specs.Lists.{all, tab}
 use Rattle.buffer.proofs.Lists.{all-tab-next, all-tab-stop}
-use Rattle.store.specs.Directory.{files}
+use Rattle.disc.specs.Directory.{files}
 use Rattle.machine.specs.Area.{kernelOf, processOf}
 use Rattle.machine.specs.GoodArea.{goodProcess}
 use Rattle.machine.specs.Limits.{nextAt, slotCount}

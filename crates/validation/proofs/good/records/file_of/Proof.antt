@@ -4,7 +4,7 @@ use mathlib.Core.Path.{_≡_}
 use native.Mathlib.Omega.{arith}
 use borrow.Author.Count.{below-more}
 use lib.ListN.{getD}
-use Rattle.store.specs.Layout.{maxFiles}
+use Rattle.disc.specs.Layout.{maxFiles}
 use Rattle.validation.proofs.good.records.file_of.Statement.{statement}
 use Rattle.validation.proofs.good.records.file_of.Tie as tie
 

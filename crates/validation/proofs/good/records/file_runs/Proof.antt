@@ -7,7 +7,7 @@ use borrow.Author.Needs.{needs}
 use lib.ListN.{replicate}
 use Rattle.buffer.specs.Buffer.{fourAt, overwrite}
 use Rattle.buffer.specs.Lists.{tab}
-use Rattle.store.specs.Layout.{entrySize, maxFiles, nameSize}
+use Rattle.disc.specs.Layout.{entrySize, maxFiles, nameSize}
 use Rattle.validation.specs.Columns.{fileRuns}
 use Rattle.validation.proofs.Columns.{Column, column-filled, column-next, column-none}
 use Rattle.validation.proofs.good.records.file_runs.Statement.{statement}

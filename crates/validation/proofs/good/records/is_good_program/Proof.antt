@@ -8,9 +8,9 @@ use lib.ListN.{take}
 use Rattle.buffer.specs.Buffer.{fourAt}
 use Rattle.buffer.specs.Lists.{same}
 use Rattle.buffer.proofs.Fours.{Bytes}
-use Rattle.store.specs.Layout.{nameSize}
-use Rattle.store.specs.declared.Entry.{Entry}
-use Rattle.store.proofs.InPlace.{name-in-place}
+use Rattle.disc.specs.Layout.{nameSize}
+use Rattle.disc.specs.declared.Entry.{Entry}
+use Rattle.disc.proofs.InPlace.{name-in-place}
 use Rattle.machine.specs.GoodArea.{isProgram}
 use Rattle.validation.specs.Columns.{FileOf}
 use Rattle.validation.proofs.Files.{empty-any, found-any, missed-any}
