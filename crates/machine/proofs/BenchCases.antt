@@ -1,4 +1,4 @@
--- The bench cases, the misreadings and the rows of DELAYUNTIL hold: by computing the definitions.
+-- The bench cases, the misreadings and the rows of DELAYUNTIL and of scaling hold: by computing the definitions.
 use mathlib.Core.Path.{refl}
 use lib.Count.{trailingZeros}
 use lib.Ieee.{ofBits, ofFields}
@@ -8,9 +8,12 @@ use Rattle.float.specs.Print.{printedOf}
 use Rattle.float.specs.Whole.{wholeOf}
 use Rattle.integer.specs.Modular.{wrapped}
 use Rattle.operator.specs.Arithmetic.{whole}
-use Rattle.operator.specs.Binary.{binary, wholeBits}
+use Rattle.operator.specs.Binary.{binary, ordered, wholeBits}
 use Rattle.operator.specs.Conversion.{convertedFloat}
 use Rattle.operator.specs.Instruction.{lookup as lookupOperator, operatorOf, includes}
+use Rattle.scaling.specs.Constrain.{constrained}
+use Rattle.scaling.specs.Map.{mapExact, mapped}
+use Rattle.scaling.specs.Power.{power, powerExact}
 use Rattle.number.specs.Text.{textOf}
 use Rattle.operator.specs.Unary.{unary}
 use Rattle.number.specs.Value.{numberOf}
@@ -25,7 +28,7 @@ use Rattle.variable.specs.Table.{freed, owned}
 use Rattle.machine.specs.Answer.{answer, formatAnswer, goodArea, otherAnswer}
 use Rattle.machine.specs.Area.{kernelOf}
 use Rattle.machine.specs.Bench.{Every, after, turns}
-use Rattle.machine.specs.Cases.{Bench, Delays, Misreadings, cases, delays, misreadings, waits}
+use Rattle.machine.specs.Cases.{Bench, Delays, Misreadings, Scalings, cases, delays, misreadings, scalings, waits}
 use Rattle.machine.specs.Effect.{operates, settle}
 use Rattle.machine.specs.Exec.{exec}
 use Rattle.machine.specs.GoodArea.{goodHeader, goodKernel, goodProcess, otherId}
@@ -36,9 +39,9 @@ use Rattle.machine.specs.Stack.{pop, wellFormed}
 use Rattle.machine.specs.Ended.{ended}
 use Rattle.machine.specs.Turn.{turned}
 
-rows-hold : Every cases × Every misreadings × Every waits × Every delays
+rows-hold : Every cases × Every misreadings × Every waits × Every delays × Every scalings
 unfolding turns after single exec instructionOf operatorOf lookupOperator includes operates settle pop wellFormed trimmed same unary binary
-    whole wrapped wholeBits convertedFloat numberOf textOf printedOf wholeOf lastDigits ofBits ofFields trailingZeros answer otherAnswer
+    constrained ordered mapped mapExact power powerExact whole wrapped wholeBits convertedFloat numberOf textOf printedOf wholeOf lastDigits ofBits ofFields trailingZeros answer otherAnswer
     formatAnswer
     storeAnswer checked isDiscLength lookup index entryAt tab flat goodDisc goodFiles goodEntry goodField goodName beside all pairs
     apart begins fits freeFrom greatest least place placeOf admission entered erased writtenAt goodArea goodKernel goodHeader
@@ -98,6 +101,7 @@ rows-hold = (
       ),
     ),
   ),
+  ((refl, refl), ((refl, refl), ((refl, refl), ((refl, refl), ((refl, refl), ((refl, refl), ((refl, refl), ((refl, refl), ((refl, refl), ((refl, refl), tt)))))))))),
 )
 
 pub bench-holds : Bench
@@ -111,3 +115,7 @@ misreadings-hold = rows-hold .1
 pub delays-hold : Delays
 unfolding Delays
 delays-hold = (rows-hold .2, rows-hold .3)
+
+pub scalings-hold : Scalings
+unfolding Scalings
+scalings-hold = rows-hold .4

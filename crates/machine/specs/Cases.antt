@@ -1,4 +1,5 @@
--- The rows: document 01's bench cases K1 to K12, its misreadings of the guide, and DELAYUNTIL by document 02, Q-4.
+-- The rows: document 01's bench cases K1 to K12, its misreadings of the guide, DELAYUNTIL by document 02, Q-4, and the
+-- pops of CONSTRAIN, MAP and POW by Q-3.
 use Prim.Native.Nat.{ℕ}
 use mathlib.Core.List.{List, [], _∷_, _++_}
 use lib.ListN.{replicate}
@@ -112,6 +113,25 @@ delays =
     runs (3 ∷ 97 ∷ 0 ∷ 44 ∷ []) 2 (shows [] 6 []) ∷
     runs (44 ∷ []) 1 (shows [] 5 []) ∷ []
 
+-- Document 02, Q-3: "Operands stand in appendix C's order, first pushed lowest"; each comes off with document 01's
+-- faults before the next is looked at. What the three answer: crates/scaling/specs/Rows.antt.
+abbrev pub scalings : List Row
+scalings =
+    -- CONSTRAIN of CHAR 9, CHAR 1, INT 5; MAP of 1, 0, 2, 10, 20; POW of 2, 5
+    runs (1 ∷ 9 ∷ 1 ∷ 1 ∷ 2 ∷ 0 ∷ 5 ∷ 38 ∷ []) 4 (shows (0 ∷ 5 ∷ 2 ∷ []) 0 []) ∷
+    runs (1 ∷ 1 ∷ 1 ∷ 0 ∷ 1 ∷ 2 ∷ 1 ∷ 10 ∷ 1 ∷ 20 ∷ 39 ∷ []) 6 (shows (15 ∷ 1 ∷ []) 0 []) ∷
+    runs (1 ∷ 2 ∷ 1 ∷ 5 ∷ 40 ∷ []) 3 (shows (32 ∷ 1 ∷ []) 0 []) ∷
+    -- "a FLOAT y is fault 6", nothing below it or not; y = 16 is 8 only where x is there, and else 5
+    runs (4 ∷ 0 ∷ 0 ∷ 0 ∷ 0 ∷ 40 ∷ []) 2 (shows [] 6 []) ∷
+    runs (1 ∷ 2 ∷ 1 ∷ 16 ∷ 40 ∷ []) 3 (shows [] 8 []) ∷
+    runs (1 ∷ 16 ∷ 40 ∷ []) 2 (shows [] 5 []) ∷
+    -- "equal b and c give fault 7" once all five are popped: without a it is 5
+    runs (1 ∷ 5 ∷ 1 ∷ 1 ∷ 1 ∷ 1 ∷ 1 ∷ 0 ∷ 1 ∷ 9 ∷ 39 ∷ []) 6 (shows [] 7 []) ∷
+    runs (1 ∷ 1 ∷ 1 ∷ 1 ∷ 1 ∷ 0 ∷ 1 ∷ 9 ∷ 39 ∷ []) 5 (shows [] 5 []) ∷
+    -- a STRING at b of CONSTRAIN is 6, at a too
+    runs (3 ∷ 97 ∷ 0 ∷ 38 ∷ []) 2 (shows [] 6 []) ∷
+    runs (3 ∷ 97 ∷ 0 ∷ 1 ∷ 1 ∷ 38 ∷ []) 3 (shows [] 6 []) ∷ []
+
 -- every row holds of the definitions
 unfoldable pub Bench : Type 0
 Bench = Every cases
@@ -121,3 +141,6 @@ Misreadings = Every misreadings
 
 unfoldable pub Delays : Type 0
 Delays = Every waits × Every delays
+
+unfoldable pub Scalings : Type 0
+Scalings = Every scalings

@@ -42,6 +42,6 @@ pub mod DiscLengths
 pub mod Waiting
 -- a file that OPEN creates reads empty
 pub mod NewFile
--- the bench cases, the misreadings and the rows of DELAYUNTIL
+-- the bench cases, the misreadings, the rows of DELAYUNTIL and of scaling
 pub mod Bench
 pub mod Cases

@@ -9,7 +9,7 @@ use limits::STACK_SIZE;
 use limits::ZEROS_SIZE;
 use place::Run;
 use variable::Variables;
-ghost use Rattle.machine.specs.Cases.{Bench, Delays, Misreadings};
+ghost use Rattle.machine.specs.Cases.{Bench, Delays, Misreadings, Scalings};
 ghost use Rattle.machine.specs.Demands.{BytesKept, EventsAreCalls, FaultTouchesOwn, GoodKept, LengthsKept};
 ghost use Rattle.machine.specs.Demands.{PlacesRefusedOnly, RoundIsTurns, TurnOutputBound};
 ghost use Rattle.machine.specs.DiscLengths.{EitherLength};
@@ -64,6 +64,11 @@ pub fn misreadings()
 // Document 02, Q-4: the request's own wait across 32,767, and the edges of the rule.
 pub fn delays()
     ensures { λ _. ⌜ Delays ⌝ }
+{}
+
+// Document 02, Q-3: the order of the operands of CONSTRAIN, MAP and POW, and of their faults.
+pub fn scalings()
+    ensures { λ _. ⌜ Scalings ⌝ }
 {}
 
 // Document 02, Q-4: MILLIS, INT d, PLUS, DELAYUNTIL waits d milliseconds, from every time on.

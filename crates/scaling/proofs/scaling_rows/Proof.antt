@@ -1,7 +1,6 @@
 -- By computing.
 use mathlib.Core.Path.{refl}
-use lib.Count.{trailingZeros}
-use lib.Ieee.{add, div, lt, mul, ofBits, ofFields, ofInt, round, sub}
+use lib.Ieee.{add, div, lt, mul, ofBits, ofInt, sub}
 use Rattle.integer.specs.Modular.{wrapped}
 use Rattle.operator.specs.Binary.{ordered, orderedFloats}
 use Rattle.scaling.specs.Constrain.{constrained}

@@ -1,4 +1,9 @@
 -- MAX of the first two, MIN of that and the third.
+use mathlib.Core.Path.{ap, _∙_}
+use Rattle.number.specs.Promotion.{promoted}
+use Rattle.number.specs.declared.Number.{Number}
+use Rattle.operator.specs.Binary.{extremum}
+use Rattle.operator.specs.declared.operators.Extremum.the-variants.{Min, Max}
 use borrow.Author.Needs.{needs}
 use Rattle.scaling.specs.Constrain.{constrained}
 use Rattle.scaling.proofs.constrain.constrain.Statement.{statement}
@@ -16,4 +21,6 @@ constrain-spec =
     (λ c.
     let second = c .before in
     let first = second .before in
-    rw (← first .before .promote .ensures, ← first .choose .ensures, ← second .promote2 .ensures) (c .choose2 .ensures)))
+    let b = first .before .before .args .b in
+    let raised = first .choose .ensures ∙ ap (extremum Max) (first .before .promote .ensures) in
+    c .choose2 .ensures ∙ ap (extremum Min) (second .promote2 .ensures ∙ ap (λ (m : Number). promoted m b) raised)))
