@@ -148,9 +148,9 @@ enum arduinos_refusal {
  * ended and its variables are freed. Firmware reports it, and may run the program again.
  *
  *      meaning                          usual cause                              what to do in the program
- *   1  no such instruction              DELAY, pins, POW, MAP, CONSTRAIN are     leave them out; count jump lengths
- *                                       not built; a jump into an argument; a
- *                                       file that is no program was started
+ *   1  no such instruction              DELAY and pins are not built; a jump     leave them out; count jump lengths
+ *                                       into an argument; a file that is no
+ *                                       program was started
  *   2  code ended                       no STOP at the end; an argument or a     end with STOP; store the whole of it
  *                                       STRING's zero is missing
  *   3  jump outside the program, or     a wrong length after IF, ELSE, WHILE; a  count from past the argument bytes;
@@ -159,12 +159,13 @@ enum arduinos_refusal {
  *                                       above 29 letters                         texts in parts
  *   5  too few bytes on the stack       an operand is missing                    push it first
  *   6  a type not taken here, or a      STRING for a number; FLOAT in MODULUS,   convert first, or leave TOINT out; a
- *      malformed string                 DELAYUNTIL or a bitwise instruction;     body of WHILE leaves the stack as it
- *                                       TOINT of an INT; ENDWHILE took a byte    was
- *                                       of a value
- *   7  whole divisor zero               an unset measure                         test it, or divide as FLOAT
- *   8  out of range: a conversion, a    a FLOAT above 32,767 made INT; NaN; a    MIN and MAX before converting; a
- *      negative whole root, WHILE       WHILE over more than 251 bytes           shorter loop
+ *      malformed string                 DELAYUNTIL or a bitwise instruction, as  body of WHILE leaves the stack as it
+ *                                       POW's y; TOINT of an INT; ENDWHILE took  was
+ *                                       a byte of a value
+ *   7  whole divisor zero               an unset measure; b = c in MAP           test it, or divide as FLOAT
+ *   8  out of range: a conversion, a    a FLOAT above 32,767 made INT; NaN; a    CONSTRAIN before converting or POW; a
+ *      negative whole root, POW's y,    y below 0 or above 15; a WHILE over      shorter loop
+ *      WHILE                            more than 251 bytes
  *   9  no such variable                 GET ahead of the first SET; a            SET it first: variables are each
  *                                       neighbour's variable                     process's own
  *  10  no variable entry, or no free    25 variables or 256 bytes are in use,    fewer and shorter variables, or fewer

@@ -301,7 +301,7 @@ static void every_instruction(void)
                 code[length - arguments - 1] = (uint8_t)byte;
                 state = started;
                 memcpy(state.disc + disc_size - length, code, length);
-                turns(slot, 8, text, sizeof text);
+                turns(slot, PREFIX_TURNS, text, sizeof text);
             }
         }
     }

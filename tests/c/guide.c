@@ -107,6 +107,10 @@ int main(void)
     example("lamp", 45);
 
     new_box();
+    store("load", load, sizeof load);
+    example("load", 100);
+
+    new_box();
     store("down", down, sizeof down);
     example("down", 100);
 

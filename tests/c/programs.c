@@ -7,8 +7,8 @@ enum {
     CHAR = 1, INT, STRING, FLOAT, SET, GET, INCREMENT, DECREMENT, PLUS, MINUS, TIMES, DIVIDEDBY, MODULUS, UNARYMINUS,
     EQUALS, NOTEQUALS, LESSTHAN, LESSTHANOREQUALS, GREATERTHAN, GREATERTHANOREQUALS, LOGICALAND, LOGICALOR, LOGICALXOR,
     LOGICALNOT, BITWISEAND, BITWISEOR, BITWISEXOR, BITWISENOT, TOCHAR, TOINT, TOFLOAT, ROUND, FLOOR, CEIL, MIN, MAX,
-    ABS, SQ = 41, SQRT, DELAY, DELAYUNTIL, MILLIS, PRINT = 51, PRINTLN, OPEN, CLOSE, WRITE, READINT, READCHAR,
-    READFLOAT, READSTRING, IF, ELSE, ENDIF, WHILE, ENDWHILE, LOOP, ENDLOOP, STOP, FORK, WAITUNTILDONE
+    ABS, CONSTRAIN, MAP, POW, SQ, SQRT, DELAY, DELAYUNTIL, MILLIS, PRINT = 51, PRINTLN, OPEN, CLOSE, WRITE, READINT,
+    READCHAR, READFLOAT, READSTRING, IF, ELSE, ENDIF, WHILE, ENDWHILE, LOOP, ENDLOOP, STOP, FORK, WAITUNTILDONE
 };
 
 #define ABC10 'a', 'b', 'c', 'd', 'e', 'f', 'g', 'h', 'i', 'j'
@@ -18,6 +18,8 @@ enum {
 /* A CHAR 0 or 1 as a digit. */
 #define DIGIT CHAR, '0', PLUS, PRINT
 #define INTS(a, b) INT, 0, a, INT, 0, b
+#define CHARS(a, b) CHAR, a, CHAR, b
+#define NOT_A_NUMBER FLOAT, 127, 192, 0, 0
 
 static const uint8_t values[] = {
     CHAR, 'a', PRINT, INT, 1, 44, PRINTLN, FLOAT, 66, 246, 230, 102, PRINTLN,
@@ -49,6 +51,32 @@ static const uint8_t comparisons[] = {
 static const uint8_t bits[] = {
     INTS(12, 10), BITWISEAND, PRINTLN, INTS(12, 10), BITWISEOR, PRINTLN, INTS(12, 10), BITWISEXOR, PRINTLN,
     INT, 0, 12, BITWISENOT, PRINTLN, INTS(3, 5), MIN, PRINTLN, INTS(3, 5), MAX, PRINTLN, STOP
+};
+static const uint8_t constrained[] = {
+    INTS(174, 50), INT, 0, 150, CONSTRAIN, PRINTLN,                   /* b is less */
+    CHAR, 251, INT, 0, 0, CHAR, 9, CONSTRAIN, PRINTLN,                /* -5: a is greater; a's type, the widest */
+    INTS(3, 9), INT, 0, 1, CONSTRAIN, PRINTLN,                        /* a above b: b */
+    CHARS(2, 1), FLOAT, 64, 32, 0, 0, CONSTRAIN, PRINTLN,             /* 2, between 1 and 2.5, as FLOAT */
+    NOT_A_NUMBER, CHARS(0, 5), CONSTRAIN, PRINTLN,                    /* neither is greater nor less */
+    INT, 0, 7, NOT_A_NUMBER, CHAR, 5, CONSTRAIN, PRINTLN,             /* a is passed over, b is less */
+    STOP
+};
+static const uint8_t mapped[] = {
+    INT, 2, 188, INT, 0, 0, INT, 3, 255, INTS(0, 255), MAP, PRINTLN,  /* 700 * 255 / 1023 = 174.4.. */
+    INT, 127, 255, INT, 128, 0, INT, 127, 255, INT, 128, 0, INT, 127, 255, MAP, PRINTLN, /* 65535^2 / 65535 - 32768 */
+    CHARS(249, 0), CHARS(2, 10), CHAR, 11, MAP, TOINT, PRINTLN,       /* -7 / 2 = -3.5: -3 + 10 */
+    CHARS(100, 0), CHARS(1, 0), CHAR, 2, MAP, TOINT, PRINTLN,         /* 200 - 256 */
+    FLOAT, 63, 192, 0, 0, CHARS(0, 3), CHARS(0, 5), MAP, PRINTLN,     /* 1.5 * 5 / 3 */
+    CHARS(5, 3), CHARS(3, 0), FLOAT, 63, 128, 0, 0, MAP, PRINTLN,     /* 2 * 1.0 / 0 */
+    STOP
+};
+static const uint8_t powers[] = {
+    FLOAT, 63, 192, 0, 0, CHAR, 2, POW, PRINTLN,                      /* 1.5 * 1.5 */
+    CHAR, 2, INT, 0, 7, POW, PRINTLN,                                 /* an INT by y's type */
+    CHARS(2, 7), POW, TOINT, PRINTLN, CHARS(254, 3), POW, TOINT, PRINTLN, /* 128 - 256; -2 * -2 * -2 */
+    INT, 0, 2, CHAR, 15, POW, PRINTLN,                                /* 32768 - 65536 */
+    INT, 0, 0, CHAR, 0, POW, PRINTLN, NOT_A_NUMBER, CHAR, 0, POW, PRINTLN, /* 1 for every x */
+    STOP
 };
 static const uint8_t timing[] = {
     MILLIS, INT, 0, 50, PLUS, DELAYUNTIL, STRING, 'l', 'i', 't', 0, PRINTLN, STOP
@@ -89,9 +117,18 @@ static const uint8_t too_many_letters[] = { STRING, ABC29, 'k', 0, PRINTLN, STOP
 static const uint8_t stack_overflow[] = { LOOP, INT, 0, 1, ENDLOOP };
 static const uint8_t empty_stack[] = { PLUS };
 static const uint8_t one_operand[] = { INT, 0, 1, MINUS };
+static const uint8_t two_of_three[] = { INTS(1, 2), CONSTRAIN };
+static const uint8_t four_of_five[] = { INTS(1, 2), INTS(3, 4), MAP };
+static const uint8_t one_of_two[] = { CHAR, 2, POW };
 static const uint8_t wrong_type[] = { STRING, 'a', 0, INCREMENT };
+static const uint8_t constrained_string[] = { STRING, 'a', 0, INTS(1, 2), CONSTRAIN };
+static const uint8_t mapped_string[] = { STRING, 'a', 0, INTS(1, 2), INTS(2, 3), MAP };
+static const uint8_t float_exponent[] = { CHAR, 2, FLOAT, 64, 0, 0, 0, POW };
 static const uint8_t divisor_zero[] = { INT, 0, 1, INT, 0, 0, MODULUS };
+static const uint8_t empty_range[] = { INTS(5, 3), INTS(3, 0), CHAR, 9, MAP };
 static const uint8_t out_of_range[] = { FLOAT, 71, 0, 0, 0, TOINT };
+static const uint8_t exponent_above[] = { CHARS(2, 16), POW };
+static const uint8_t exponent_below[] = { CHAR, 2, INT, 255, 255, POW };
 static const uint8_t no_variable[] = { GET, 'z' };
 #define SET_30(name) STRING, ABC29, 0, SET, name
 /* 8 * 30 and 16 bytes fill the memory; one byte more has no place. */
@@ -124,6 +161,9 @@ const struct program programs[] = {
     PROGRAM(floats, "8.28\n-1-10\n3.00\ninf\n3\nA\n-4294967040.00\n", 0),
     PROGRAM(comparisons, "0111000111", 0),
     PROGRAM(bits, "8\n14\n6\n-13\n3\n5\n", 0),
+    PROGRAM(constrained, "150\n0\n1\n2.00\nnan\n5.00\n", 0),
+    PROGRAM(mapped, "174\n32767\n7\n-56\n2.50\ninf\n", 0),
+    PROGRAM(powers, "2.25\n128\n-128\n-8\n-32768\n1\n1.00\n", 0),
     PROGRAM(timing, "lit\n", 0),
     PROGRAM(branches, "False\nTrue\n", 0),
     PROGRAM(down, "3\n2\n1\n", 0),
@@ -145,9 +185,18 @@ const struct program programs[] = {
     PROGRAM(stack_overflow, "", ARDUINOS_FAULT_STACK_FULL),
     PROGRAM(empty_stack, "", ARDUINOS_FAULT_TOO_FEW_BYTES),
     PROGRAM(one_operand, "", ARDUINOS_FAULT_TOO_FEW_BYTES),
+    PROGRAM(two_of_three, "", ARDUINOS_FAULT_TOO_FEW_BYTES),
+    PROGRAM(four_of_five, "", ARDUINOS_FAULT_TOO_FEW_BYTES),
+    PROGRAM(one_of_two, "", ARDUINOS_FAULT_TOO_FEW_BYTES),
     PROGRAM(wrong_type, "", ARDUINOS_FAULT_WRONG_TYPE),
+    PROGRAM(constrained_string, "", ARDUINOS_FAULT_WRONG_TYPE),
+    PROGRAM(mapped_string, "", ARDUINOS_FAULT_WRONG_TYPE),
+    PROGRAM(float_exponent, "", ARDUINOS_FAULT_WRONG_TYPE),
     PROGRAM(divisor_zero, "", ARDUINOS_FAULT_DIVISOR_ZERO),
+    PROGRAM(empty_range, "", ARDUINOS_FAULT_DIVISOR_ZERO),
     PROGRAM(out_of_range, "", ARDUINOS_FAULT_OUT_OF_RANGE),
+    PROGRAM(exponent_above, "", ARDUINOS_FAULT_OUT_OF_RANGE),
+    PROGRAM(exponent_below, "", ARDUINOS_FAULT_OUT_OF_RANGE),
     PROGRAM(no_variable, "", ARDUINOS_FAULT_NO_VARIABLE),
     PROGRAM(no_memory, "abcdefghijklmno", ARDUINOS_FAULT_NO_VARIABLE_SPACE),
     PROGRAM(no_entry, "", ARDUINOS_FAULT_NO_VARIABLE_SPACE),
@@ -168,6 +217,14 @@ static const uint8_t no_values[] = { 0 };
 static const uint8_t two_chars[] = { CHAR, 5, CHAR, 3 };
 static const uint8_t two_ints[] = { INT, 1, 5, INT, 0, 3 };
 static const uint8_t two_floats[] = { FLOAT, 64, 73, 15, 219, FLOAT, 63, 0, 0, 0 };
+static const uint8_t float_and_char[] = { FLOAT, 63, 192, 0, 0, CHAR, 15 };
+static const uint8_t three_numbers[] = { CHAR, 9, INT, 0, 3, FLOAT, 64, 32, 0, 0 };
+static const uint8_t five_wholes[] = { INT, 2, 188, CHAR, 0, INT, 3, 255, CHAR, 0, INT, 0, 255 };
+/* All 32 bytes of the stack: six FLOATs on a CHAR. */
+static const uint8_t full_stack[] = {
+    CHAR, 5, FLOAT, 64, 73, 15, 219, FLOAT, 63, 192, 0, 0, FLOAT, 63, 0, 0, 0, FLOAT, 64, 32, 0, 0,
+    FLOAT, 66, 246, 230, 102, FLOAT, 61, 204, 204, 205
+};
 static const uint8_t string_and_int[] = { STRING, 'l', 'o', 'g', 0, INT, 0, 9 };
 static const uint8_t own_name[] = { INT, 0, 9, STRING, 'p', 0 };
 static const uint8_t opened[] = { OPEN_LOG, CHAR, 66 };
@@ -176,7 +233,8 @@ static const uint8_t looped[] = { LOOP, CHAR, 0 };
 #define PREFIX(array) { array, sizeof array }
 
 const struct prefix prefixes[] = {
-    { no_values, 0 },       PREFIX(two_chars), PREFIX(two_ints), PREFIX(two_floats),
-    PREFIX(string_and_int), PREFIX(own_name),  PREFIX(opened),   PREFIX(looped),
+    { no_values, 0 },       PREFIX(two_chars),     PREFIX(two_ints),    PREFIX(two_floats),
+    PREFIX(float_and_char), PREFIX(three_numbers), PREFIX(five_wholes), PREFIX(full_stack),
+    PREFIX(string_and_int), PREFIX(own_name),      PREFIX(opened),      PREFIX(looped),
 };
 const size_t prefix_count = sizeof prefixes / sizeof prefixes[0];

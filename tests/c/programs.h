@@ -20,7 +20,8 @@ struct program {
 extern const struct program programs[];
 extern const size_t program_count;
 
-/* What stands on the stack before an instruction that is tried at the end of the disc. */
+/* What stands on the stack before an instruction that is tried at the end of the disc: up to five operands, and a stack
+   that is full. */
 struct prefix {
     const uint8_t *bytes;
     size_t length;
@@ -28,6 +29,8 @@ struct prefix {
 extern const struct prefix prefixes[];
 extern const size_t prefix_count;
 #define LONGEST_PREFIX 32
+/* The most instructions of a prefix, and the one that is tried. */
+#define PREFIX_TURNS 8
 
 /* Prints 29 letters and a newline, the most that an instruction prints. */
 extern const struct program letters;

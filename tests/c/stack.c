@@ -261,7 +261,7 @@ static void run_every_byte(const struct prefix *prefix)
         called("p");
         call(RUN);
         number = 0;
-        for (int i = 0; i < 8; i++)
+        for (int i = 0; i < PREFIX_TURNS; i++)
             call(TURN);
     }
 }

@@ -1,5 +1,6 @@
-// Runs the example programs of the guide's appendix A through the functions that the firmware calls. The gate compares
-// what comes out with the file stdout, which was worked out by hand before the first run, from these places:
+// Runs the example programs of the guide's appendix A, and one for document 02's load lamps, through the functions that
+// the firmware calls. The gate compares what comes out with the file stdout, which was worked out by hand before the
+// first run, from these places:
 //   A.1    the stacks that the guide draws, bottom first. Neither example has a STOP, so that the code ends: fault 2
 //   A.2    "print de letter a", 263, 123.45, "test"; no STOP either
 //   A.3.2  "False": 3 is not 5
@@ -13,6 +14,9 @@
 //   A.6    as printed the file world begins with the letter w, byte 119, which is no instruction: the child ends by
 //          fault 1. With CHAR STRING WRITE before the letters the output is the guide's, but for the comma of "hello,"
 //          that the guide's output lacks
+//   Q-3    "Load lamps need CONSTRAIN, MAP and POW": 700 of 0 to 1023 is 700 * 255 / 1023 = 174.4.. of 0 to 255, "cut
+//          toward zero" 174; that kept between 50 and 150 is 150, MAX of 174 and 50 being 174 and MIN of it and 150
+//          being 150; 1.5 POW 2 is 1 * 1.5 * 1.5. Nine instructions to the first PRINTLN, five, four, and STOP
 // A process has one instruction in a round, so that the rounds are the instructions of slot 0, and what it stays at:
 // two rounds at DELAYUNTIL; none or two at WAITUNTILDONE, by whether the child ends in FORK's round or two later.
 mod code;
@@ -41,4 +45,5 @@ fn main() {
         programs::forked_string(),
         MOST_ROUNDS,
     );
+    show::run(b"Q-3, load lamps", programs::load_lamps(), MOST_ROUNDS);
 }

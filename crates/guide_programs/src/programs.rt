@@ -1,4 +1,4 @@
-// The example programs of the guide's appendix A, a row of the guide to a line.
+// The example programs of the guide's appendix A, a row of the guide to a line, and one of document 02.
 use crate::code::Code;
 use crate::code::none;
 use crate::code::with;
@@ -137,4 +137,16 @@ pub fn forked() -> Code {
 // A.6 with the STRING that its file lacks
 pub fn forked_string() -> Code {
     forking(with(opening(), &[CHAR, STRING, WRITE]))
+}
+
+// Document 02, Q-3: "Load lamps need CONSTRAIN, MAP and POW." A load of 700 out of 1023 as a lamp's level out of 255,
+// that level kept between 50 and 150, and 1.5 squared.
+pub fn load_lamps() -> Code {
+    let c = with(none(), &[INT, 2, 188]);
+    let c = with(c, &[INT, 0, 0, INT, 3, 255, INT, 0, 0, INT, 0, 255, MAP]);
+    let c = with(c, &[SET, b'l']);
+    let c = with(c, &[GET, b'l', PRINTLN]);
+    let c = with(c, &[GET, b'l', INT, 0, 50, INT, 0, 150, CONSTRAIN, PRINTLN]);
+    let c = with(c, &[FLOAT, 63, 192, 0, 0, CHAR, 2, POW, PRINTLN]);
+    with(c, &[STOP])
 }

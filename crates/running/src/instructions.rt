@@ -23,6 +23,12 @@ pub const LOGICALNOT: u8 = 24;
 
 pub const TOINT: u8 = 30;
 
+pub const CONSTRAIN: u8 = 38;
+
+pub const MAP: u8 = 39;
+
+pub const POW: u8 = 40;
+
 pub const DELAYUNTIL: u8 = 44;
 
 pub const MILLIS: u8 = 45;
