@@ -2,6 +2,7 @@
 use mathlib.Core.Path.{refl}
 use lib.Count.{trailingZeros}
 use lib.Ieee.{ofBits, ofFields}
+use lib.IntN.{one, pow}
 use Rattle.buffer.specs.Lists.{all, any, flat, index, keep, pairs, same, tab}
 use Rattle.decimal.specs.Decimal.{lastDigits}
 use Rattle.float.specs.Print.{printedOf}
@@ -13,7 +14,7 @@ use Rattle.operator.specs.Conversion.{convertedFloat}
 use Rattle.operator.specs.Instruction.{lookup as lookupOperator, operatorOf, includes}
 use Rattle.scaling.specs.Constrain.{constrained}
 use Rattle.scaling.specs.Map.{mapExact, mapped}
-use Rattle.scaling.specs.Power.{power, powerExact}
+use Rattle.scaling.specs.Power.{power}
 use Rattle.number.specs.Text.{textOf}
 use Rattle.operator.specs.Unary.{unary}
 use Rattle.number.specs.Value.{numberOf}
@@ -41,7 +42,7 @@ use Rattle.machine.specs.Turn.{turned}
 
 rows-hold : Every cases × Every misreadings × Every waits × Every delays × Every scalings
 unfolding turns after single exec instructionOf operatorOf lookupOperator includes operates settle pop wellFormed trimmed same unary binary
-    constrained ordered mapped mapExact power powerExact whole wrapped wholeBits convertedFloat numberOf textOf printedOf wholeOf lastDigits ofBits ofFields trailingZeros answer otherAnswer
+    constrained ordered mapped mapExact power pow one whole wrapped wholeBits convertedFloat numberOf textOf printedOf wholeOf lastDigits ofBits ofFields trailingZeros answer otherAnswer
     formatAnswer
     storeAnswer checked isDiscLength lookup index entryAt tab flat goodDisc goodFiles goodEntry goodField goodName beside all pairs
     apart begins fits freeFrom greatest least place placeOf admission entered erased writtenAt goodArea goodKernel goodHeader

@@ -2,3 +2,4 @@
 pub mod Sizes
 pub mod Mapping
 pub mod Powers
+pub mod Meaning

@@ -5,7 +5,7 @@ use Prim.Native.Nat.{ℕ, zero, suc, _+_, _≤_}
 use native.Mathlib.Omega.{arith}
 use borrow.Author.Tests.{leb-true, ltb-true}
 use lib.Dec.{T}
-use lib.IntN.{ℤ, pos, negsuc, natAbs, _*ℤ_}
+use lib.IntN.{ℤ, pos, negsuc, natAbs, pow, _*ℤ_}
 use lib.Ieee.{Float as Binary32, binary32, mul, ofBits, ofInt}
 use lib.Signed.{leZ, ltZ, nonNeg}
 use mir.Syntax.{Width, w8, w16, w64}
@@ -15,7 +15,7 @@ use Rattle.integer.specs.Modular.{wrapped}
 use Rattle.integer.proofs.Modular.{reads-wrapped}
 use Rattle.integer.proofs.Reduction.{wrapped-factor, wrapped-narrow}
 use Rattle.integer.proofs.Representation.{true-not-false, widened}
-use Rattle.scaling.specs.Power.{maxExponent, powerExact, powerReal, wholeExponent}
+use Rattle.scaling.specs.Power.{maxExponent, powerReal, wholeExponent}
 use Rattle.scaling.specs.declared.power.Exponent.{Exponent}
 use Rattle.scaling.specs.declared.power.Exponent.the-variants.{Is, Refused}
 
@@ -62,13 +62,13 @@ module _ (z : ℤ) (f : SFits w16 z) where
 next : (i : ℕ) → i + 1 ≡ suc i
 next i = omega arith
 
-pub wrapped-next : (w : Width) (x : ℤ) (i : ℕ) {p r : ℤ} → p ≡ wrapped w (powerExact x i) → r ≡ wrapped w (p *ℤ x)
-    → toZ w (ofZ w r) ≡ wrapped w (powerExact x (i + 1))
-unfolding powerExact
+pub wrapped-next : (w : Width) (x : ℤ) (i : ℕ) {p r : ℤ} → p ≡ wrapped w (pow x i) → r ≡ wrapped w (p *ℤ x)
+    → toZ w (ofZ w r) ≡ wrapped w (pow x (i + 1))
+unfolding pow
 wrapped-next w x i {p} e given =
-    reads-wrapped w (powerExact x (i + 1))
-    (given ∙ ap (λ (y : ℤ). wrapped w (y *ℤ x)) e ∙ wrapped-factor w (powerExact x i) x
-    ∙ ap (λ (n : ℕ). wrapped w (powerExact x n)) (sym (next i)))
+    reads-wrapped w (pow x (i + 1))
+    (given ∙ ap (λ (y : ℤ). wrapped w (y *ℤ x)) e ∙ wrapped-factor w (pow x i) x
+    ∙ ap (λ (n : ℕ). wrapped w (pow x n)) (sym (next i)))
 
 pub real-next : (x : Binary32) (i : ℕ) {p : Binary32} → p ≡ powerReal x i → mul binary32 p x ≡ powerReal x (i + 1)
 unfolding powerReal
@@ -80,15 +80,15 @@ unfolding powerReal ofBits ofInt
 one x = refl
 
 -- ---- at each type: the power modulo 65,536 read as an INT, and reduced to a CHAR
-pub int-raised : (x : ℤ) → SFits w16 x → (n : ℕ) {p : ℤ} → p ≡ wrapped w16 (powerExact (toZ w16 (ofZ w16 x)) n)
-    → toZ w16 (ofZ w16 p) ≡ wrapped w16 (powerExact x n)
-int-raised x f n e = reads-wrapped w16 (powerExact x n) (e ∙ ap (λ (y : ℤ). wrapped w16 (powerExact y n)) (toZ-ofZ f))
+pub int-raised : (x : ℤ) → SFits w16 x → (n : ℕ) {p : ℤ} → p ≡ wrapped w16 (pow (toZ w16 (ofZ w16 x)) n)
+    → toZ w16 (ofZ w16 p) ≡ wrapped w16 (pow x n)
+int-raised x f n e = reads-wrapped w16 (pow x n) (e ∙ ap (λ (y : ℤ). wrapped w16 (pow y n)) (toZ-ofZ f))
 
 pub char-raised : (x : ℤ) → SFits w8 x → (n : ℕ) (p : ℤ) → SFits w16 p
-    → p ≡ wrapped w16 (powerExact (toZ w16 (ofZ w16 (toZ w8 (ofZ w8 x)))) n) → {r : ℤ}
-    → r ≡ wrapped w8 (toZ w64 (ofZ w64 (toZ w16 (ofZ w16 p)))) → toZ w8 (ofZ w8 r) ≡ wrapped w8 (powerExact x n)
+    → p ≡ wrapped w16 (pow (toZ w16 (ofZ w16 (toZ w8 (ofZ w8 x)))) n) → {r : ℤ}
+    → r ≡ wrapped w8 (toZ w64 (ofZ w64 (toZ w16 (ofZ w16 p)))) → toZ w8 (ofZ w8 r) ≡ wrapped w8 (pow x n)
 char-raised x f n p g e given =
-    reads-wrapped w8 (powerExact x n)
+    reads-wrapped w8 (pow x n)
     (given
-    ∙ ap (wrapped w8) (widened w16 w64 tt p g ∙ e ∙ ap (λ (y : ℤ). wrapped w16 (powerExact y n)) (widened w8 w16 tt x f))
-    ∙ wrapped-narrow (powerExact x n))
+    ∙ ap (wrapped w8) (widened w16 w64 tt p g ∙ e ∙ ap (λ (y : ℤ). wrapped w16 (pow y n)) (widened w8 w16 tt x f))
+    ∙ wrapped-narrow (pow x n))

@@ -2,3 +2,4 @@ pub mod Constrain
 pub mod Map
 pub mod Power
 pub mod Rows
+pub mod Meaning

@@ -2,7 +2,7 @@
 use Prim.Native.Nat.{ℕ, zero, suc}
 use mathlib.Core.Bool.{cond}
 use lib.Dec.{leb}
-use lib.IntN.{ℤ, pos, negsuc, _*ℤ_}
+use lib.IntN.{ℤ, pos, negsuc, pow}
 use lib.Ieee.{Float as Binary32, binary32, ofInt, mul}
 use mir.Syntax.{w8, w16}
 use Rattle.integer.specs.Modular.{wrapped}
@@ -30,19 +30,16 @@ exponent (Char y) = wholeExponent y
 exponent (Int y) = wholeExponent y
 exponent (Float y) = Refused
 
--- "multiplying from the left starting at 1": of whole numbers exactly, and one rounding for each product of FLOATs
-unfoldable pub powerExact : ℤ → ℕ → ℤ
-powerExact x zero = pos 1
-powerExact x (suc n) = powerExact x n *ℤ x
-
+-- "multiplying from the left starting at 1": of whole numbers the library's power; of FLOATs one rounding for each
+-- product
 unfoldable pub powerReal : Binary32 → ℕ → Binary32
 powerReal x zero = ofInt binary32 (pos 1)
 powerReal x (suc n) = mul binary32 (powerReal x n) x
 
 -- "in the wider operand's type": the pair is both operands at it
 abbrev pub raised : Pair → ℕ → Number
-raised (Chars x y) n = Char (wrapped w8 (powerExact x n))
-raised (Ints x y) n = Int (wrapped w16 (powerExact x n))
+raised (Chars x y) n = Char (wrapped w8 (pow x n))
+raised (Ints x y) n = Int (wrapped w16 (pow x n))
 raised (Floats x y) n = Float (powerReal x n)
 
 abbrev pub raisedBy : Pair → Exponent → Outcome

@@ -1,9 +1,9 @@
 // POW of x, y: x to the power of y.
 ghost use mathlib.Core.Path.{_≡_};
-ghost use Prim.Native.Nat.{_≤_};
+ghost use lib.IntN.{pow};
 ghost use mir.Syntax.{w16};
 ghost use Rattle.integer.specs.Modular.{wrapped};
-ghost use Rattle.scaling.specs.Power.{wholeExponent, exponent, powerExact, powerReal, raised, raisedBy, power};
+ghost use Rattle.scaling.specs.Power.{wholeExponent, exponent, powerReal, raised, raisedBy, power};
 use number::Number;
 use number::promotion::Pair;
 use number::promotion::promote;
@@ -42,7 +42,7 @@ fn exponent_of(y: Number) -> Exponent
 
 // "multiplying from the left starting at 1": modulo 65,536, of which modulo 256 is a part.
 fn power16(x: i16, n: u8) -> i16
-    ensures { λ r. ⌜ r ≡ wrapped w16 (powerExact x n) ⌝ }
+    ensures { λ r. ⌜ r ≡ wrapped w16 (pow x n) ⌝ }
 {
     let mut product: i16 = 1;
     let mut i: u8 = 0;

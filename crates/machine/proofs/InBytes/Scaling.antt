@@ -1,9 +1,9 @@
 -- What CONSTRAIN, MAP and POW answer to numbers that fit their types fits its type.
 use Prim.Native.Nat.{ℕ, zero, suc}
 use lib.Dec.{T}
-use lib.Ieee.{Float as Binary32, binary32, div, fits, mul, sub}
+use lib.Ieee.{Float as Binary32, binary32, fits}
 use lib.Ieee.Fits.{add-fits, mul-fits, ofInt-fits}
-use lib.IntN.{pos, _-ℤ_}
+use lib.IntN.{pos, pow, _-ℤ_}
 use mir.Syntax.{w8, w16}
 use Rattle.integer.proofs.Modular.{wrapped-fits}
 use Rattle.number.specs.Promotion.{promoted}
@@ -16,7 +16,7 @@ use Rattle.operator.specs.Binary.{extremum}
 use Rattle.operator.specs.declared.operators.Extremum.the-variants.{Min, Max}
 use Rattle.scaling.specs.Constrain.{constrained}
 use Rattle.scaling.specs.Map.{exact, mapExact, mapReal, mapped, mappedAs, real, widest}
-use Rattle.scaling.specs.Power.{exponent, power, powerExact, powerReal, raised, raisedBy}
+use Rattle.scaling.specs.Power.{exponent, power, powerReal, raised, raisedBy}
 use Rattle.scaling.specs.declared.map.Kind.{Kind}
 use Rattle.scaling.specs.declared.map.Kind.the-variants as kind
 use Rattle.scaling.specs.declared.power.Exponent.{Exponent}
@@ -47,8 +47,8 @@ power-fits x zero = ofInt-fits binary32 (pos 1)
 power-fits x (suc n) = mul-fits binary32 (powerReal x n) x
 
 raised-fits : (p : Pair) (n : ℕ) → Fits (raised p n)
-raised-fits (Chars x y) n = wrapped-fits w8 (powerExact x n)
-raised-fits (Ints x y) n = wrapped-fits w16 (powerExact x n)
+raised-fits (Chars x y) n = wrapped-fits w8 (pow x n)
+raised-fits (Ints x y) n = wrapped-fits w16 (pow x n)
 raised-fits (Floats x y) n = power-fits x n
 
 pub power-answers : (x y : Number) → Answers (power x y)

@@ -1,11 +1,12 @@
 -- By computing.
 use mathlib.Core.Path.{refl}
+use lib.IntN.{one, pow}
 use lib.Ieee.{add, div, lt, mul, ofBits, ofInt, sub}
 use Rattle.integer.specs.Modular.{wrapped}
 use Rattle.operator.specs.Binary.{ordered, orderedFloats}
 use Rattle.scaling.specs.Constrain.{constrained}
 use Rattle.scaling.specs.Map.{mapExact, mapReal, mapped}
-use Rattle.scaling.specs.Power.{power, powerExact, powerReal}
+use Rattle.scaling.specs.Power.{power, powerReal}
 use Rattle.scaling.specs.Rows.{Rows, ScalingRows, constrainRows, mapRows, powerRows}
 use Rattle.scaling.proofs.scaling_rows.Statement.{statement}
 use Rattle.scaling.proofs.scaling_rows.Tie as tie
@@ -19,7 +20,7 @@ unfolding mapped mapExact mapReal wrapped ofBits ofInt add sub mul div
 map-rows = (refl, (refl, (refl, (refl, (refl, (refl, (refl, tt)))))))
 
 power-rows : Rows powerRows
-unfolding power powerExact powerReal wrapped ofBits ofInt mul
+unfolding power pow one powerReal wrapped ofBits ofInt mul
 power-rows = (refl, (refl, (refl, (refl, (refl, (refl, (refl, (refl, (refl, tt)))))))))
 
 returns : tie.Need-returns
