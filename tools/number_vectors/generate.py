@@ -3,22 +3,27 @@
 
 usage: tools/number_vectors/generate.py DIR        writes DIR/stdin (the operands) and DIR/stdout (what the program must write)
 
-Sources: document 01 'Instructions', shared/readings.md 'Numbers' and 'Instruction numbers', tables 2 and 3 of the guide.
+Sources: document 01 'Instructions', shared/readings.md 'Numbers' and 'Instruction numbers', tables 2 and 3 of the guide; for CONSTRAIN, MAP
+and POW document 02, Q-3, and its part of shared/readings-02.md.
 
 stdin: 200 operands of five bytes, a type (1 CHAR, 2 INT, 4 FLOAT) and the value's bytes as they lie on the stack, high byte first, zeros behind; type 0: no operand.
 stdout, in this order, the operators by their numbers:
     U TYPE SUM SEVENS EIGHTS            operator U of one operand over every CHAR, every INT, and the FLOATs of stdin
     B FIRST SECOND SUM SEVENS EIGHTS    operator B of two operands over all pairs of operands of stdin with these types
+    38 TYPE.. SUM SEVENS EIGHTS         CONSTRAIN over all triples of CHARs, and of operands of stdin with other types
+    39 TYPE.. SUM SEVENS EIGHTS         MAP over 4096 drawn fives of operands with these types
+    40 FIRST SECOND SUM SEVENS EIGHTS   POW over every CHAR, every INT, and the FLOATs of stdin, to each of EXPONENTS
     text                                PRINT of each multiple of 997, then of each INT and FLOAT of stdin, a line each
     TYPE SUM                            PRINT of every CHAR and every INT
-    I T..                               instruction I, 0 to 255, and the operand types of 0 to 5 that the operator I takes; none where I is no operator
+    I T..                               instruction I, 0 to 255, and the operand types of 0 to 5 that the operator I takes first; none where I is no operator
+    I P T..                             the same of 38, 39 and 40 for the operands pushed later, place P from 1
 A type that an operator does not take has no line. SEVENS and EIGHTS count the outcomes that are faults 7 and 8.
 SUM, in hex: from 0, each byte x turns h into (h * 16777619 + x) mod 4294967291. An outcome's bytes are its type and four value bytes, zeros behind; or its fault number alone.
 A text's bytes are its length and its own.
 """
 import sys
 from fractions import Fraction
-from functools import cache
+from functools import cache, lru_cache
 from itertools import product
 from math import isqrt
 from struct import pack
@@ -34,13 +39,19 @@ UNARY = {
     "TOCHAR": (29, (INT, FLOAT)), "TOINT": (30, (CHAR, FLOAT)), "TOFLOAT": (31, WHOLE), "ROUND": (32, NUMBER), "FLOOR": (33, NUMBER),
     "CEIL": (34, NUMBER), "ABS": (37, NUMBER), "SQ": (41, NUMBER), "SQRT": (42, NUMBER),
 }
-# Table 3: number, types of both operands. POW is not built.
+# Table 3: number, types of both operands; POW is below.
 BINARY = {
     "PLUS": (9, NUMBER), "MINUS": (10, NUMBER), "TIMES": (11, NUMBER), "DIVIDEDBY": (12, NUMBER), "MODULUS": (13, WHOLE),
     "EQUALS": (15, NUMBER), "NOTEQUALS": (16, NUMBER), "LESSTHAN": (17, NUMBER), "LESSTHANOREQUALS": (18, NUMBER), "GREATERTHAN": (19, NUMBER),
     "GREATERTHANOREQUALS": (20, NUMBER), "LOGICALAND": (21, NUMBER), "LOGICALOR": (22, NUMBER), "LOGICALXOR": (23, NUMBER),
     "BITWISEAND": (25, WHOLE), "BITWISEOR": (26, WHOLE), "BITWISEXOR": (27, WHOLE), "MIN": (35, NUMBER), "MAX": (36, NUMBER),
 }
+
+# Document 02, Q-3: number, types of each operand, the one pushed first first.
+SCALING = {"CONSTRAIN": (38, (NUMBER,) * 3), "MAP": (39, (NUMBER,) * 5), "POW": (40, (NUMBER, WHOLE))}
+# The last two would be 15 if only their low byte were looked at. A CHAR has the low byte of each.
+EXPONENTS = (*range(16), -1, 16, 127, -128, 32767, -32768, 256 + 15, -256 + 15)
+CASES = 4096
 
 
 class Fault(Exception):
@@ -49,7 +60,7 @@ class Fault(Exception):
 
 # A FLOAT is its pattern. `real` gives (rank, size, minus): rank -1 and 1 for the infinities, 0 for a finite value, None for NaN.
 
-@cache
+@lru_cache(65536)
 def real(pattern):
     minus, field, fraction = pattern >> 31 == 1, pattern >> 23 & 255, pattern & 0x7FFFFF
     if field == 255:
@@ -88,11 +99,12 @@ def nearest(size, minus):
     return sign | exponent + 150 << 23 | significand - 0x800000
 
 
+@cache
 def float_of_whole(n):
     return nearest(Fraction(abs(n)), n < 0)
 
 
-@cache
+@lru_cache(65536)
 def exact(pattern):
     rank, size, minus = real(pattern)
     return -size if minus else size
@@ -259,6 +271,39 @@ def binary(name, a, b):
     return wrapped(kind, WHOLE_RESULT[name](x, y))
 
 
+def as_float(a):
+    kind, x = a
+    return x if kind == FLOAT else float_of_whole(x)
+
+
+def constrain(x, a, b):
+    """'our MIN of (our MAX of x, a) and b'"""
+    return binary("MIN", binary("MAX", x, a), b)
+
+
+def scaled(*five):
+    """'(a − b) × (e − d) / (c − b) + d': in FLOAT each operation rounds once; of whole numbers only the result is reduced."""
+    kind = max(k for k, _ in five)
+    if kind == FLOAT:
+        a, b, c, d, e = map(as_float, five)
+        return FLOAT, add(divide(multiply(subtract(a, b), subtract(e, d)), subtract(c, b)), d)
+    a, b, c, d, e = (n for _, n in five)
+    return wrapped(kind, divided((a - b) * (e - d), c - b)[0] + d)
+
+
+def raised(x, y):
+    """'multiplying from the left starting at 1, in the wider operand's type'. To reduce the whole power is to reduce each product."""
+    if not 0 <= y[1] <= 15:
+        raise Fault(8)
+    kind = max(x[0], y[0])
+    if kind != FLOAT:
+        return wrapped(kind, x[1] ** y[1])
+    product = float_of_whole(1)
+    for _ in range(y[1]):
+        product = multiply(product, x[1])
+    return FLOAT, product
+
+
 def text(a):
     kind, x = a
     if kind == CHAR:
@@ -283,17 +328,29 @@ def laid(a):
     return bytes([kind]) + (pack(">b", x) if kind == CHAR else pack(">h", x) if kind == INT else pack(">I", x)).ljust(4, b"\0")
 
 
+def step(h, byte):
+    return (h * 16777619 + byte) % 4294967291
+
+
 class Tally:
     def __init__(self):
-        self.sum, self.faults = 0, {7: 0, 8: 0}
+        self.sum, self.length, self.faults = 0, 0, {7: 0, 8: 0}
 
     def mix(self, data):
         for byte in data:
-            self.sum = (self.sum * 16777619 + byte) % 4294967291
+            self.sum = step(self.sum, byte)
+        self.length += len(data)
 
-    def run(self, operator, name, *operands):
+    def follow(self, other):
+        """As if all that went into the other came behind: h turned by n bytes is h * 16777619^n and what they turn 0 into."""
+        self.sum = (self.sum * pow(16777619, other.length, 4294967291) + other.sum) % 4294967291
+        self.length += other.length
+        for number in self.faults:
+            self.faults[number] += other.faults[number]
+
+    def run(self, operator, *operands):
         try:
-            kind, x = operator(name, *operands)
+            kind, x = operator(*operands)
         except Fault as fault:
             self.faults[fault.args[0]] += 1
             self.mix([fault.args[0]])
@@ -332,22 +389,77 @@ def every(kind):
     return [wrapped(kind, n) for n in range(1 << 8 * kind)]
 
 
+def over_triples(firsts, seconds, thirds):
+    """CONSTRAIN over all triples. The thirds meet each greater of x and a in one way: they are tallied once for each."""
+    tally, behind = Tally(), {}
+    for x, a in product(firsts, seconds):
+        greater = binary("MAX", x, a)
+        if greater not in behind:
+            behind[greater] = Tally()
+            for b in thirds:
+                behind[greater].run(constrain, x, a, b)
+        tally.follow(behind[greater])
+    return tally
+
+
+def drawn(of_type, kind, draw):
+    """The operand of this type for a number drawn: every other one is of stdin, the others any CHAR, any INT, a FLOAT of a size from 1/8 to 32."""
+    n = draw // 2
+    if draw % 2 == 0:
+        return of_type[kind][n % len(of_type[kind])]
+    if kind != FLOAT:
+        return wrapped(kind, n)
+    high = 62 + n % 4 + 128 * (n // 4 % 2)
+    return FLOAT, high << 24 | n // 8 % 256 << 16 | n // 2048 % 256 << 8 | n // 524288 % 256
+
+
+def over_draws(of_type, kinds):
+    """MAP over drawn operands. A draw is the one before with the byte 1 more in the checksum; the first comes behind that of the types."""
+    tally, types = Tally(), Tally()
+    types.mix(kinds)
+    draw = types.sum
+    for _ in range(CASES):
+        five = []
+        for kind in kinds:
+            draw = step(draw, 1)
+            five.append(drawn(of_type, kind, draw))
+        tally.run(scaled, *five)
+    return tally
+
+
+def over(name, kinds, of_type):
+    tally, given = Tally(), [of_type[kind] for kind in kinds]
+    if name == "CONSTRAIN":
+        return over_triples(*([every(CHAR)] * 3 if kinds == (CHAR,) * 3 else given))
+    if name == "MAP":
+        return over_draws(of_type, kinds)
+    if name in BINARY:
+        for a, b in product(*given):
+            tally.run(binary, name, a, b)
+        return tally
+    for a in given[0] if kinds[0] == FLOAT else every(kinds[0]):
+        if name in UNARY:
+            tally.run(unary, name, a)
+        else:
+            for y in EXPONENTS:
+                tally.run(raised, a, wrapped(kinds[1], y))
+    return tally
+
+
+def places(name, types):
+    """The types that the operator takes at each place."""
+    return types if name in SCALING else (types,) * (1 if name in UNARY else 2)
+
+
 def fields(*numbers):
     return b" ".join(b"%d" % n for n in numbers)
 
 
 def lines(given):
     of_type = {kind: [a for a in given if a[0] == kind] for kind in NUMBER}
-    for name, (number, types) in sorted({**UNARY, **BINARY}.items(), key=lambda row: row[1]):
-        for kinds in product(types, repeat=1 if name in UNARY else 2):
-            tally = Tally()
-            if name in UNARY:
-                for a in of_type[FLOAT] if kinds == (FLOAT,) else every(*kinds):
-                    tally.run(unary, name, a)
-            else:
-                for a, b in product(of_type[kinds[0]], of_type[kinds[1]]):
-                    tally.run(binary, name, a, b)
-            yield b"%s %s" % (fields(number, *kinds), tally.fields())
+    for name, (number, types) in sorted({**UNARY, **BINARY, **SCALING}.items(), key=lambda row: row[1][0]):
+        for kinds in product(*places(name, types)):
+            yield b"%s %s" % (fields(number, *kinds), over(name, kinds, of_type).fields())
     for a in [(INT, 997 * k) for k in range(-32, 33)] + of_type[INT] + of_type[FLOAT]:
         yield text(a)
     for kind in WHOLE:
@@ -356,9 +468,12 @@ def lines(given):
             tally.mix([len(text(a))])
             tally.mix(text(a))
         yield b"%d %08x" % (kind, tally.sum)
-    taken = dict(list(UNARY.values()) + list(BINARY.values()))
+    taken = {number: places(name, types) for name, (number, types) in {**UNARY, **BINARY, **SCALING}.items()}
     for number in range(256):
-        yield fields(number, *taken.get(number, ()))
+        yield fields(number, *taken.get(number, [()])[0])
+    for number, _ in SCALING.values():
+        for place, types in list(enumerate(taken[number]))[1:]:
+            yield fields(number, place, *types)
 
 
 def main():

@@ -43,7 +43,7 @@ fn over_pairs(o: Binary, first: u8, second: u8, grid: &Grid) -> Tally {
 }
 
 fn write_line(instruction: u8, o: Binary, first: u8, second: u8, grid: &Grid) {
-    if takes(types_of(Operator::OfTwo(o)), second) {
+    if takes(types_of(Operator::OfTwo(o), 1), second) {
         io::print_decimal(1, instruction as u64);
         write_field(first as u32);
         write_field(second as u32);
@@ -52,7 +52,7 @@ fn write_line(instruction: u8, o: Binary, first: u8, second: u8, grid: &Grid) {
 }
 
 fn write_first(instruction: u8, o: Binary, first: u8, grid: &Grid) {
-    if takes(types_of(Operator::OfTwo(o)), first) {
+    if takes(types_of(Operator::OfTwo(o), 0), first) {
         write_line(instruction, o, first, CHAR, grid);
         write_line(instruction, o, first, INT, grid);
         write_line(instruction, o, first, FLOAT, grid);

@@ -51,7 +51,7 @@ fn over_type(o: Unary, kind: u8, grid: &Grid) -> Tally {
 }
 
 fn write_line(instruction: u8, o: Unary, kind: u8, grid: &Grid) {
-    if takes(types_of(Operator::OfOne(o)), kind) {
+    if takes(types_of(Operator::OfOne(o), 0), kind) {
         io::print_decimal(1, instruction as u64);
         write_field(kind as u32);
         write_tally(over_type(o, kind, grid));

@@ -1,15 +1,15 @@
--- `number_vectors::types::write_lines` meets its contract: it is safe and ends. Assumes nothing.
+-- `number_vectors::map::write_lines` meets its contract: it is safe and ends. Assumes nothing.
 use Prim.Native.Nat.{_-_}
 use native.Mathlib.Omega.{arith}
 use borrow.Author.Needs.{needs}
-use Rattle.number_vectors.proofs.types.write_lines.Statement.{statement}
-use Rattle.number_vectors.proofs.types.write_lines.Tie as tie
+use Rattle.number_vectors.proofs.map.write_lines.Statement.{statement}
+use Rattle.number_vectors.proofs.map.write_lines.Tie as tie
 
 abbrev Inv-loop : tie.InvT-loop
-Inv-loop n₀ n = Unit
+Inv-loop instruction grid line₀ line = Unit
 
 abbrev μ-loop : tie.MeasureT-loop
-μ-loop n₀ n = 256 - n
+μ-loop instruction grid line₀ line = 243 - line
 
 pub write-lines-spec : {M : Type 1} → statement M
 write-lines-spec =
@@ -18,7 +18,7 @@ write-lines-spec =
     Inv-loop
     μ-loop
     (λ c. search needs)
-    (λ c. search needs)
+    (λ c κs. search needs)
     (λ c κs. search needs)
     (λ c. search needs)
     (λ c. omega arith)
