@@ -19,9 +19,10 @@ first = int(sys.argv[3]) if len(sys.argv) > 3 else 1
 last = int(sys.argv[4]) if len(sys.argv) > 4 else 10 ** 9
 per_file = int(sys.argv[5]) if len(sys.argv) > 5 else 50
 
-CRATES = "buffer decimal place integer root float number operator disc store variable machine".split()
-SKIP = set("Trace Observation Single Suppositions Isolation Refusals Ending NoPlace Demands Cases Bench Fields Tests AtPc Changed Faults Reaching Done LeftAlone DiscLengths Waiting NewFile".split())
+CRATES = "buffer decimal place integer root float number operator scaling disc store variable machine".split()
+SKIP = set("Trace Observation Single Suppositions Isolation Refusals Ending NoPlace Demands Cases Bench Fields Tests AtPc Changed Faults Reaching Done LeftAlone DiscLengths Waiting NewFile Rows Meaning".split())
 LOGIC = {"lib.Ieee": "span climb size odd units round neg sum add sub mul div lt eq le ne ofInt whole fits isNan ofFields ofBits nanBits toBits toUnsigned toSigned inUnsigned inSigned inFloat",
+         "lib.IntN": "one pow",
          "lib.Count": "trailingZeros leadingZeros"}
 
 
@@ -32,7 +33,7 @@ def opened():
         folder = f"{repo}/crates/{crate}/specs"
         for name in sorted(os.listdir(folder)):
             module = name[:-5]
-            if crate == "machine" and module in SKIP:
+            if crate in ("machine", "scaling") and module in SKIP:
                 continue
             found = re.findall(r"^ *unfoldable pub (\S+) :", open(f"{folder}/{name}").read(), re.M)
             if found:
