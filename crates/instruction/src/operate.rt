@@ -1,5 +1,5 @@
-// Operators: the guide's arithmetic, comparisons, logic and conversions, and document 02's scaling. The operands come off
-// from the top, the one pushed last first; where one cannot be popped, its fault is met and no answer is used.
+// Operators: the guide's arithmetic, comparisons, logic and conversions, and document 02's scaling. The operands come
+// off from the top, the one pushed last first; where one cannot be popped, its fault is met and no answer is used.
 use operator::Outcome;
 use operator::instruction::types_of;
 use operator::operators::Binary;

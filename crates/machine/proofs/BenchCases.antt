@@ -42,7 +42,8 @@ use Rattle.machine.specs.Turn.{turned}
 
 rows-hold : Every cases × Every misreadings × Every waits × Every delays × Every scalings
 unfolding turns after single exec instructionOf operatorOf lookupOperator includes operates settle pop wellFormed trimmed same unary binary
-    constrained ordered mapped mapExact power pow one whole wrapped wholeBits convertedFloat numberOf textOf printedOf wholeOf lastDigits ofBits ofFields trailingZeros answer otherAnswer
+    constrained ordered mapped mapExact power pow one
+    whole wrapped wholeBits convertedFloat numberOf textOf printedOf wholeOf lastDigits ofBits ofFields trailingZeros answer otherAnswer
     formatAnswer
     storeAnswer checked isDiscLength lookup index entryAt tab flat goodDisc goodFiles goodEntry goodField goodName beside all pairs
     apart begins fits freeFrom greatest least place placeOf admission entered erased writtenAt goodArea goodKernel goodHeader
@@ -102,7 +103,22 @@ rows-hold = (
       ),
     ),
   ),
-  ((refl, refl), ((refl, refl), ((refl, refl), ((refl, refl), ((refl, refl), ((refl, refl), ((refl, refl), ((refl, refl), ((refl, refl), ((refl, refl), tt)))))))))),
+  (
+    (refl, refl),
+    (
+      (refl, refl),
+      (
+        (refl, refl),
+        (
+          (refl, refl),
+          (
+            (refl, refl),
+            ((refl, refl), ((refl, refl), ((refl, refl), ((refl, refl), ((refl, refl), ((refl, refl), tt)))))),
+          ),
+        ),
+      ),
+    ),
+  ),
 )
 
 pub bench-holds : Bench

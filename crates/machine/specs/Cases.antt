@@ -117,9 +117,10 @@ delays =
 -- faults before the next is looked at. What the three answer: crates/scaling/specs/Rows.antt.
 abbrev pub scalings : List Row
 scalings =
-    -- CONSTRAIN of CHAR 9, CHAR 1, INT 5; MAP of 1, 0, 2, 10, 20; POW of 2, 5
-    runs (1 ∷ 9 ∷ 1 ∷ 1 ∷ 2 ∷ 0 ∷ 5 ∷ 38 ∷ []) 4 (shows (0 ∷ 5 ∷ 2 ∷ []) 0 []) ∷
-    runs (1 ∷ 1 ∷ 1 ∷ 0 ∷ 1 ∷ 2 ∷ 1 ∷ 10 ∷ 1 ∷ 20 ∷ 39 ∷ []) 6 (shows (15 ∷ 1 ∷ []) 0 []) ∷
+    -- CONSTRAIN of CHAR 9, CHAR 5, INT 1; MAP of 1, 0, 3, 10, 31; POW of 2, 5: in another order they give others, but
+    -- for x and a changed about, and both ends of MAP's line
+    runs (1 ∷ 9 ∷ 1 ∷ 5 ∷ 2 ∷ 0 ∷ 1 ∷ 38 ∷ []) 4 (shows (0 ∷ 1 ∷ 2 ∷ []) 0 []) ∷
+    runs (1 ∷ 1 ∷ 1 ∷ 0 ∷ 1 ∷ 3 ∷ 1 ∷ 10 ∷ 1 ∷ 31 ∷ 39 ∷ []) 6 (shows (17 ∷ 1 ∷ []) 0 []) ∷
     runs (1 ∷ 2 ∷ 1 ∷ 5 ∷ 40 ∷ []) 3 (shows (32 ∷ 1 ∷ []) 0 []) ∷
     -- "a FLOAT y is fault 6", nothing below it or not; y = 16 is 8 only where x is there, and else 5
     runs (4 ∷ 0 ∷ 0 ∷ 0 ∷ 0 ∷ 40 ∷ []) 2 (shows [] 6 []) ∷
@@ -128,9 +129,10 @@ scalings =
     -- "equal b and c give fault 7" once all five are popped: without a it is 5
     runs (1 ∷ 5 ∷ 1 ∷ 1 ∷ 1 ∷ 1 ∷ 1 ∷ 0 ∷ 1 ∷ 9 ∷ 39 ∷ []) 6 (shows [] 7 []) ∷
     runs (1 ∷ 1 ∷ 1 ∷ 1 ∷ 1 ∷ 0 ∷ 1 ∷ 9 ∷ 39 ∷ []) 5 (shows [] 5 []) ∷
-    -- a STRING at b of CONSTRAIN is 6, at a too
+    -- a STRING at b or a of CONSTRAIN is 6, at x too
     runs (3 ∷ 97 ∷ 0 ∷ 38 ∷ []) 2 (shows [] 6 []) ∷
-    runs (3 ∷ 97 ∷ 0 ∷ 1 ∷ 1 ∷ 38 ∷ []) 3 (shows [] 6 []) ∷ []
+    runs (3 ∷ 97 ∷ 0 ∷ 1 ∷ 1 ∷ 38 ∷ []) 3 (shows [] 6 []) ∷
+    runs (3 ∷ 97 ∷ 0 ∷ 1 ∷ 1 ∷ 1 ∷ 1 ∷ 38 ∷ []) 4 (shows [] 6 []) ∷ []
 
 -- every row holds of the definitions
 unfoldable pub Bench : Type 0

@@ -35,7 +35,7 @@ absent n (entry ∷ table) other U u =
     ∙ ap (λ (t : Bool). cond t (entry .1) (lookup n table other)) (sym (ne-eqb n (entry .0) (first n table W u .1)))
 
 -- the operators that take whole numbers alone, with the places at which they do
-abbrev pub wholeOperands : List (Operator × ℕ)
+abbrev wholeOperands : List (Operator × ℕ)
 wholeOperands =
     (OfTwo (Calculates Modulus), 0) ∷ (OfTwo (Calculates Modulus), 1) ∷ (OfTwo (Bitwise And), 0) ∷ (OfTwo (Bitwise And), 1) ∷
     (OfTwo (Bitwise Or), 0) ∷ (OfTwo (Bitwise Or), 1) ∷ (OfTwo (Bitwise Xor), 0) ∷ (OfTwo (Bitwise Xor), 1) ∷

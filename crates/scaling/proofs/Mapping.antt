@@ -1,11 +1,11 @@
 -- MAP on whole numbers: no step of the code leaves 64 bits, so what it reads is exact. A signed value stands in a function's needs as
 -- `toZ v (ofZ v z)`, the reading of its bits. Assumes nothing.
 use mathlib.Core.Path.{_≡_, sym, _∙_, ap, ap₂, subst⁻¹}
-use Prim.Native.Nat.{ℕ, _<_, _^_}
+use Prim.Native.Nat.{_<_, _^_}
 use lib.IntN.{ℤ, pos, natAbs, _+ℤ_, _-ℤ_, _*ℤ_}
-use lib.Signed.{quotZ}
+use lib.Signed.{mag, quotZ}
 use mir.Syntax.{Width, w16, w64}
-use mir.Val.{toZ, ofZ, SFits}
+use mir.Val.{toZ, ofZ, SFits, hbits}
 use mir.Facts.{toZ-ofZ}
 use Rattle.integer.specs.Modular.{wrapped}
 use Rattle.integer.proofs.Division.{positive-bits}
@@ -20,8 +20,18 @@ use Rattle.operator.proofs.Calculating.{divides-by}
 use Rattle.scaling.specs.Map.{mapExact, mapWhole}
 use Rattle.scaling.proofs.Sizes.{difference-below, difference-fits, product-fits, quotient-fits, sum-fits}
 
+-- what the call that gives z knows of it
+held : (w : Width) (z : ℤ) → mag z < 2 ^ hbits w → SFits w z
+held w z h = record { sfits = h }
+
 -- the difference of two INTs
-module _ (a b : ℤ) (f : SFits w16 a) (g : SFits w16 b) where
+module _ (a b : ℤ) (ha : mag a < 2 ^ hbits w16) (hb : mag b < 2 ^ hbits w16) where
+  f : SFits w16 a
+  f = held w16 a ha
+
+  g : SFits w16 b
+  g = held w16 b hb
+
   abbrev gap : ℤ
   gap = toZ w64 (ofZ w64 (toZ w16 (ofZ w16 a))) -ℤ toZ w64 (ofZ w64 (toZ w16 (ofZ w16 b)))
 
@@ -38,17 +48,20 @@ module _ (a b : ℤ) (f : SFits w16 a) (g : SFits w16 b) where
   gap-below = subst⁻¹ (λ (z : ℤ). natAbs z < 2 ^ 17) gap-reads (difference-below a b f g)
 
 -- x and y are the differences multiplied, z the one that divides, d is added
-module _ (x y : ℤ) (fx : SFits w64 x) (fy : SFits w64 y) (hx : natAbs x < 2 ^ 17) (hy : natAbs y < 2 ^ 17) where
+module _ (x y : ℤ) (mx : mag x < 2 ^ hbits w64) (my : mag y < 2 ^ hbits w64) (hx : natAbs x < 2 ^ 17) (hy : natAbs y < 2 ^ 17) where
   abbrev product : ℤ
   product = toZ w64 (ofZ w64 x) *ℤ toZ w64 (ofZ w64 y)
 
   product-is : product ≡ x *ℤ y
-  product-is = ap₂ (λ (p q : ℤ). p *ℤ q) (toZ-ofZ fx) (toZ-ofZ fy)
+  product-is = ap₂ (λ (p q : ℤ). p *ℤ q) (toZ-ofZ (held w64 x mx)) (toZ-ofZ (held w64 y my))
 
   pub multiplies : SFits w64 product
   multiplies = subst⁻¹ (SFits w64) product-is (product-fits x y hx hy)
 
-  module _ (z : ℤ) (fz : SFits w64 z) where
+  module _ (z : ℤ) (mz : mag z < 2 ^ hbits w64) where
+    fz : SFits w64 z
+    fz = held w64 z mz
+
     abbrev quotient : ℤ
     quotient = quotZ (toZ w64 (ofZ w64 product)) (toZ w64 (ofZ w64 z))
 
@@ -61,7 +74,10 @@ module _ (x y : ℤ) (fx : SFits w64 x) (fy : SFits w64 y) (hx : natAbs x < 2 ^ 
     pub divides : (z ≡ pos 0 → ⊥) → (0 < ofZ w64 z) × SFits w64 quotient
     divides h = (positive-bits w64 z fz h, fits)
 
-    module _ (d : ℤ) (fd : SFits w16 d) where
+    module _ (d : ℤ) (md : mag d < 2 ^ hbits w16) where
+      fd : SFits w16 d
+      fd = held w16 d md
+
       abbrev sum : ℤ
       sum = toZ w64 (ofZ w64 quotient) +ℤ toZ w64 (ofZ w64 (toZ w16 (ofZ w16 d)))
 
@@ -75,19 +91,19 @@ module _ (x y : ℤ) (fx : SFits w64 x) (fy : SFits w64 y) (hx : natAbs x < 2 ^ 
       reads-exact = toZ-ofZ adds ∙ sum-is
 
 -- the exact result at either width, k the type; z is the divisor
-module _ (w : Width) (k : ℤ → Number) (a b c d e : ℤ) (z : ℤ) (f : SFits w64 z) (is : z ≡ c -ℤ b) where
+module _ (w : Width) (k : ℤ → Number) (a b c d e : ℤ) (z : ℤ) (mz : mag z < 2 ^ hbits w64) (is : z ≡ c -ℤ b) where
   abbrev answer : Outcome
   answer = Value (k (wrapped w (mapExact a b c d e)))
 
   pub no-divisor : ofZ w64 z ≡ 0 → DivisionByZero ≡ mapWhole w k a b c d e
-  no-divisor h = ap (λ (y : ℤ). divisible y answer) (sym (zero-bits w64 z f h) ∙ is)
+  no-divisor h = ap (λ (y : ℤ). divisible y answer) (sym (zero-bits w64 z (held w64 z mz) h) ∙ is)
 
   module _ (h : ofZ w64 z ≡ 0 → ⊥) where
     pub divisor : c -ℤ b ≡ pos 0 → ⊥
     divisor zero = h (ap (ofZ w64) (is ∙ zero))
 
-    pub reduced : {m r : ℤ} → SFits w64 m → m ≡ mapExact a b c d e → r ≡ wrapped w (toZ w64 (ofZ w64 m))
+    pub reduced : (m : ℤ) {r : ℤ} → mag m < 2 ^ hbits w64 → m ≡ mapExact a b c d e → r ≡ wrapped w (toZ w64 (ofZ w64 m))
         → Value (k (toZ w (ofZ w r))) ≡ mapWhole w k a b c d e
-    reduced g exact given =
-        ap (λ (y : ℤ). Value (k y)) (reads-wrapped w (mapExact a b c d e) (given ∙ ap (wrapped w) (toZ-ofZ g ∙ exact)))
+    reduced m g exact given =
+        ap (λ (y : ℤ). Value (k y)) (reads-wrapped w (mapExact a b c d e) (given ∙ ap (wrapped w) (toZ-ofZ (held w64 m g) ∙ exact)))
         ∙ divides-by (c -ℤ b) divisor answer

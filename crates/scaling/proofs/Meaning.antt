@@ -4,9 +4,9 @@ use mathlib.Core.Bool.{Bool, true, false, cond, not}
 use Prim.Native.Nat.{ℕ, zero, suc, _*_, _/_}
 use native.Mathlib.Omega.{arith}
 use native.Mathlib.Nat.{mul-div-cancel-left, zero-div}
-use lib.Dec.{T}
+use lib.Dec.{T, ltb→lt}
 use lib.IntN.{ℤ, pos, negsuc, negℤ, _+ℤ_, _-ℤ_, _*ℤ_, -ℤ-+ℤ-cancel, +ℤ-idl, +ℤ-negℤ-cancel, zero-*ℤ}
-use lib.Signed.{ltZ, ltZ-no, ltZ-yes, quotZ, _≤ℤ_, _<ℤ_, ≤ℤ-refl, clashℤ}
+use lib.Signed.{ltZ, ltZ-no, ltZ-yes, quotZ, _≤ℤ_, _<ℤ_, <ℤ-≤ℤ-trans, ≤ℤ-refl, clashℤ}
 use Rattle.number.specs.Promotion.{promoted}
 use Rattle.number.specs.declared.Number.the-variants.{Int}
 use Rattle.operator.specs.Binary.{extremum, ordered}
@@ -51,7 +51,7 @@ ends b c d e h = (
 
 -- ---- CONSTRAIN
 abbrev Within : ℤ → ℤ → ℤ → ℤ → Type 0
-Within x a b z = (a ≤ℤ z) × (z ≤ℤ b) × (a ≤ℤ x → x ≤ℤ b → z ≡ x)
+Within x a b z = (a ≤ℤ z) × (z ≤ℤ b) × (a ≤ℤ x → x ≤ℤ b → z ≡ x) × (x <ℤ a → z ≡ a) × (b <ℤ x → z ≡ b)
 
 less : (x y : ℤ) → ltZ x y ≡ true → x <ℤ y
 less x y e = ltZ-yes (subst T (sym e) tt)
@@ -59,16 +59,22 @@ less x y e = ltZ-yes (subst T (sym e) tt)
 no-less : (x y : ℤ) → ltZ x y ≡ false → y ≤ℤ x
 no-less x y e = ltZ-no (subst (λ (t : Bool). T (not t)) (sym e) tt)
 
+apart : (x y : ℤ) → x <ℤ y → y <ℤ x → ⊥
+apart (pos a) (pos b) p q = omega (arith, ltb→lt a b (p .lt), ltb→lt b a (q .lt))
+apart (pos a) (negsuc b) p q = p .lt
+apart (negsuc a) (pos b) p q = q .lt
+apart (negsuc a) (negsuc b) p q = omega (arith, ltb→lt b a (p .lt), ltb→lt a b (q .lt))
+
 module _ (x a b : ℤ) (h : a ≤ℤ b) where
   -- MAX gave a
   raised : x <ℤ a → (t : Bool) → ltZ b a ≡ t → Within x a b (exact (cond t (Int b) (Int a)))
   raised l true e = clashℤ (less b a e) h
-  raised l false e = (≤ℤ-refl a, h, λ p q. clashℤ l p)
+  raised l false e = (≤ℤ-refl a, h, λ p q. clashℤ l p, λ p. refl, λ p. absurd (apart x b (<ℤ-≤ℤ-trans l h) p))
 
   -- MAX gave x
   kept : a ≤ℤ x → (t : Bool) → ltZ b x ≡ t → Within x a b (exact (cond t (Int b) (Int x)))
-  kept l true e = (h, ≤ℤ-refl b, λ p q. clashℤ (less b x e) q)
-  kept l false e = (l, no-less b x e, λ p q. refl)
+  kept l true e = (h, ≤ℤ-refl b, λ p q. clashℤ (less b x e) q, λ p. clashℤ p l, λ p. refl)
+  kept l false e = (l, no-less b x e, λ p q. refl, λ p. clashℤ p l, λ p. clashℤ p (no-less b x e))
 
   pub between : Within x a b (exact (constrained (Int x) (Int a) (Int b)))
   unfolding constrained ordered

@@ -1,7 +1,7 @@
 -- POW: the exponent by its two tests; one factor more, modulo the width and rounded. Assumes nothing.
-use mathlib.Core.Path.{_≡_, refl, sym, _∙_, ap, subst⁻¹}
+use mathlib.Core.Path.{_≡_, refl, sym, _∙_, ap}
 use mathlib.Core.Bool.{Bool, true, false, cond}
-use Prim.Native.Nat.{ℕ, zero, suc, _+_, _≤_}
+use Prim.Native.Nat.{ℕ, suc, _+_, _≤_}
 use native.Mathlib.Omega.{arith}
 use borrow.Author.Tests.{leb-true, ltb-true}
 use lib.Dec.{T}
@@ -16,7 +16,6 @@ use Rattle.integer.proofs.Modular.{reads-wrapped}
 use Rattle.integer.proofs.Reduction.{wrapped-factor, wrapped-narrow}
 use Rattle.integer.proofs.Representation.{true-not-false, widened}
 use Rattle.scaling.specs.Power.{maxExponent, powerReal, wholeExponent}
-use Rattle.scaling.specs.declared.power.Exponent.{Exponent}
 use Rattle.scaling.specs.declared.power.Exponent.the-variants.{Is, Refused}
 
 -- ---- the exponent

@@ -4,7 +4,7 @@ use mathlib.Core.Bool.{false}
 use mathlib.Core.List.{List, [], _∷_}
 use mathlib.Core.Path.{_≡_}
 use lib.Ieee.{binary32, inf, nan, ofBits}
-use lib.IntN.{ℤ, pos, negsuc}
+use lib.IntN.{pos, negsuc}
 use Rattle.number.specs.declared.Number.{Number}
 use Rattle.number.specs.declared.Number.the-variants.{Char, Int, Float}
 use Rattle.operator.specs.declared.Outcome.{Outcome}
@@ -36,7 +36,7 @@ constrainRows =
     (Value (constrained (Char (negsuc 4)) (float 1065353216) (char 7)), Value (float 1065353216)) ∷
     -- with a above b the answer is b
     (Value (constrained (char 5) (int 300) (char 7)), Value (int 7)) ∷
-    -- NaN x gives NaN; NaN a or b is passed over: 5 up to 3, and 5 from 7 up
+    -- NaN x gives NaN; NaN a or b is passed over: the upper bound 3 alone, the lower bound 7 alone
     (Value (constrained (Float nan) (char 1) (char 3)), Value (Float nan)) ∷
     (Value (constrained (char 5) (Float nan) (char 3)), Value (float 1077936128)) ∷
     (Value (constrained (char 5) (char 7) (Float nan)), Value (float 1088421888)) ∷ []
@@ -53,7 +53,9 @@ mapRows =
     -- "there equal b and c give fault 7", and with a FLOAT infinity and NaN
     (mapped (char 1) (char 4) (int 4) (char 0) (char 1), DivisionByZero) ∷
     (mapped (float 1065353216) (char 0) (char 0) (char 0) (char 1), Value (Float (inf false))) ∷
-    (mapped (char 0) (char 0) (char 0) (float 0) (char 1), Value (Float nan)) ∷ []
+    (mapped (char 0) (char 0) (char 0) (float 0) (char 1), Value (Float nan)) ∷
+    -- "each operation rounds once, as written": 3 × 5 / 9 + 1; with one rounding, or divided first, 1076538027
+    (mapped (float 1077936128) (char 0) (char 9) (char 1) (char 6), Value (float 1076538026)) ∷ []
 
 abbrev pub powerRows : List (Outcome × Outcome)
 powerRows =

@@ -11,12 +11,12 @@ pub fn scaling_rows()
     ensures { λ _. ⌜ ScalingRows ⌝ }
 {}
 
-// MAP on whole numbers takes b to d and c to e.
+// MAP on whole numbers takes b to d and c to e, before the result is reduced.
 pub fn maps_ends()
     ensures { λ _. ⌜ MapsEnds ⌝ }
 {}
 
-// CONSTRAIN on whole numbers gives x, or the bound that it passes.
+// CONSTRAIN on INTs gives x, or the bound that it passes.
 pub fn constrains_between()
     ensures { λ _. ⌜ ConstrainsBetween ⌝ }
 {}

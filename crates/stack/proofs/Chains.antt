@@ -27,7 +27,8 @@ module _ (stack : List ℕ) (types : Types) where
   -- one below it
   pub popped-next : (t r : TopNumber) → numberOn stack r ≡ nextNumbered types (numberOn stack t)
       → (next : Number → Number → List ℕ → Effect)
-      → withNumbered (numberOn stack t) (λ a rest. withNumber (pop types rest) (next a)) ≡ withNumbered (numberOn stack r) (next (numberIn t))
+      → withNumbered (numberOn stack t) (λ a rest. withNumber (pop types rest) (next a))
+      ≡ withNumbered (numberOn stack r) (next (numberIn t))
   popped-next (Is a below) r e next =
       goes-on (pop types (take below stack)) (next a) ∙ ap (λ (n : Numbered). withNumbered n (next a)) (sym e)
   popped-next (NoNumber fault) r e next = ap (λ (n : Numbered). withNumbered n (next (numberIn (NoNumber fault)))) (sym e)

@@ -56,7 +56,7 @@ Answers (Value a) = Fits a
 Answers DivisionByZero = Unit {0}
 Answers OutOfRange = Unit {0}
 
-abbrev pub BothFit : Pair → Type 0
+abbrev BothFit : Pair → Type 0
 BothFit (Chars x y) = SFits w8 x × SFits w8 y
 BothFit (Ints x y) = SFits w16 x × SFits w16 y
 BothFit (Floats x y) = T (fits binary32 x) × T (fits binary32 y)

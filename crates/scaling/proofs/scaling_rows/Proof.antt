@@ -17,7 +17,7 @@ constrain-rows = (refl, (refl, (refl, (refl, (refl, (refl, (refl, tt)))))))
 
 map-rows : Rows mapRows
 unfolding mapped mapExact mapReal wrapped ofBits ofInt add sub mul div
-map-rows = (refl, (refl, (refl, (refl, (refl, (refl, (refl, tt)))))))
+map-rows = (refl, (refl, (refl, (refl, (refl, (refl, (refl, (refl, tt))))))))
 
 power-rows : Rows powerRows
 unfolding power pow one powerReal wrapped ofBits ofInt mul

@@ -1,7 +1,6 @@
 -- Three operands come off, b first.
-use mathlib.Core.Path.{ap, _∙_}
+use mathlib.Core.Path.{ap}
 use Rattle.machine.specs.Effect.{operates}
-use Rattle.number.specs.declared.Number.{Number}
 use Rattle.operator.specs.declared.Outcome.the-variants.{Value}
 use Rattle.operator.specs.declared.operators.Operator.the-variants.{Scale}
 use Rattle.operator.specs.declared.operators.Scaling.the-variants.{Constrain}

@@ -1,5 +1,5 @@
 -- Onto what lies below the operand, or its fault.
-use Prim.Native.Nat.{ℕ, _≤_}
+use Prim.Native.Nat.{_≤_}
 use mathlib.Core.Path.{subst}
 use lib.ListN.{length}
 use Rattle.stack.specs.Tops.{bytesBelow}

@@ -1,7 +1,4 @@
 -- The pop asks by operator and place.
-use mathlib.Core.Path.{subst}
-use lib.ListN.{length}
-use Rattle.machine.specs.Stack.{pop}
 use Rattle.stack.proofs.Popping.{operand-numeric}
 use borrow.Author.Needs.{needs}
 use Rattle.instruction.proofs.operate.top_operand.Statement.{statement}

@@ -12,8 +12,8 @@ returns : tie.Need-returns
 returns c =
     let x = c .before .exact-of in
     let y = c .exact-of2 in (
-      gap-reads (x .result) (y .result) (record { sfits = x .ok }) (record { sfits = y .ok }) ∙ ap₂ (λ (p q : ℤ). p -ℤ q) (x .ensures) (y .ensures),
-      gap-below (x .result) (y .result) (record { sfits = x .ok }) (record { sfits = y .ok }),
+      gap-reads (x .result) (y .result) (x .ok) (y .ok) ∙ ap₂ (λ (p q : ℤ). p -ℤ q) (x .ensures) (y .ensures),
+      gap-below (x .result) (y .result) (x .ok) (y .ok),
     )
 
 pub difference-spec : {M : Type 1} → statement M
@@ -24,5 +24,5 @@ difference-spec =
     (λ c. widens w16 w64 tt (c .exact-of .result) (record { sfits = c .exact-of .ok }))
     (λ c κs. search needs)
     (λ c. widens w16 w64 tt (c .exact-of2 .result) (record { sfits = c .exact-of2 .ok }))
-    (λ c. gap-fits (c .before .exact-of .result) (c .exact-of2 .result) (record { sfits = c .before .exact-of .ok }) (record { sfits = c .exact-of2 .ok }))
+    (λ c. gap-fits (c .before .exact-of .result) (c .exact-of2 .result) (c .before .exact-of .ok) (c .exact-of2 .ok))
     returns)

@@ -12,14 +12,14 @@ map-exact-requires c κs =
     let z = c .before .difference in
     let s = c .before .before .args in
     divisor w8 Char (exact (s .a)) (exact (s .b)) (exact (s .c)) (exact (s .d)) (exact (s .e)) (z .result)
-    (record { sfits = z .ok }) (z .ensures .0) (c .if1 .left)
+    (z .ok) (z .ensures .0) (c .if1 .left)
 
 returns : tie.Need-returns
 returns c =
     let z = c .before .difference in
     let s = c .before .before .args in
     no-divisor w8 Char (exact (s .a)) (exact (s .b)) (exact (s .c)) (exact (s .d)) (exact (s .e)) (z .result)
-    (record { sfits = z .ok }) (z .ensures .0) (c .if1 .taken)
+    (z .ok) (z .ensures .0) (c .if1 .taken)
 
 returns-2 : tie.Need-returns-2
 returns-2 c =
@@ -28,7 +28,7 @@ returns-2 c =
     let z = t .before .difference in
     let s = t .before .before .args in
     reduced w8 Char (exact (s .a)) (exact (s .b)) (exact (s .c)) (exact (s .d)) (exact (s .e)) (z .result)
-    (record { sfits = z .ok }) (z .ensures .0) (t .if1 .left) (record { sfits = m .map-exact .ok }) (m .map-exact .ensures)
+    (z .ok) (z .ensures .0) (t .if1 .left) (m .map-exact .result) (m .map-exact .ok) (m .map-exact .ensures)
     (c .reduce8 .ensures)
 
 pub map8-spec : {M : Type 1} → statement M

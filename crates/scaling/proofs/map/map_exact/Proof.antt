@@ -14,14 +14,14 @@ mul-product : tie.Need-mul-product
 mul-product c =
     let x = c .before .difference in
     let y = c .difference2 in
-    multiplies (x .result) (y .result) (record { sfits = x .ok }) (record { sfits = y .ok }) (x .ensures .1) (y .ensures .1)
+    multiplies (x .result) (y .result) (x .ok) (y .ok) (x .ensures .1) (y .ensures .1)
 
 div-result : tie.Need-div-result
 div-result c =
     let x = c .before .before .difference in
     let y = c .before .difference2 in
     let z = c .difference3 in
-    divides (x .result) (y .result) (record { sfits = x .ok }) (record { sfits = y .ok }) (x .ensures .1) (y .ensures .1) (z .result) (record { sfits = z .ok })
+    divides (x .result) (y .result) (x .ok) (y .ok) (x .ensures .1) (y .ensures .1) (z .result) (z .ok)
     (λ e. c .before .before .before .pre (sym (z .ensures .0) ∙ e))
 
 add-result : tie.Need-add-result
@@ -30,7 +30,7 @@ add-result c =
     let y = c .before .before .difference2 in
     let z = c .before .difference3 in
     let d = c .exact-of in
-    adds (x .result) (y .result) (record { sfits = x .ok }) (record { sfits = y .ok }) (x .ensures .1) (y .ensures .1) (z .result) (record { sfits = z .ok }) (d .result) (record { sfits = d .ok })
+    adds (x .result) (y .result) (x .ok) (y .ok) (x .ensures .1) (y .ensures .1) (z .result) (z .ok) (d .result) (d .ok)
 
 returns : tie.Need-returns
 unfolding mapExact
@@ -39,7 +39,7 @@ returns c =
     let y = c .before .before .difference2 in
     let z = c .before .difference3 in
     let d = c .exact-of in
-    reads-exact (x .result) (y .result) (record { sfits = x .ok }) (record { sfits = y .ok }) (x .ensures .1) (y .ensures .1) (z .result) (record { sfits = z .ok }) (d .result) (record { sfits = d .ok })
+    reads-exact (x .result) (y .result) (x .ok) (y .ok) (x .ensures .1) (y .ensures .1) (z .result) (z .ok) (d .result) (d .ok)
     ∙ ap₂ (λ (p q : ℤ). p +ℤ q) (ap₂ quotZ (ap₂ (λ (p q : ℤ). p *ℤ q) (x .ensures .0) (y .ensures .0)) (z .ensures .0)) (d .ensures)
 
 pub map-exact-spec : {M : Type 1} → statement M
