@@ -159,7 +159,7 @@ enum arduinos_refusal {
  *                                       above 29 letters                         texts in parts
  *   5  too few bytes on the stack       an operand is missing                    push it first
  *   6  a type not taken here, or a      STRING for a number; FLOAT in MODULUS,   convert first, or leave TOINT out; a
- *      malformed string                 DELAYUNTIL or a bitwise instruction, as  body of WHILE leaves the stack as it
+ *      malformed string                 DELAYUNTIL, a bitwise instruction or as  body of WHILE leaves the stack as it
  *                                       POW's y; TOINT of an INT; ENDWHILE took  was
  *                                       a byte of a value
  *   7  whole divisor zero               an unset measure; b = c in MAP           test it, or divide as FLOAT
