@@ -8,12 +8,16 @@ use borrow.Author.Needs.{needs}
 use Rattle.instruction.proofs.operate.operate_one.Statement.{statement}
 use Rattle.instruction.proofs.operate.operate_one.Tie as tie
 
+-- ---- the states: the operand popped
+abbrev start : tie.After-top-operand → tie.Start
+start c = c .before .before .before
+
 returns : tie.Need-returns
 unfolding operates
 returns c =
     let n = c .before .before in
     let x = n .before .top-operand in
-    let a = n .before .before .before .before .args in
+    let a = start (n .before) .args in
     one-operand (a .stack .now) (OfOne (a .operator)) (behind (a .code .now) (a .stack .now) (a .loopstart) (a .at))
     (x .result) (x .ensures .0) (unary (a .operator)) (c .before .apply .ensures ∙ ap (unary (a .operator)) (n .number-in .ensures))
     (c .push-answer .ensures)

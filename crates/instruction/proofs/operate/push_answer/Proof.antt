@@ -10,7 +10,10 @@ use Rattle.instruction.proofs.operate.push_answer.Statement.{statement}
 use Rattle.instruction.proofs.operate.push_answer.Tie as tie
 
 abbrev start : tie.After-first → tie.Start
-start c = c .before .before .before .before
+start c = let matched = c .before in matched .before .before .before
+
+abbrev start-2 : tie.After-first2 → tie.Start
+start-2 c = let matched = c .before in matched .before .before .before
 
 push-outcome-requires : tie.Need-push-outcome-requires
 push-outcome-requires c κs =
@@ -28,7 +31,7 @@ returns c = rw (c .before .before .first .given .1) (c .push-outcome .ensures)
 returns-2 : tie.Need-returns-2
 returns-2 c =
     let k = c .before .before in
-    rw (k .first2 .given .1) (last-means (k .before .before .before .before .args .stack .now) (c .last-step .ensures))
+    rw (k .first2 .given .1) (last-means (start-2 k .args .stack .now) (c .last-step .ensures))
 
 pub push-answer-spec : {M : Type 1} → statement M
 push-answer-spec =
