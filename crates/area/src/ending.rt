@@ -33,7 +33,7 @@ pub fn ended_process(p: Process, fault: u8) -> Process
             offset: 0,
         },
         sp: 0,
-        spare: 0,
+        share: 0,
         stack: [0u8; STACK_SIZE],
     }
 }
@@ -74,7 +74,7 @@ pub fn started_process(e: Entry, id: u16) -> Process
             offset: 0,
         },
         sp: 0,
-        spare: 0,
+        share: 0,
         stack: [0u8; STACK_SIZE],
     }
 }

@@ -35,7 +35,7 @@ pub const FILE_AT: usize = 24;
 
 pub const SP_AT: usize = 30;
 
-pub const SPARE_AT: usize = 31;
+pub const SHARE_AT: usize = 31;
 
 pub const STACK_AT: usize = 32;
 
@@ -87,7 +87,7 @@ fn process_of(bytes: &[u8]) -> Process
             offset: buffer::bytes::word_at(bytes, FILE_AT + 4),
         },
         sp: bytes[SP_AT],
-        spare: bytes[SPARE_AT],
+        share: bytes[SHARE_AT],
         stack: stack,
     }
 }
@@ -123,7 +123,7 @@ fn register_bytes(p: Process) -> [u8; REGISTER_SIZE]
         buffer::bytes::low(p.file.offset),
         buffer::bytes::high(p.file.offset),
         p.sp,
-        p.spare,
+        p.share,
     ]
 }
 

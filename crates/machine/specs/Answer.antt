@@ -15,7 +15,7 @@ use Rattle.machine.specs.Area.{isAreaLength, kernelBytes, kernelOf}
 use Rattle.machine.specs.GoodArea.{goodKernel}
 use Rattle.machine.specs.Limits.{areaLength, nextAt, roundRoom, slotCount, turnRoom}
 use Rattle.machine.specs.Operations.{Command, Commanded, becomes, refused as declined, commanded, inUse, listText}
-use Rattle.machine.specs.Operations.{slots, turnsOf}
+use Rattle.machine.specs.Operations.{roundOf, shared}
 use Rattle.machine.specs.Start.{Starting, starts, refuses, started, starting}
 use Rattle.machine.specs.State.{isRunning, processAt}
 use Rattle.machine.specs.Turn.{Turned, turned}
@@ -33,8 +33,8 @@ pub record Answer : Type 0 where
   pub area : List ℕ
   pub out : List ℕ
 
--- Document 01: the twelve operations of demand 3, by what they are to processes: a turn, the turns of all, a command of
--- an ID, a start, or none of these
+-- Document 01: the twelve operations of demand 3 and document 02's *share*, by what they are to processes: a turn, the
+-- turns of all, a command of an ID, its share, a start, or none of these
 pub data Other : Type 0 where
   store : (name bytes : List ℕ) → Other
   retrieve erase : (name : List ℕ) → Other
@@ -44,6 +44,7 @@ pub data Call : Type 0 where
   turn : (slot clock : ℕ) → Call
   round : (clock : ℕ) → Call
   command : Command → (id : ℕ) → Call
+  share : (id turns : ℕ) → Call
   run : (name : List ℕ) → Call
   other : Other → Call
 
@@ -108,9 +109,9 @@ turnAnswer slot clock k b =
     (unless (ltb slot slotCount && isRunning (processAt k slot)) (refused 16 b)
     (turnedAnswer (turned k slot clock (b .disc)) b))
 
--- Document 01, Round: "needs 320 bytes"
+-- Document 02, Q-9: "needs 2,560 output bytes"
 abbrev pub roundAnswer : ℕ → Kernel → Buffers → Answer
-roundAnswer clock k b = withRoom roundRoom b (turnedAnswer (turnsOf slots k clock (b .disc)) b)
+roundAnswer clock k b = withRoom roundRoom b (turnedAnswer (roundOf k clock (b .disc)) b)
 
 unfoldable pub otherAnswer : Other → Buffers → Answer
 otherAnswer (store name bytes) b = onDisc (storeAnswer (b .disc) name bytes) b
@@ -125,6 +126,7 @@ unfolding otherAnswer
 answer (turn slot clock) b = onGood b (turnAnswer slot clock (kernelOf (b .area)) b)
 answer (round clock) b = onGood b (roundAnswer clock (kernelOf (b .area)) b)
 answer (command c id) b = onGood b (commandAnswer (commanded c id (kernelOf (b .area))) b)
+answer (share id turns) b = onGood b (commandAnswer (shared id turns (kernelOf (b .area))) b)
 answer (run name) b = onGood b (runAt (starting (kernelOf (b .area)) (b .disc) name) (kernelOf (b .area)) b)
 answer (other o) b = otherAnswer o b
 

@@ -47,7 +47,7 @@ processOf b =
       loopstart = wordAt b 22;
       file = record { start = wordAt b 24; len = wordAt b 26; offset = wordAt b 28 };
       sp = getD b 30 0;
-      spare = getD b 31 0;
+      share = getD b 31 0;
       stack = part b stackAt stackSize;
     }
 
@@ -59,7 +59,7 @@ abbrev pub registerBytes : Process → List ℕ
 registerBytes p =
     wordBytes (p .id) ++ (p .state ∷ p .fault ∷ []) ++ wordBytes (p .code .start) ++ wordBytes (p .code .len)
     ++ wordBytes (p .pc) ++ wordBytes (p .loopstart)
-    ++ wordBytes (p .file .start) ++ wordBytes (p .file .len) ++ wordBytes (p .file .offset) ++ (p .sp ∷ p .spare ∷ [])
+    ++ wordBytes (p .file .start) ++ wordBytes (p .file .len) ++ wordBytes (p .file .offset) ++ (p .sp ∷ p .share ∷ [])
 
 abbrev pub processBytes : Process → List ℕ
 processBytes p = p .name ++ registerBytes p ++ p .stack

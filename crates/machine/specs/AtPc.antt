@@ -85,7 +85,7 @@ pub record Onward (b : Buffers) (slot clock pc : ℕ) (stack : List ℕ) (file :
         loopstart = processIn b slot .loopstart;
         file = file;
         sp = length stack;
-        spare = processIn b slot .spare;
+        share = processIn b slot .share;
         stack = stack ++ replicate (stackSize - length stack) 0;
       }
 

@@ -60,7 +60,7 @@ pub record Starts (disc area name : List ℕ) (slot : ℕ) (after : Kernel) : Ty
         loopstart = noLoop;
         file = record { start = 0; len = 0; offset = 0 };
         sp = 0;
-        spare = 0;
+        share = 0;
         stack = replicate stackSize 0;
       }
 

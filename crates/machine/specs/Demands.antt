@@ -11,8 +11,8 @@ use Rattle.number.specs.declared.Number.{Number}
 use Rattle.disc.specs.Directory.{goodDisc, isDiscLength, lookup}
 use Rattle.variable.specs.Table.{freed, isOf}
 use Rattle.buffer.specs.declared.Found.the-variants.{Nowhere}
-use Rattle.machine.specs.Answer.{Answer, Buffers, Call, Other, turn, round, command, run, other, store, retrieve}
-use Rattle.machine.specs.Answer.{erase, files, freeSpace, list, answer, bootAnswer, formatAnswer}
+use Rattle.machine.specs.Answer.{Answer, Buffers, Call, Other, turn, round, command, share, run, other, store}
+use Rattle.machine.specs.Answer.{retrieve, erase, files, freeSpace, list, answer, bootAnswer, formatAnswer}
 use Rattle.machine.specs.Area.{AreBytes, Whole, isAreaLength, kernelOf}
 use Rattle.machine.specs.Beyond.{newFileSize}
 use Rattle.machine.specs.Effect.{asks, assigns, opens}
@@ -22,7 +22,7 @@ use Rattle.machine.specs.Turn.{effectAt}
 use Rattle.machine.specs.NoPlace.{Lacking, NewFileRefused}
 use Rattle.machine.specs.Refusals.{stateOf, MayTurn, Passes}
 use Rattle.machine.specs.Trace.{Invocation, IsItsEvents, Storage, afterCalls, events, lastStorage, lending}
-use Rattle.machine.specs.Trace.{outputText, tenSlots, turnEvents}
+use Rattle.machine.specs.Trace.{outputText, shareEvents, tenSlots}
 use Rattle.machine.specs.State.{Local, isRunning, processAt}
 use Rattle.machine.specs.declared.Kernel.{Kernel}
 
@@ -113,6 +113,7 @@ abbrev pub given : Call → List ℕ
 given (turn slot clock) = []
 given (round clock) = []
 given (command c id) = []
+given (share id turns) = []
 given (run name) = []
 given (other o) = givenOther o
 
@@ -126,13 +127,14 @@ BytesKept = ((c : Call) (b : Buffers) → AreBytes (given c) → StaysBytes (ans
     × ((b : Buffers) → StaysBytes (bootAnswer b) b)
 
 -- ---- rounds
--- Document 01: "a turn for slots 0 to 9, each if running when reached, under one clock reading, outputs joined". 1,056
--- bytes are whole, and so is what every call leaves of them.
+-- Document 01: "a turn for slots 0 to 9, each if running when reached, under one clock reading, outputs joined", with
+-- document 02, Q-9, as many turns in a row as the slot's share. 1,056 bytes are whole, and so is what every call leaves
+-- of them.
 unfoldable pub RoundIsTurns : Type 0
 RoundIsTurns =
     ((s : Storage) (out : List ℕ) (clock n : ℕ) → Whole (s .area) → answer (round clock) (lending s out) .number ≡ pos n
     → IsItsEvents s out (answer (round clock) (lending s out))
-    (turnEvents tenSlots clock s (outputText (answer (round clock) (lending s out)))))
+    (shareEvents tenSlots clock s (outputText (answer (round clock) (lending s out)))))
     × ((area : List ℕ) → AreBytes area → length area ≡ areaLength → Whole area)
     × ((s : Storage) (out : List ℕ) (c : Call) → Whole (s .area) → Whole (answer c (lending s out) .area))
 

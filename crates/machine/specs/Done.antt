@@ -7,8 +7,8 @@ use lib.IntN.{pos}
 use lib.ListN.{length, getD}
 use Rattle.buffer.specs.Buffer.{overwrite, part}
 use Rattle.place.specs.ShortestFit.{ShortestFit}
-use Rattle.machine.specs.Answer.{Answer, Buffers, command, run, other, store, retrieve, erase, files, freeSpace}
-use Rattle.machine.specs.Answer.{list, answer, bootAnswer, formatAnswer}
+use Rattle.machine.specs.Answer.{Answer, Buffers, command, share, run, other, store, retrieve, erase, files}
+use Rattle.machine.specs.Answer.{freeSpace, list, answer, bootAnswer, formatAnswer}
 use Rattle.machine.specs.Area.{kernelOf}
 use Rattle.machine.specs.Changed.{Enters, Leaves, Starts}
 use Rattle.machine.specs.Ending.{Touched}
@@ -16,7 +16,7 @@ use Rattle.machine.specs.Fields.{Free, HasId, Named, filesText, nextId, 
 use Rattle.machine.specs.Limits.{areaLength, nextAt}
 use Rattle.machine.specs.Operations.{Command, suspend, resume, kill}
 use Rattle.machine.specs.Refusals.{stateOf}
-use Rattle.machine.specs.State.{paused, processAt, running, withState}
+use Rattle.machine.specs.State.{paused, processAt, running, withProcess, withShare, withState}
 use Rattle.machine.specs.declared.Kernel.{Kernel}
 
 -- ---- files
@@ -77,6 +77,15 @@ CommandDone =
     a .number ≡ pos n
     → (n ≡ 0) × ((i : ℕ) × HasId (b .area) id i × Commanded c i (stateOf b) (kernelOf (a .area)))
 
+-- Document 02, Q-9: "A new operation sets it by ID." The rest of the state stays.
+abbrev pub ShareDone : Type 0
+ShareDone =
+    (b : Buffers) (id turns n : ℕ) → let a = answer (share id turns) b in
+    a .number ≡ pos n
+    → (n ≡ 0)
+    × ((i : ℕ) × HasId (b .area) id i
+    × (kernelOf (a .area) ≡ withProcess (stateOf b) i (withShare (processAt (stateOf b) i) turns)))
+
 -- ---- format and boot
 abbrev pub Zeroed : List ℕ → Type 0
 Zeroed buffer = (j : ℕ) → getD buffer j 0 ≡ 0
@@ -98,5 +107,5 @@ FormatDone =
 
 unfoldable pub DoneExactly : Type 0
 DoneExactly = StoreDone × RetrieveDone × EraseDone × FilesDone × FreeSpaceDone × RunDone × ListDone × CommandDone
-    × BootDone
+    × ShareDone × BootDone
     × FormatDone

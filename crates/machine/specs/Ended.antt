@@ -21,7 +21,7 @@ endedProcess p fault =
       loopstart = 0;
       file = noFile;
       sp = 0;
-      spare = 0;
+      share = 0;
       stack = replicate stackSize 0;
     }
 

@@ -6,7 +6,7 @@ use lib.Dec.{eqb, leb, ltb}
 use Rattle.buffer.specs.Lists.{all, any, pairs, same}
 use Rattle.disc.specs.declared.Entry.{Entry}
 use Rattle.variable.specs.Good.{goodVariables}
-use Rattle.machine.specs.Limits.{idLimit, stackSize}
+use Rattle.machine.specs.Limits.{idLimit, maxShare, stackSize}
 use Rattle.machine.specs.State.{isLive, liveIds, noLoop}
 use Rattle.machine.specs.declared.Kernel.{Kernel}
 use Rattle.machine.specs.declared.OpenFile.{OpenFile}
@@ -16,9 +16,10 @@ use Rattle.machine.specs.declared.Process.{Process}
 unfoldable pub goodHeader : Kernel → Bool
 goodHeader k = all (eqb 0) (k .zeros) && (leb 1 (k .next) && leb (k .next) idLimit)
 
--- "zero spare bytes in live records [..] SP at most 32, PC, loop (unless none) [..] at most their lengths"
+-- Document 02, Q-9: a live record's spare byte is at most 8; "SP at most 32, PC, loop (unless none) [..] at most their
+-- lengths"
 unfoldable pub goodRegisters : Process → Bool
-goodRegisters p = eqb (p .spare) 0
+goodRegisters p = leb (p .share) maxShare
     && (leb (p .sp) stackSize && (leb (p .pc) (p .code .len)
     && (eqb (p .loopstart) noLoop || leb (p .loopstart) (p .code .len))))
 

@@ -6,7 +6,7 @@ use mathlib.Core.List.{List, [], _∷_, _++_}
 use Rattle.buffer.specs.declared.Found.{Found}
 use Rattle.buffer.specs.declared.Found.the-variants.{At, Nowhere}
 use Rattle.disc.specs.Directory.{contents, entryAt, lookup, runOf}
-use Rattle.machine.specs.Answer.{Call, turn, round, command, run, other}
+use Rattle.machine.specs.Answer.{Call, turn, round, command, share, run, other}
 use Rattle.machine.specs.Observation.{Watched, inputs, notRefused, observations, placeIn, singleRun, watch}
 use Rattle.machine.specs.Single.{fresh}
 use Rattle.machine.specs.Stack.{topString}
@@ -28,6 +28,7 @@ abbrev pub startName : Call → Storage → List ℕ
 startName (turn slot clock) s = topString (localOf (processIn s slot) .stack)
 startName (round clock) s = []
 startName (command c id) s = []
+startName (share id turns) s = []
 startName (run name) s = name
 startName (other o) s = []
 

@@ -7,8 +7,8 @@ use lib.IntN.{pos}
 use lib.ListN.{getD}
 use Rattle.buffer.specs.Buffer.{part}
 use Rattle.variable.specs.Table.{owned}
-use Rattle.machine.specs.Answer.{Answer, Buffers, Call, Other, turn, round, command, run, other, store, retrieve}
-use Rattle.machine.specs.Answer.{erase, files, freeSpace, list, answer, bootAnswer, formatAnswer}
+use Rattle.machine.specs.Answer.{Answer, Buffers, Call, Other, turn, round, command, share, run, other, store}
+use Rattle.machine.specs.Answer.{retrieve, erase, files, freeSpace, list, answer, bootAnswer, formatAnswer}
 use Rattle.machine.specs.Area.{kernelOf}
 use Rattle.machine.specs.AtPc.{byteAhead, processIn}
 use Rattle.machine.specs.Fields.{Named, openSize, openStart, sizeOf, startOf}
@@ -38,6 +38,7 @@ abbrev pub Keeps : Call → Answer → Buffers → Type 0
 Keeps (turn slot clock) a b = Unit {0}
 Keeps (round clock) a b = Unit {0}
 Keeps (command c id) a b = SameDisc a b × SameOut a b
+Keeps (share id turns) a b = SameDisc a b × SameOut a b
 Keeps (run name) a b = SameDisc a b × SameOut a b
 Keeps (other o) a b = OtherKeeps o a b
 
@@ -53,11 +54,12 @@ OutputBehindKept =
     → (j : ℕ) → n ≤ j → getD (answer c b .out) j 0 ≡ getD (b .out) j 0
 
 -- ---- other processes
--- the call is the turn or a command of the process in that slot; a round is a turn of each
+-- the call is the turn or a command of the process in that slot, or sets its share; a round is turns of each
 abbrev pub Concerns : Call → Buffers → ℕ → Type 0
 Concerns (turn slot clock) b own = own ≡ slot
 Concerns (round clock) b own = Unit {0}
 Concerns (command c id) b own = processIn b own .id ≡ id
+Concerns (share id turns) b own = processIn b own .id ≡ id
 Concerns (run name) b own = ⊥
 Concerns (other o) b own = ⊥
 
@@ -84,6 +86,7 @@ MayChange (turn slot clock) b name i = (byteAhead b slot 0 ≡ 55)
     × (openStart (b .area) slot ≡ startOf (b .disc) i) × (openSize (b .area) slot ≡ sizeOf (b .disc) i)
 MayChange (round clock) b name i = Unit {0}
 MayChange (command c id) b name i = ⊥
+MayChange (share id turns) b name i = ⊥
 MayChange (run title) b name i = ⊥
 MayChange (other o) b name i = OtherChanges o name
 

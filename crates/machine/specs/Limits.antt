@@ -6,7 +6,7 @@
 --     407  next ID, 2
 --     409  seven zeros
 --     416  ten process records of 64: name 12, ID 2, state 1, fault 1, code start 2, code length 2, PC 2, loop 2,
---          file start 2, file length 2, file offset 2, SP 1, spare 1, stack 32
+--          file start 2, file length 2, file offset 2, SP 1, share 1, stack 32
 use Prim.Native.Nat.{ℕ}
 
 -- Document 01: "Work area, 1,056 bytes."
@@ -53,6 +53,10 @@ idLimit = 32768
 abbrev pub turnRoom : ℕ
 turnRoom = 32
 
--- Document 01, Round: "needs 320 bytes"
+-- Document 02, Q-9: "The spare byte holds 1 to 8"
+abbrev pub maxShare : ℕ
+maxShare = 8
+
+-- Document 02, Q-9: *Round* "needs 2,560 output bytes"
 abbrev pub roundRoom : ℕ
-roundRoom = 320
+roundRoom = 2560

@@ -13,7 +13,7 @@ use Rattle.machine.specs.Beyond.{advanced, fileRun}
 use Rattle.machine.specs.Fields.{filesOn}
 use Rattle.machine.specs.Observation.{placeIn}
 use Rattle.machine.specs.Refusals.{Passes}
-use Rattle.machine.specs.State.{localOf, withFile, withLocal}
+use Rattle.machine.specs.State.{localOf, withFile, withLocal, withShare}
 use Rattle.machine.specs.Suppositions.{executedBy, isDoneBy, ofDoneTurn, processIn, writeLands}
 use Rattle.machine.specs.Trace.{Event, Invocation, Storage, events}
 use Rattle.machine.specs.declared.Process.{Process}
@@ -50,9 +50,11 @@ withEmptyString p =
     (record { stack = localOf p .stack ++ (0 ∷ 1 ∷ 3 ∷ []); pc = p .pc + 1; loopstart = p .loopstart }))
     (advanced (p .file) 1)
 
--- the process is as OPEN left it, and goes on with the empty string; nothing is printed, the disc stays
+-- the process is as OPEN left it but for its share, and goes on with the empty string; nothing is printed, the disc
+-- stays
 pub record ReadsEmpty (slot : ℕ) (opening reading : Event) : Type 0 where
-  pub before : processIn (reading .before) slot ≡ processIn (opening .after) slot
+  pub share : ℕ
+  pub before : processIn (reading .before) slot ≡ withShare (processIn (opening .after) slot) share
   pub after : processIn (reading .after) slot ≡ withEmptyString (processIn (reading .before) slot)
   pub number : reading .number ≡ pos 0
   pub disc : reading .after .disc ≡ reading .before .disc

@@ -10,7 +10,7 @@ use Rattle.buffer.specs.Lists.{index, keep}
 use Rattle.buffer.specs.declared.Found.{Found}
 use Rattle.buffer.specs.declared.Found.the-variants.{At, Nowhere}
 use Rattle.variable.specs.Table.{Cell, owned}
-use Rattle.machine.specs.Answer.{Call, turn, round, command, run, other}
+use Rattle.machine.specs.Answer.{Call, turn, round, command, share, run, other}
 use Rattle.machine.specs.Area.{kernelOf}
 use Rattle.machine.specs.Limits.{stackSize}
 use Rattle.machine.specs.Single.{Input, tick, given, Response, refusedBy, did, Single, single}
@@ -39,6 +39,7 @@ abbrev pub inputOf : ℕ → Call → Found → Option Input
 inputOf i (turn slot clock) place = inputIf (isAt place slot) (tick clock)
 inputOf i (round clock) place = none
 inputOf i (command c id) place = inputIf (eqb id i) (given c)
+inputOf i (share id turns) place = none
 inputOf i (run name) place = none
 inputOf i (other o) place = none
 

@@ -26,7 +26,7 @@ startedProcess e id =
       loopstart = noLoop;
       file = noFile;
       sp = 0;
-      spare = 0;
+      share = 0;
       stack = replicate stackSize 0;
     }
 

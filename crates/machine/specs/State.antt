@@ -46,7 +46,7 @@ noProcess = record {
   loopstart = 0;
   file = noFile;
   sp = 0;
-  spare = 0;
+  share = 0;
   stack = [];
 }
 
@@ -89,7 +89,7 @@ withLocal p l =
       loopstart = l .loopstart;
       file = p .file;
       sp = length (l .stack);
-      spare = p .spare;
+      share = p .share;
       stack = stackBytes (l .stack);
     }
 
@@ -105,7 +105,7 @@ withFile p f =
       loopstart = p .loopstart;
       file = f;
       sp = p .sp;
-      spare = p .spare;
+      share = p .share;
       stack = p .stack;
     }
 
@@ -121,7 +121,23 @@ withState p state =
       loopstart = p .loopstart;
       file = p .file;
       sp = p .sp;
-      spare = p .spare;
+      share = p .share;
+      stack = p .stack;
+    }
+
+abbrev pub withShare : Process → ℕ → Process
+withShare p share =
+    record {
+      name = p .name;
+      id = p .id;
+      state = p .state;
+      fault = p .fault;
+      code = p .code;
+      pc = p .pc;
+      loopstart = p .loopstart;
+      file = p .file;
+      sp = p .sp;
+      share = share;
       stack = p .stack;
     }
 

@@ -16,7 +16,7 @@ use Rattle.variable.specs.Limits.{maxVariables, memorySize}
 use Rattle.variable.specs.Table.{counted, isOf, owned, runOf}
 use Rattle.variable.specs.declared.Variable.{Variable}
 use Rattle.variable.specs.declared.Variables.{Variables}
-use Rattle.machine.specs.Answer.{Call, turn, round, command, run, other}
+use Rattle.machine.specs.Answer.{Call, turn, round, command, share, run, other}
 use Rattle.machine.specs.Area.{kernelOf}
 use Rattle.machine.specs.Effect.{Effect, goes, assigns, stops, faults, asks}
 use Rattle.machine.specs.Exec.{exec}
@@ -97,6 +97,7 @@ abbrev pub ofDoneTurn : Call → Event → (ℕ → ℕ → Bool) → Bool
 ofDoneTurn (turn slot clock) e test = isDoneBy (e .number) && test slot clock
 ofDoneTurn (round clock) e test = false
 ofDoneTurn (command c id) e test = false
+ofDoneTurn (share id turns) e test = false
 ofDoneTurn (run name) e test = false
 ofDoneTurn (other o) e test = false
 

@@ -9,11 +9,11 @@ use lib.IntN.{pos, negℤ}
 use lib.ListN.{length}
 use Rattle.disc.specs.Directory.{DiscLength, goodDisc}
 use Rattle.disc.specs.Layout.{dataStart, maxFiles}
-use Rattle.machine.specs.Answer.{Answer, Buffers, Call, Other, turn, round, command, run, other, store, retrieve}
-use Rattle.machine.specs.Answer.{erase, files, freeSpace, list, answer, bootAnswer, formatAnswer, goodArea}
+use Rattle.machine.specs.Answer.{Answer, Buffers, Call, Other, turn, round, command, share, run, other, store}
+use Rattle.machine.specs.Answer.{retrieve, erase, files, freeSpace, list, answer, bootAnswer, formatAnswer, goodArea}
 use Rattle.machine.specs.Fields.{Ended, Free, HasId, IsName, Named, NoFile, Uses, filesOn, filesText, nextId}
 use Rattle.machine.specs.Fields.{processesText, sizeOf, stateByte}
-use Rattle.machine.specs.Limits.{areaLength, idLimit, roundRoom, slotCount, turnRoom}
+use Rattle.machine.specs.Limits.{areaLength, idLimit, maxShare, roundRoom, slotCount, turnRoom}
 use Rattle.machine.specs.Operations.{Command, suspend, resume, kill}
 use Rattle.machine.specs.State.{paused, running}
 
@@ -85,6 +85,8 @@ tests (turn slot clock) b =
     passed))
 tests (round clock) b = onBoth b (test 4 (roundRoom ≤ length (b .out)) passed)
 tests (command c id) b = onBoth b (commandTests c id b)
+tests (share id turns) b =
+    onBoth b (test 14 ((i : ℕ) × HasId (b .area) id i) (test 22 ((1 ≤ turns) × (turns ≤ maxShare)) passed))
 tests (run name) b = onBoth b (test 12 (someEnded b) (test 10 (someFile b name) (test 13 (idLeft b) passed)))
 tests (other o) b = otherTests o b
 

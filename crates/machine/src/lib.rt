@@ -39,7 +39,7 @@ pub struct Process {
     pub loopstart: u16,
     pub file: OpenFile,
     pub sp: u8,
-    pub spare: u8,
+    pub share: u8,
     pub stack: [u8; STACK_SIZE],
 }
 

@@ -25,4 +25,6 @@ pub const ID_LIMIT: u16 = 32768;
 
 pub const TURN_ROOM: usize = 32;
 
-pub const ROUND_ROOM: usize = 320;
+pub const MAX_SHARE: u8 = 8;
+
+pub const ROUND_ROOM: usize = 2560;

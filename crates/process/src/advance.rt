@@ -45,7 +45,7 @@ pub fn moved(p: Process, d: Step, head: &[u8], tail: &[u8], file: OpenFile) -> P
         loopstart: d.loopstart,
         file: file,
         sp: sp as u8,
-        spare: p.spare,
+        share: p.share,
         stack: stack,
     }
 }

@@ -95,6 +95,6 @@ module _ (p : Process) (sized : SizedProcess p) where
       offset = word 16 (p .file .offset) refl refl t;
     };
     sp = byte 18 t;
-    spare = byte 19 t;
+    share = byte 19 t;
     stack = stack t;
   }

@@ -4,7 +4,7 @@ use mathlib.Core.Path.{_≡_, refl, subst⁻¹}
 use mathlib.Core.Bool.{Bool, true, false, _&&_, not, cond}
 use mathlib.Core.List.{List, [], _∷_}
 use lib.Dec.{leb, ltb}
-use lib.ListN.{length}
+use lib.ListN.{length, replicate}
 use borrow.Author.Tests.{eq-eqb, eqb-true, not-true}
 use Rattle.buffer.specs.declared.Found.{Found}
 use Rattle.buffer.specs.declared.Found.the-variants.{At, Nowhere}
@@ -14,12 +14,12 @@ use Rattle.disc.proofs.Lookups.{lookup-at}
 use Rattle.store.specs.File.{erased, stored}
 use Rattle.store.proofs.Calls.{store-cases}
 use Rattle.machine.specs.Answer.{Answer, Buffers, Other, store, retrieve, erase, files, freeSpace, list, Call, turn, round}
-use Rattle.machine.specs.Answer.{command, run, other}
+use Rattle.machine.specs.Answer.{command, share, run, other}
 use Rattle.machine.specs.Answer.{answer, commandAnswer, eraseAt, goodArea, onDisc, onGood, otherAnswer, runAt}
 use Rattle.machine.specs.Area.{isAreaLength, kernelBytes, kernelOf}
 use Rattle.machine.specs.Limits.{roundRoom, slotCount, turnRoom}
-use Rattle.machine.specs.Operations.{Command, Commanded, becomes, refused as declined, commanded, inUse, listText, slots}
-use Rattle.machine.specs.Operations.{turnIfRunning, turnsOf}
+use Rattle.machine.specs.Operations.{Command, Commanded, becomes, refused as declined, commanded, inOrder, inUse, listText, roundOf}
+use Rattle.machine.specs.Operations.{shareOfTurns, shared, slots, turnIfRunning, turnsDue}
 use Rattle.machine.specs.Refusals.{Passes}
 use Rattle.machine.specs.Start.{Starting, starts, refuses, started, starting}
 use Rattle.machine.specs.Stack.{topString}
@@ -31,10 +31,9 @@ use Rattle.machine.proofs.Bytes.Area.{kernel-bytes-length, kernel-decod
 use Rattle.machine.proofs.Changes.Change.{GoodState, Outside, stores, erases, begins, Change}
 use Rattle.machine.proofs.Kept.ChangeKept.{change-good}
 use Rattle.machine.proofs.Instructions.Executing.{exec-sound}
-use Rattle.machine.proofs.Operations.Commanding.{command-own}
+use Rattle.machine.proofs.Operations.Commanding.{command-good, share-good}
 use Rattle.machine.proofs.Changes.LiveRecords.{running-live, within-local}
 use Rattle.machine.proofs.Kept.OutsideKept.{outside-good}
-use Rattle.machine.proofs.Kept.OwnKept.{own-good}
 use Rattle.machine.proofs.Operations.Turning.{turn-change}
 use Rattle.machine.proofs.Bytes.Sizes.{decoded-sized}
 
@@ -90,13 +89,27 @@ turn-if-running-good k slot clock disc g = go (isRunning (processAt k slot)) ref
     go true e = turn-good k slot clock disc g e
     go false e = g
 
-pub turns-good : (l : List ℕ) (k : Kernel) (clock : ℕ) (disc : List ℕ) → GoodState k disc
-    → GoodState (turnsOf l k clock disc .kernel) (turnsOf l k clock disc .disc)
-unfolding turnsOf
-turns-good [] k clock disc g = g
-turns-good (slot ∷ l) k clock disc g =
-    let t : Turned = turnIfRunning k slot clock disc in
-    turns-good l (t .kernel) clock (t .disc) (turn-if-running-good k slot clock disc g)
+-- what keeps a good state good for one slot keeps it for all of them
+abbrev pub KeepsGood : (Kernel → ℕ → ℕ → List ℕ → Turned) → Type 0
+KeepsGood each = (k : Kernel) (slot clock : ℕ) (disc : List ℕ) → GoodState k disc → GoodState (each k slot clock disc .kernel)
+    (each k slot clock disc .disc)
+
+pub in-order-good : (each : Kernel → ℕ → ℕ → List ℕ → Turned) → KeepsGood each → (l : List ℕ) (k : Kernel) (clock : ℕ) (disc : List ℕ)
+    → GoodState k disc
+    → GoodState (inOrder each l k clock disc .kernel) (inOrder each l k clock disc .disc)
+unfolding inOrder
+in-order-good each keeps [] k clock disc g = g
+in-order-good each keeps (slot ∷ l) k clock disc g =
+    let t : Turned = each k slot clock disc in
+    in-order-good each keeps l (t .kernel) clock (t .disc) (keeps k slot clock disc g)
+
+pub share-of-turns-good : KeepsGood shareOfTurns
+unfolding shareOfTurns
+share-of-turns-good k slot clock disc g = in-order-good turnIfRunning turn-if-running-good (replicate (turnsDue (processAt k slot)) slot) k clock disc g
+
+pub round-good : (k : Kernel) (clock : ℕ) (disc : List ℕ) → GoodState k disc
+    → GoodState (roundOf k clock disc .kernel) (roundOf k clock disc .disc)
+round-good = in-order-good shareOfTurns share-of-turns-good slots
 
 -- ---- every call
 module _ (b : Buffers) (passes : Passes (b .disc) (b .area)) where
@@ -140,13 +153,20 @@ module _ (b : Buffers) (passes : Passes (b .disc) (b .area)) where
       placed (starts slot f) e =
           good-passes _ _ (outside-good name k (b .disc) (started k slot f) (b .disc) good (begins slot f e refl refl))
 
+  commanded-kept : (r : Commanded) → ((j : Kernel) → r ≡ becomes j → GoodState j (b .disc)) → Kept (onGood b (commandAnswer r b))
+  commanded-kept r leaves = subst⁻¹ Kept (on-good b _ passes) (given r leaves)
+    where
+      given : (r : Commanded) → ((j : Kernel) → r ≡ becomes j → GoodState j (b .disc)) → Kept (commandAnswer r b)
+      given (declined n) leaves = passes
+      given (becomes j) leaves = good-passes j (b .disc) (leaves j refl)
+
   command-kept : (c : Command) (id : ℕ) → Kept (answer (command c id) b)
   unfolding answer k
-  command-kept c id = subst⁻¹ Kept (on-good b _ passes) (given (commanded c id k) refl)
-    where
-      given : (r : Commanded) → commanded c id k ≡ r → Kept (commandAnswer r b)
-      given (declined n) e = passes
-      given (becomes j) e = good-passes j (b .disc) (let o = command-own good c id j e in own-good (o .0) k (b .disc) j good (o .2))
+  command-kept c id = commanded-kept (commanded c id k) (command-good good c id)
+
+  share-kept : (id turns : ℕ) → Kept (answer (share id turns) b)
+  unfolding answer k
+  share-kept id turns = commanded-kept (shared id turns k) (share-good good id turns)
 
   list-kept : Kept (answer (other list) b)
   unfolding answer otherAnswer k
@@ -165,7 +185,7 @@ module _ (b : Buffers) (passes : Passes (b .disc) (b .area)) where
   round-kept clock =
       subst⁻¹ Kept (on-good b _ passes)
       (tried Kept b (leb roundRoom (length (b .out))) 4 _ passes λ fit.
-      good-passes _ _ (turns-good slots k clock (b .disc) good))
+      good-passes _ _ (round-good k clock (b .disc) good))
 
   other-kept : (o : Other) → Kept (answer (other o) b)
   unfolding answer otherAnswer
@@ -180,5 +200,6 @@ module _ (b : Buffers) (passes : Passes (b .disc) (b .area)) where
   good-kept (turn slot clock) = turn-kept slot clock
   good-kept (round clock) = round-kept clock
   good-kept (command c id) = command-kept c id
+  good-kept (share id turns) = share-kept id turns
   good-kept (run name) = run-kept name
   good-kept (other o) = other-kept o

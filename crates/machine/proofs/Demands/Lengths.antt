@@ -1,12 +1,12 @@
 -- No call changes the length of disc, area or output: no kind of change changes the disc's, the area is the bytes of a state before and
 -- after, and no text written is longer than the output lent.
-use Prim.Native.Nat.{ℕ, _*_, _≤_}
-use mathlib.Core.Path.{_≡_, refl, sym, _∙_}
+use Prim.Native.Nat.{ℕ, zero, suc, _*_, _≤_}
+use mathlib.Core.Path.{_≡_, refl, sym, subst⁻¹, _∙_}
 use mathlib.Core.Bool.{Bool, true, false, _&&_, not, cond}
 use mathlib.Core.List.{List, [], _∷_}
 use native.Mathlib.Omega.{arith}
-use lib.Dec.{leb, ltb}
-use lib.ListN.{length, length-append, length-replicate}
+use lib.Dec.{eqb, leb, ltb}
+use lib.ListN.{length, replicate, length-append, length-replicate}
 use borrow.Author.Tests.{eqb-true, leb-true}
 use Rattle.buffer.specs.Buffer.{overwrite}
 use Rattle.buffer.specs.Lists.{flat}
@@ -27,13 +27,13 @@ use Rattle.store.proofs.Contents.{file-length}
 use Rattle.store.proofs.Effects.{stored-length}
 use Rattle.store.proofs.Invariant.{present}
 use Rattle.machine.specs.Answer.{Answer, Buffers, Other, store, retrieve, erase, files, freeSpace, list, Call, turn, round}
-use Rattle.machine.specs.Answer.{command, run, other, answer, bootAnswer, commandAnswer, done, eraseAt, formatAnswer, onDisc}
+use Rattle.machine.specs.Answer.{command, share, run, other, answer, bootAnswer, commandAnswer, done, eraseAt, formatAnswer, onDisc}
 use Rattle.machine.specs.Answer.{onGood, otherAnswer, refused, runAt}
 use Rattle.machine.specs.Area.{isAreaLength, kernelOf}
 use Rattle.machine.specs.Demands.{SameLengths}
-use Rattle.machine.specs.Limits.{roundRoom, slotCount, turnRoom}
-use Rattle.machine.specs.Operations.{Command, Commanded, becomes, refused as declined, commanded, inUse, listText, slots}
-use Rattle.machine.specs.Operations.{turnIfRunning, turnsOf}
+use Rattle.machine.specs.Limits.{maxShare, roundRoom, slotCount, turnRoom}
+use Rattle.machine.specs.Operations.{Commanded, becomes, refused as declined, commanded, inOrder, inUse, listText, roundOf}
+use Rattle.machine.specs.Operations.{shareOfTurns, shared, slots, turnIfRunning, turnsDue, turnsInRow}
 use Rattle.machine.specs.Refusals.{Passes}
 use Rattle.machine.specs.Start.{Starting, starts, refuses, starting}
 use Rattle.machine.specs.State.{isRunning, processAt}
@@ -41,13 +41,14 @@ use Rattle.machine.specs.Turn.{Turned, turned}
 use Rattle.machine.specs.declared.Kernel.{Kernel}
 use Rattle.machine.proofs.Bytes.Area.{kernel-bytes-length}
 use Rattle.machine.proofs.Changes.Change.{GoodState, begins}
+use Rattle.machine.proofs.Changes.Directories.{live-record}
 use Rattle.machine.proofs.Changes.LiveRecords.{running-live, within-local}
-use Rattle.machine.proofs.Demands.GoodCalls.{area-length, passes-good, turn-good, turn-if-running-good, turn-is-change, turns-good}
+use Rattle.machine.proofs.Demands.GoodCalls.{KeepsGood, area-length, passes-good, round-good, share-of-turns-good, turn-good}
+use Rattle.machine.proofs.Demands.GoodCalls.{turn-if-running-good, turn-is-change}
 use Rattle.machine.proofs.Instructions.Executing.{exec-sound}
 use Rattle.machine.proofs.Kept.LengthKept.{change-length}
 use Rattle.machine.proofs.Kept.OutsideKept.{outside-good}
-use Rattle.machine.proofs.Kept.OwnKept.{own-good}
-use Rattle.machine.proofs.Operations.Commanding.{command-own}
+use Rattle.machine.proofs.Operations.Commanding.{command-good, share-good}
 use Rattle.machine.proofs.Operations.Tests.{on-tests, tried}
 use Rattle.machine.proofs.Operations.Turning.{turn-prints}
 
@@ -67,17 +68,62 @@ turn-if-running-short k slot clock disc g = go (isRunning (processAt k slot)) re
     go true e = turn-short k slot clock disc g e
     go false e = omega arith
 
--- Document 01, Round: "needs 320 bytes", ten turns of at most 32
-turns-short : (l : List ℕ) (k : Kernel) (clock : ℕ) (disc : List ℕ) → GoodState k disc
-    → length (turnsOf l k clock disc .out) ≤ length l * turnRoom
-unfolding turnsOf
-turns-short [] k clock disc g = omega arith
-turns-short (slot ∷ l) k clock disc g =
-    let t : Turned = turnIfRunning k slot clock disc in
-    let first : length (t .out) ≤ turnRoom = turn-if-running-short k slot clock disc g in
-    let rest : length (turnsOf l (t .kernel) clock (t .disc) .out) ≤ length l * turnRoom =
-    turns-short l (t .kernel) clock (t .disc) (turn-if-running-good k slot clock disc g) in
-    omega (arith, length-append (t .out) (turnsOf l (t .kernel) clock (t .disc) .out))
+-- for each slot at most n bytes, so for all of them at most n times as many as there are
+abbrev pub PrintsAtMost : ℕ → (Kernel → ℕ → ℕ → List ℕ → Turned) → Type 0
+PrintsAtMost n each = (k : Kernel) (slot clock : ℕ) (disc : List ℕ) → GoodState k disc → length (each k slot clock disc .out) ≤ n
+
+in-order-short : (each : Kernel → ℕ → ℕ → List ℕ → Turned) (n : ℕ) → KeepsGood each → PrintsAtMost n each → (l : List ℕ) (k : Kernel)
+    (clock : ℕ) (disc : List ℕ)
+    → GoodState k disc
+    → length (inOrder each l k clock disc .out) ≤ length l * n
+unfolding inOrder
+in-order-short each n keeps short [] k clock disc g = omega arith
+in-order-short each n keeps short (slot ∷ l) k clock disc g =
+    let t : Turned = each k slot clock disc in
+    let first : length (t .out) ≤ n = short k slot clock disc g in
+    let rest : length (inOrder each l (t .kernel) clock (t .disc) .out) ≤ length l * n =
+    in-order-short each n keeps short l (t .kernel) clock (t .disc) (keeps k slot clock disc g) in
+    omega (arith, length-append (t .out) (inOrder each l (t .kernel) clock (t .disc) .out))
+
+-- a slot that does not run prints nothing, and changes nothing
+pub turns-idle : (n : ℕ) (k : Kernel) (slot clock : ℕ) (disc : List ℕ) → isRunning (processAt k slot) ≡ false
+    → turnsInRow n k slot clock disc ≡ record { kernel = k; disc = disc; out = [] }
+unfolding inOrder turnIfRunning
+turns-idle zero k slot clock disc h = refl
+turns-idle (suc n) k slot clock disc h = rw h (turns-idle n k slot clock disc h)
+
+-- of a slot that runs, the share is at most 8
+pub few-turns : (k : Kernel) (slot : ℕ) (disc : List ℕ) → GoodState k disc → isRunning (processAt k slot) ≡ true
+    → turnsDue (processAt k slot) ≤ maxShare
+few-turns k slot disc g h = go (eqb (processAt k slot .share) 0)
+  where
+    few : processAt k slot .share ≤ maxShare
+    few = live-record g slot (running-live (processAt k slot) h) .registers .share
+
+    go : (none : Bool) → cond none 1 (processAt k slot .share) ≤ maxShare
+    go true = omega arith
+    go false = few
+
+abbrev pub shareRoom : ℕ
+shareRoom = maxShare * turnRoom
+
+pub share-short : PrintsAtMost shareRoom shareOfTurns
+unfolding shareOfTurns
+share-short k slot clock disc g = go (isRunning (processAt k slot)) refl
+  where
+    n : ℕ
+    n = turnsDue (processAt k slot)
+
+    go : (f : Bool) → isRunning (processAt k slot) ≡ f → length (turnsInRow n k slot clock disc .out) ≤ shareRoom
+    go false h = subst⁻¹ (λ (t : Turned). length (t .out) ≤ shareRoom) (turns-idle n k slot clock disc h) (omega arith)
+    go true h =
+        let each : length (turnsInRow n k slot clock disc .out) ≤ length (replicate n slot) * turnRoom =
+        in-order-short turnIfRunning turnRoom turn-if-running-good turn-if-running-short (replicate n slot) k clock disc g in
+        omega (arith, few-turns k slot disc g h, length-replicate n slot)
+
+-- Document 02, Q-9: *Round* "needs 2,560 output bytes", eight turns of at most 32 for each of ten slots
+round-short : (k : Kernel) (clock : ℕ) (disc : List ℕ) → GoodState k disc → length (roundOf k clock disc .out) ≤ roundRoom
+round-short k clock disc g = in-order-short shareOfTurns shareRoom share-of-turns-good share-short slots k clock disc g
 
 -- ---- what turns leave of the disc's length
 pub turn-if-running-length : (k : Kernel) (slot clock : ℕ) (disc : List ℕ) → GoodState k disc
@@ -90,13 +136,26 @@ turn-if-running-length k slot clock disc g = go (isRunning (processAt k slot)) r
     go true e = change-length g (turn-is-change k slot clock disc g e)
     go false e = refl
 
-turns-length : (l : List ℕ) (k : Kernel) (clock : ℕ) (disc : List ℕ) → GoodState k disc
-    → length (turnsOf l k clock disc .disc) ≡ length disc
-unfolding turnsOf
-turns-length [] k clock disc g = refl
-turns-length (slot ∷ l) k clock disc g =
-    let t : Turned = turnIfRunning k slot clock disc in
-    turns-length l (t .kernel) clock (t .disc) (turn-if-running-good k slot clock disc g) ∙ turn-if-running-length k slot clock disc g
+abbrev pub KeepsLength : (Kernel → ℕ → ℕ → List ℕ → Turned) → Type 0
+KeepsLength each = (k : Kernel) (slot clock : ℕ) (disc : List ℕ) → GoodState k disc → length (each k slot clock disc .disc) ≡ length disc
+
+in-order-length : (each : Kernel → ℕ → ℕ → List ℕ → Turned) → KeepsGood each → KeepsLength each → (l : List ℕ) (k : Kernel) (clock : ℕ)
+    (disc : List ℕ)
+    → GoodState k disc
+    → length (inOrder each l k clock disc .disc) ≡ length disc
+unfolding inOrder
+in-order-length each keeps same [] k clock disc g = refl
+in-order-length each keeps same (slot ∷ l) k clock disc g =
+    let t : Turned = each k slot clock disc in
+    in-order-length each keeps same l (t .kernel) clock (t .disc) (keeps k slot clock disc g) ∙ same k slot clock disc g
+
+pub share-length : KeepsLength shareOfTurns
+unfolding shareOfTurns
+share-length k slot clock disc g =
+    in-order-length turnIfRunning turn-if-running-good turn-if-running-length (replicate (turnsDue (processAt k slot)) slot) k clock disc g
+
+round-length : (k : Kernel) (clock : ℕ) (disc : List ℕ) → GoodState k disc → length (roundOf k clock disc .disc) ≡ length disc
+round-length = in-order-length shareOfTurns share-of-turns-good share-length slots
 
 module _ (b : Buffers) where
   abbrev Same : Answer → Type 0
@@ -136,11 +195,9 @@ module _ (b : Buffers) where
     run-same name (starts slot f) e =
         done-same _ (b .disc) [] (outside-good name k (b .disc) _ _ good (begins slot f e refl refl)) refl (omega arith)
 
-    command-same : (c : Command) (id : ℕ) (r : Commanded) → commanded c id k ≡ r → Same (commandAnswer r b)
-    command-same c id (declined n) e = same n
-    command-same c id (becomes j) e =
-        let o = command-own good c id j e in
-        done-same j (b .disc) [] (own-good (o .0) k (b .disc) j good (o .2)) refl (omega arith)
+    commanded-same : (r : Commanded) → ((j : Kernel) → r ≡ becomes j → GoodState j (b .disc)) → Same (commandAnswer r b)
+    commanded-same (declined n) leaves = same n
+    commanded-same (becomes j) leaves = done-same j (b .disc) [] (leaves j refl) refl (omega arith)
 
   both : (rest : Answer) → (Passes (b .disc) (b .area) → Same rest) → Same (onGood b rest)
   both rest h = on-tests Same b rest (same 1) (same 2) (same 3) h
@@ -202,11 +259,10 @@ module _ (b : Buffers) where
   lengths-kept (round clock) =
       both _ λ p.
       tried Same b (leb roundRoom (length (b .out))) 4 _ (same 4) λ fit.
-      let short : length (turnsOf slots k clock (b .disc) .out) ≤ slotCount * turnRoom = turns-short slots k clock (b .disc) (good p) in
-      done-same p _ _ (turnsOf slots k clock (b .disc) .out) (turns-good slots k clock (b .disc) (good p))
-      (turns-length slots k clock (b .disc) (good p))
-      (omega (arith, leb-true roundRoom (length (b .out)) fit))
-  lengths-kept (command c id) = both _ λ p. command-same p c id (commanded c id k) refl
+      done-same p _ _ (roundOf k clock (b .disc) .out) (round-good k clock (b .disc) (good p)) (round-length k clock (b .disc) (good p))
+      (omega (arith, round-short k clock (b .disc) (good p), leb-true roundRoom (length (b .out)) fit))
+  lengths-kept (command c id) = both _ λ p. commanded-same p (commanded c id k) (command-good (good p) c id)
+  lengths-kept (share id turns) = both _ λ p. commanded-same p (shared id turns k) (share-good (good p) id turns)
   lengths-kept (run name) = both _ λ p. run-same p name (starting k (b .disc) name) refl
   lengths-kept (other o) = other-lengths o
 

@@ -28,14 +28,14 @@ use Rattle.store.specs.declared.Checked.the-variants.{Usable, Unusable}
 use Rattle.store.specs.declared.Refusal.{Refusal}
 use Rattle.store.specs.declared.Refusal.the-variants.{WrongLength, BadDisc, ShortOutput, BadName, BadSize, DirectoryFull}
 use Rattle.machine.specs.Answer.{Answer, Buffers, Other, store, retrieve, erase, files, freeSpace, list, Call, turn, round}
-use Rattle.machine.specs.Answer.{command, run, other}
+use Rattle.machine.specs.Answer.{command, share, run, other}
 use Rattle.machine.specs.Answer.{answer, bootAnswer, commandAnswer, eraseAt, formatAnswer, goodArea, onDisc, onGood, onOutput}
 use Rattle.machine.specs.Answer.{otherAnswer, refused, runAt}
 use Rattle.machine.specs.Area.{isAreaLength, kernelOf}
 use Rattle.machine.specs.Fields.{Ended, Free, HasId, Named, NoFile, Uses, nextId, sizeOf, stateByte}
-use Rattle.machine.specs.Limits.{areaLength, idLimit, roundRoom, slotCount, turnRoom}
+use Rattle.machine.specs.Limits.{areaLength, idLimit, maxShare, roundRoom, slotCount, turnRoom}
 use Rattle.machine.specs.Operations.{Command, becomes, refused as declined, suspend, resume, kill, changed, commandAt, commanded}
-use Rattle.machine.specs.Operations.{inUse, listText, slots, turnsOf}
+use Rattle.machine.specs.Operations.{inUse, listText, roundOf, shareAt, shared}
 use Rattle.machine.specs.Refusals.{Passes}
 use Rattle.machine.specs.Start.{starting, startIn}
 use Rattle.machine.specs.State.{endedSlot, isRunning, paused, processAt, running, slotOf, withProcess, withState}
@@ -317,6 +317,20 @@ module _ (b : Buffers) where
   unfolding answer commanded
   command-decided c id = on-both _ λ p. command-at p id (slotOf k id) refl c
 
+  -- Document 02, Q-9: "22 a share outside 1 to 8, after 14"
+  share-decided : (id turns : ℕ) → Decided (tests (share id turns) b) b (answer (share id turns) b)
+  unfolding answer shared
+  share-decided id turns = on-both _ λ p. at p (slotOf k id) refl
+    where
+      at : Passes (b .disc) (b .area) → (f : Found) → slotOf k id ≡ f
+          → Decided (test 14 ((i : ℕ) × HasId (b .area) id i) (test 22 ((1 ≤ turns) × (turns ≤ maxShare)) passed)) b
+          (commandAnswer (shareAt f turns k) b)
+      at p Nowhere e = fails refl (no-slot p id e)
+      at p (At slot) e =
+          holds-then (some-slot p id slot e)
+          (decided (λ r. commandAnswer r b) (declined 22) _ refl (says-both (says-at-most 1 turns) (says-at-most turns maxShare))
+          (λ h. done 0 refl))
+
   list-decided : Decided (otherTests list b) b (answer (other list) b)
   unfolding answer otherAnswer
   list-decided = on-both _ λ p. on-answer _ (says-room (list-text (b .area))) (λ h. done (length (listText k)) refl)
@@ -341,7 +355,7 @@ module _ (b : Buffers) where
   unfolding answer
   round-decided clock =
       on-both _ λ p.
-      on-answer _ (says-at-most roundRoom (length (b .out))) (λ h. done (length (turnsOf slots k clock (b .disc) .out)) refl)
+      on-answer _ (says-at-most roundRoom (length (b .out))) (λ h. done (length (roundOf k clock (b .disc) .out)) refl)
 
 -- ---- every call
 other-decided : (o : Other) (b : Buffers) → Decided (otherTests o b) b (answer (other o) b)
@@ -356,6 +370,7 @@ pub call-decided : (c : Call) (b : Buffers) → Decided (tests c b) b (answer c 
 call-decided (turn slot clock) b = turn-decided b slot clock
 call-decided (round clock) b = round-decided b clock
 call-decided (command c id) b = command-decided b c id
+call-decided (share id turns) b = share-decided b id turns
 call-decided (run name) b = run-decided b name
 call-decided (other o) b = other-decided o b
 

@@ -8,7 +8,7 @@ use lib.ListN.{length}
 use Rattle.machine.specs.Answer.{Answer, Buffers, answer, refused, round, turn, turnedAnswer}
 use Rattle.machine.specs.Area.{kernelOf}
 use Rattle.machine.specs.Limits.{roundRoom, slotCount, turnRoom}
-use Rattle.machine.specs.Operations.{slots, turnsOf}
+use Rattle.machine.specs.Operations.{roundOf}
 use Rattle.machine.specs.Refusals.{Passes}
 use Rattle.machine.specs.State.{isRunning, processAt}
 use Rattle.machine.specs.Turn.{turned}
@@ -26,9 +26,9 @@ module _ (b : Buffers) (slot clock : ℕ) (passes : Passes (b .disc) (b .area)) 
   unfolding answer
   turn-not-running low h = rw (passes .sizes, passes .disc-good, passes .area-good, room, low, h)
 
--- a round lent 320 bytes on good buffers is never refused
+-- a round lent 2,560 bytes on good buffers is never refused
 pub round-done : (b : Buffers) (clock : ℕ) → Passes (b .disc) (b .area) → leb roundRoom (length (b .out)) ≡ true
-    → answer (round clock) b ≡ turnedAnswer (turnsOf slots (kernelOf (b .area)) clock (b .disc)) b
+    → answer (round clock) b ≡ turnedAnswer (roundOf (kernelOf (b .area)) clock (b .disc)) b
 unfolding answer
 round-done b clock passes room = rw (passes .sizes, passes .disc-good, passes .area-good, room)
 

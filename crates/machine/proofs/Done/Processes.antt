@@ -1,7 +1,7 @@
--- Run, list and the commands that are done: what they answer and leave.
+-- Run, list, the commands and share that are done: what they answer and leave.
 use Prim.Native.Nat.{ℕ}
 use mathlib.Core.Path.{_≡_, refl, ap, _∙_, subst, subst⁻¹}
-use mathlib.Core.Bool.{Bool, true, false, cond}
+use mathlib.Core.Bool.{Bool, true, false, cond, _&&_}
 use mathlib.Core.List.{List}
 use lib.Dec.{eqb, leb}
 use lib.IntN.{pos}
@@ -10,18 +10,20 @@ use Rattle.buffer.specs.Buffer.{overwrite}
 use Rattle.buffer.specs.declared.Found.{Found}
 use Rattle.buffer.specs.declared.Found.the-variants.{At, Nowhere}
 use Rattle.disc.specs.Directory.{entryAt, lookup}
+use Rattle.store.specs.File.{unless}
 use Rattle.machine.specs.Answer.{Answer, Buffers, answer, commandAnswer, list, other, otherAnswer, runAt}
 use Rattle.machine.specs.Area.{kernelOf}
 use Rattle.machine.specs.Changed.{Starts}
-use Rattle.machine.specs.Done.{CommandDone, Commanded, ListDone, RunDone}
+use Rattle.machine.specs.Done.{CommandDone, Commanded, ListDone, RunDone, ShareDone}
 use Rattle.machine.specs.Fields.{HasId, nextId}
-use Rattle.machine.specs.Limits.{idLimit}
+use Rattle.machine.specs.Limits.{idLimit, maxShare}
 use Rattle.machine.specs.Operations.{Command, becomes, refused, suspend, resume, kill, changed, commandAt, commanded, listText}
+use Rattle.machine.specs.Operations.{shareAt, shared}
 use Rattle.machine.specs.Operations.{Commanded as Outcome}
 use Rattle.machine.specs.Refusals.{Passes, stateOf}
 use Rattle.machine.specs.Start.{started, startIn, starting, starts}
 use Rattle.machine.specs.Ended.{ended}
-use Rattle.machine.specs.State.{endedSlot, paused, processAt, running, slotOf, withProcess, withState}
+use Rattle.machine.specs.State.{endedSlot, paused, processAt, running, slotOf, withProcess, withShare, withState}
 use Rattle.machine.specs.declared.Kernel.{Kernel}
 use Rattle.machine.proofs.Changes.Change.{begins}
 use Rattle.machine.proofs.Changes.Replaced.{put-at}
@@ -33,8 +35,7 @@ use Rattle.machine.proofs.Fields.Listings.{list-text}
 use Rattle.machine.proofs.Fields.Slots.{next-is, slot-has-id}
 use Rattle.machine.proofs.Kept.Begins.{started-new, starting-begins}
 use Rattle.machine.proofs.Kept.OutsideKept.{outside-good}
-use Rattle.machine.proofs.Kept.OwnKept.{own-good}
-use Rattle.machine.proofs.Operations.Commanding.{command-own}
+use Rattle.machine.proofs.Operations.Commanding.{command-good, share-good}
 use Rattle.machine.proofs.Operations.Tests.{below-not-done, done-test, done-tests}
 
 pub run-done : RunDone
@@ -89,8 +90,7 @@ module _ (b : Buffers) (id n : ℕ) where
     unfolding k Did commanded
     becoming c j q h done =
         let good = passes-good (b .disc) (b .area) passes in
-        let o = command-own good c id j (ap (λ (f : Found). commandAt f c k) e ∙ q) in
-        let back = good-back j (b .disc) (own-good (o .0) k (b .disc) j good (o .2)) in
+        let back = good-back j (b .disc) (command-good good c id j (ap (λ (f : Found). commandAt f c k) e ∙ q)) in
         let zero : n ≡ 0 = cc in
         (zero, (i, slot-has-id passes id i e, subst⁻¹ (Commanded c i k) back h))
 
@@ -121,3 +121,28 @@ module _ (b : Buffers) (id n : ℕ) where
 pub command-done : CommandDone
 unfolding answer commanded k Did
 command-done b c id n = done-tests (Did b id n c) b n _ λ passes. at b id n passes (slotOf (stateOf b) id) refl c
+
+pub share-done : ShareDone
+unfolding answer shared
+share-done b id turns n = done-tests Did b n _ λ passes. go passes (slotOf k id) refl
+  where
+    k : Kernel
+    k = stateOf b
+
+    Did : Answer → Type 0
+    Did a = (n ≡ 0) × ((i : ℕ) × HasId (b .area) id i × (kernelOf (a .area) ≡ withProcess k i (withShare (processAt k i) turns)))
+
+    set : Passes (b .disc) (b .area) → (i : ℕ) → slotOf k id ≡ At i → (fit : Bool) → leb 1 turns && leb turns maxShare ≡ fit
+        → let r = unless fit (refused 22) (becomes (withProcess k i (withShare (processAt k i) turns))) in
+        commandAnswer r b .number ≡ pos n → Did (commandAnswer r b)
+    set passes i e false q = below-not-done
+    set passes i e true q = λ done.
+        let j = withProcess k i (withShare (processAt k i) turns) in
+        let back = good-back j (b .disc) (share-good (passes-good (b .disc) (b .area) passes) id turns j (rw (e, q))) in
+        let zero : n ≡ 0 = cc in
+        (zero, (i, slot-has-id passes id i e, back))
+
+    go : Passes (b .disc) (b .area) → (f : Found) → slotOf k id ≡ f → commandAnswer (shareAt f turns k) b .number ≡ pos n
+        → Did (commandAnswer (shareAt f turns k) b)
+    go passes Nowhere e = below-not-done
+    go passes (At i) e = set passes i e (leb 1 turns && leb turns maxShare) refl

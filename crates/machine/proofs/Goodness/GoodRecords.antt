@@ -11,7 +11,7 @@ use Rattle.buffer.proofs.Bools.{and-left, and-right, and-both, true-not-false}
 use Rattle.buffer.proofs.Lists.{same-eq, same-refl}
 use Rattle.disc.specs.declared.Entry.{Entry}
 use Rattle.machine.specs.GoodArea.{goodFile, goodId, goodLive, goodProcess, goodRegisters, isOpenIn, isProgram}
-use Rattle.machine.specs.Limits.{stackSize}
+use Rattle.machine.specs.Limits.{maxShare, stackSize}
 use Rattle.machine.specs.State.{isLive, noLoop}
 use Rattle.machine.specs.declared.OpenFile.{OpenFile}
 use Rattle.machine.specs.declared.Process.{Process}
@@ -19,7 +19,7 @@ use Rattle.buffer.proofs.Disjunctions.{or-cases, or-first, or-second}
 
 -- ---- the numbers of a live record
 pub record GoodRegisters (p : Process) : Type 0 where
-  pub spare : p .spare ≡ 0
+  pub share : p .share ≤ maxShare
   pub sp : p .sp ≤ stackSize
   pub pc : p .pc ≤ p .code .len
   pub loop : (p .loopstart ≡ noLoop) ⊎ (p .loopstart ≤ p .code .len)
@@ -27,11 +27,11 @@ pub record GoodRegisters (p : Process) : Type 0 where
 pub good-registers-is : (p : Process) → goodRegisters p ≡ true → GoodRegisters p
 unfolding goodRegisters
 good-registers-is p t =
-    let r = and-right (eqb (p .spare) 0) _ t in
+    let r = and-right (leb (p .share) maxShare) _ t in
     let s = and-right (leb (p .sp) stackSize) _ r in
     let u = and-right (leb (p .pc) (p .code .len)) _ s in
     record {
-      spare = eqb-true _ _ (and-left (eqb (p .spare) 0) _ t);
+      share = leb-true _ _ (and-left (leb (p .share) maxShare) _ t);
       sp = leb-true _ _ (and-left (leb (p .sp) stackSize) _ r);
       pc = leb-true _ _ (and-left (leb (p .pc) (p .code .len)) _ s);
       loop = ⊎-elim (λ e. inl (eqb-true _ _ e)) (λ e. inr (leb-true _ _ e)) (or-cases (eqb (p .loopstart) noLoop) _ u);
@@ -40,7 +40,7 @@ good-registers-is p t =
 pub is-good-registers : (p : Process) → GoodRegisters p → goodRegisters p ≡ true
 unfolding goodRegisters
 is-good-registers p g =
-    and-both (eq-eqb _ _ (g .spare))
+    and-both (le-leb _ _ (g .share))
     (and-both (le-leb _ _ (g .sp))
     (and-both (le-leb _ _ (g .pc))
     (⊎-elim (λ e. or-first (leb (p .loopstart) (p .code .len)) (eq-eqb _ _ e)) (λ e. or-second (eqb (p .loopstart) noLoop) (le-leb _ _ e))

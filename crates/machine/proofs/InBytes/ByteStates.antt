@@ -41,7 +41,7 @@ pub record ByteProcess (p : Process) : Type 0 where
   pub loopstart : IsWord (p .loopstart)
   pub file : ByteFile (p .file)
   pub sp : IsByte (p .sp)
-  pub spare : IsByte (p .spare)
+  pub share : IsByte (p .share)
   pub stack : Bytes (p .stack)
 
 pub record ByteVariable (e : Variable) : Type 0 where
@@ -83,7 +83,7 @@ process-of b h = record {
   loopstart = word-at b 22 h;
   file = record { start = word-at b 24 h; len = word-at b 26 h; offset = word-at b 28 h };
   sp = byte-at b 30 h;
-  spare = byte-at b 31 h;
+  share = byte-at b 31 h;
   stack = part-bytes b stackAt stackSize h;
 }
 
@@ -151,7 +151,7 @@ register-bytes p h = (
                                   low _,
                                   (
                                     high _ (h .file .offset),
-                                    (h .sp, (h .spare, tt)),
+                                    (h .sp, (h .share, tt)),
                                   ),
                                 ),
                               ),
@@ -209,7 +209,7 @@ no-process = record {
   loopstart = omega arith;
   file = record { start = omega arith; len = omega arith; offset = omega arith };
   sp = omega arith;
-  spare = omega arith;
+  share = omega arith;
   stack = tt;
 }
 

@@ -16,7 +16,7 @@ use Rattle.variable.proofs.Setting.{assigned-keeps, place-address}
 use Rattle.machine.specs.Limits.{stackSize}
 use Rattle.machine.specs.Start.{started, startedProcess}
 use Rattle.machine.specs.Ended.{ended, endedProcess}
-use Rattle.machine.specs.State.{Local, noFile, processAt, withFile, withLocal, withProcess, withState}
+use Rattle.machine.specs.State.{Local, noFile, processAt, withFile, withLocal, withProcess, withShare, withState}
 use Rattle.machine.specs.State.{withVariables}
 use Rattle.machine.specs.declared.Kernel.{Kernel}
 use Rattle.machine.specs.declared.OpenFile.{OpenFile}
@@ -46,7 +46,7 @@ module _ (p : Process) (h : ByteProcess p) where
     loopstart = b .loopstart;
     file = h .file;
     sp = omega (arith, b .size);
-    spare = h .spare;
+    share = h .share;
     stack = filled-bytes (l .stack) (stackSize - length (l .stack)) (b .stack);
   }
 
@@ -61,7 +61,7 @@ module _ (p : Process) (h : ByteProcess p) where
     loopstart = h .loopstart;
     file = b;
     sp = h .sp;
-    spare = h .spare;
+    share = h .share;
     stack = h .stack;
   }
 
@@ -76,7 +76,22 @@ module _ (p : Process) (h : ByteProcess p) where
     loopstart = h .loopstart;
     file = h .file;
     sp = h .sp;
-    spare = h .spare;
+    share = h .share;
+    stack = h .stack;
+  }
+
+  pub with-share : (share : ℕ) → IsByte share → ByteProcess (withShare p share)
+  with-share share b = record {
+    name = h .name;
+    id = h .id;
+    state = h .state;
+    fault = h .fault;
+    code = h .code;
+    pc = h .pc;
+    loopstart = h .loopstart;
+    file = h .file;
+    sp = h .sp;
+    share = b;
     stack = h .stack;
   }
 
@@ -94,7 +109,7 @@ ended-process p h fault b = record {
   loopstart = omega arith;
   file = no-file;
   sp = omega arith;
-  spare = omega arith;
+  share = omega arith;
   stack = zeros-bytes stackSize;
 }
 
@@ -114,7 +129,7 @@ started-process e h id b = record {
   loopstart = omega arith;
   file = no-file;
   sp = omega arith;
-  spare = omega arith;
+  share = omega arith;
   stack = zeros-bytes stackSize;
 }
 

@@ -10,6 +10,7 @@ use Rattle.buffer.specs.Buffer.{overwrite}
 use Rattle.buffer.specs.Lists.{flat, keep}
 use Rattle.buffer.specs.declared.Found.{Found}
 use Rattle.buffer.specs.declared.Found.the-variants.{At, Nowhere}
+use borrow.Author.Tests.{leb-true}
 use Rattle.buffer.proofs.Bools.{and-right}
 use Rattle.decimal.specs.Decimal.{decimal}
 use Rattle.disc.specs.Directory.{contents, entryAt, fileCount, files as entries, isDiscLength, lookup, runOf}
@@ -22,17 +23,16 @@ use Rattle.store.specs.declared.Refusal.the-variants.{ShortOutput}
 use Rattle.store.proofs.Calls.{store-cases}
 use Rattle.store.proofs.Checks.{by-checks}
 use Rattle.machine.specs.Answer.{Answer, Buffers, Other, store, retrieve, erase, files, freeSpace, list, Call, turn, round}
-use Rattle.machine.specs.Answer.{command, run, other, answer, bootAnswer, booted, commandAnswer, done, eraseAt, formatAnswer, onDisc}
+use Rattle.machine.specs.Answer.{command, share, run, other, answer, bootAnswer, booted, commandAnswer, done, eraseAt, formatAnswer, onDisc}
 use Rattle.machine.specs.Answer.{onGood, otherAnswer, refused, runAt}
 use Rattle.machine.specs.Area.{AreBytes, isAreaLength, kernelOf}
 use Rattle.machine.specs.Demands.{StaysBytes, given, givenOther}
-use Rattle.machine.specs.Limits.{areaLength, nextAt, roundRoom, slotCount, turnRoom}
+use Rattle.machine.specs.Limits.{areaLength, maxShare, nextAt, roundRoom, slotCount, turnRoom}
 use Rattle.machine.specs.Operations.{Command, suspend, resume, kill, Commanded, becomes, refused as declined, changed, commandAt}
-use Rattle.machine.specs.Operations.{commanded, inUse, listText, processLine, slots}
-use Rattle.machine.specs.Operations.{turnsOf}
+use Rattle.machine.specs.Operations.{commanded, inUse, listText, processLine, roundOf, shareAt, shared}
 use Rattle.machine.specs.Refusals.{Passes}
 use Rattle.machine.specs.Start.{Starting, starts, refuses, started, starting}
-use Rattle.machine.specs.State.{isLive, isRunning, paused, processAt, running, slotOf, withProcess, withState}
+use Rattle.machine.specs.State.{isLive, isRunning, paused, processAt, running, slotOf, withProcess, withShare, withState}
 use Rattle.machine.specs.Turn.{turned}
 use Rattle.machine.specs.declared.Kernel.{Kernel}
 use Rattle.machine.specs.declared.Process.{Process}
@@ -43,9 +43,9 @@ use Rattle.machine.proofs.InBytes.ByteDiscs.{contents-bytes, entry-at, 
 use Rattle.machine.proofs.Bytes.ByteLists.{Bytes, IsByte, append-bytes, are-bytes, bytes-of, decimal-bytes, one-byte}
 use Rattle.machine.proofs.Bytes.ByteLists.{overwrite-bytes, trimmed-bytes, zeros-bytes}
 use Rattle.machine.proofs.InBytes.ByteStates.{ByteKernel, ByteProcess, kernel-bytes, kernel-of, process-at}
-use Rattle.machine.proofs.InBytes.ByteSteps.{ByteEntry, ended-bytes, with-process, with-state}
+use Rattle.machine.proofs.InBytes.ByteSteps.{ByteEntry, ended-bytes, with-process, with-share, with-state}
 use Rattle.machine.proofs.Bytes.Each.{Each, each-flat, each-keep, each-set, each-tab}
-use Rattle.machine.proofs.InBytes.TurnBytes.{turned-bytes, turns-bytes}
+use Rattle.machine.proofs.InBytes.TurnBytes.{round-bytes, turned-bytes}
 use Rattle.machine.proofs.Operations.Tests.{on-tests, tried}
 
 -- ---- lines of listings
@@ -68,7 +68,7 @@ file-line e h =
     (decimal-bytes (e .len)))
     (one-byte 10 (omega arith))
 
--- ---- suspend, resume and kill
+-- ---- suspend, resume, kill and share
 abbrev ByteCommanded : Commanded → Type 0
 ByteCommanded (declined n) = Unit {0}
 ByteCommanded (becomes k) = ByteKernel k
@@ -90,6 +90,21 @@ module _ (k : Kernel) (h : ByteKernel k) where
       go (At slot) suspend = changed-bytes slot paused (omega arith)
       go (At slot) resume = changed-bytes slot running (omega arith)
       go (At slot) kill = ended-bytes k h slot 0 (omega arith)
+
+  shared-bytes : (id turns : ℕ) → ByteCommanded (shared id turns k)
+  unfolding shared
+  shared-bytes id turns = go (slotOf k id)
+    where
+      at : (slot : ℕ) (f : Bool) → leb 1 turns && leb turns maxShare ≡ f
+          → ByteCommanded (unless f (declined 22) (becomes (withProcess k slot (withShare (processAt k slot) turns))))
+      at slot true e =
+          let few = leb-true turns maxShare (and-right (leb 1 turns) _ e) in
+          with-process k h slot _ (with-share (processAt k slot) (process-at k h slot) turns (omega (arith, few)))
+      at slot false e = tt
+
+      go : (f : Found) → ByteCommanded (shareAt f turns k)
+      go Nowhere = tt
+      go (At slot) = at slot (leb 1 turns && leb turns maxShare) refl
 
 module _ (b : Buffers) (hd : Bytes (b .disc)) (ha : Bytes (b .area)) (ho : Bytes (b .out)) where
   abbrev Left : Answer → Type 0
@@ -196,10 +211,11 @@ module _ (b : Buffers) (hd : Bytes (b .disc)) (ha : Bytes (b .area)) (ho : Bytes
   call-bytes (round clock) g =
       both _ λ p.
       tried Left b (leb roundRoom (length (b .out))) 4 _ (same 4) λ fit.
-      let t = turns-bytes slots k clock (b .disc) (good p) hk hd in
-      done-bytes 0 (turnsOf slots k clock (b .disc) .kernel) (turnsOf slots k clock (b .disc) .disc) (turnsOf slots k clock (b .disc) .out)
+      let t = round-bytes k clock (b .disc) (good p) hk hd in
+      done-bytes 0 (roundOf k clock (b .disc) .kernel) (roundOf k clock (b .disc) .disc) (roundOf k clock (b .disc) .out)
       (t .kernel) (t .disc) (t .out)
   call-bytes (command c id) g = both _ λ p. command-bytes (commanded c id k) (commanded-bytes k hk c id)
+  call-bytes (share id turns) g = both _ λ p. command-bytes (shared id turns k) (shared-bytes k hk id turns)
   call-bytes (run name) g = both _ λ p. run-bytes p name (starting k (b .disc) name) refl
   call-bytes (other o) g = other-bytes o g
 

@@ -4,7 +4,7 @@ use mathlib.Core.Path.{_≡_, refl}
 use mathlib.Core.Bool.{Bool, true, false, cond}
 use mathlib.Core.List.{List, [], _∷_}
 use native.Mathlib.Omega.{arith}
-use lib.ListN.{length}
+use lib.ListN.{length, replicate}
 use Rattle.variable.specs.Assign.{assigned, valueOf}
 use Rattle.variable.specs.Limits.{valueSize}
 use Rattle.variable.specs.Table.{owned}
@@ -14,14 +14,14 @@ use Rattle.variable.specs.declared.Variables.{Variables}
 use Rattle.variable.proofs.Goodness.{good-size-bounds}
 use Rattle.machine.specs.Beyond.{Answered, carriesOn, breaks, answered}
 use Rattle.machine.specs.Effect.{Effect, goes, assigns, stops, faults, asks}
-use Rattle.machine.specs.Operations.{turnIfRunning, turnsOf}
+use Rattle.machine.specs.Operations.{inOrder, roundOf, shareOfTurns, slots, turnIfRunning, turnsDue}
 use Rattle.machine.specs.State.{Local, isRunning, localOf, processAt, withLocal, withProcess}
 use Rattle.machine.specs.Turn.{Turned, answering, carriedOut, effectAt, finished, programOf, setting, turned}
 use Rattle.machine.specs.declared.Kernel.{Kernel}
 use Rattle.machine.specs.declared.Process.{Process}
 use Rattle.machine.proofs.Changes.Change.{GoodState}
 use Rattle.machine.proofs.Changes.LiveRecords.{running-live, within-local}
-use Rattle.machine.proofs.Demands.GoodCalls.{turn-if-running-good}
+use Rattle.machine.proofs.Demands.GoodCalls.{KeepsGood, share-of-turns-good, turn-if-running-good}
 use Rattle.machine.proofs.InBytes.AnswerBytes.{ByteAnswered, answer-bytes, local-bytes}
 use Rattle.machine.proofs.InBytes.ByteDiscs.{contents-bytes}
 use Rattle.machine.proofs.Bytes.ByteLists.{Bytes, IsByte, append-bytes, filled-bytes, take-bytes}
@@ -103,16 +103,33 @@ if-running-bytes k slot clock disc good h d = go (isRunning (processAt k slot)) 
     go true e = turned-bytes k slot disc good h d e clock
     go false e = record { kernel = h; disc = d; out = tt }
 
-pub turns-bytes : (l : List ℕ) (k : Kernel) (clock : ℕ) (disc : List ℕ) → GoodState k disc → ByteKernel k → Bytes disc
-    → ByteTurned (turnsOf l k clock disc)
-unfolding turnsOf Each
-turns-bytes [] k clock disc good h d = record { kernel = h; disc = d; out = tt }
-turns-bytes (slot ∷ l) k clock disc good h d =
-    let t : Turned = turnIfRunning k slot clock disc in
-    let b = if-running-bytes k slot clock disc good h d in
-    let c = turns-bytes l (t .kernel) clock (t .disc) (turn-if-running-good k slot clock disc good) (b .kernel) (b .disc) in
+abbrev LeavesBytes : (Kernel → ℕ → ℕ → List ℕ → Turned) → Type 0
+LeavesBytes each =
+    (k : Kernel) (slot clock : ℕ) (disc : List ℕ) → GoodState k disc → ByteKernel k → Bytes disc → ByteTurned (each k slot clock disc)
+
+in-order-bytes : (each : Kernel → ℕ → ℕ → List ℕ → Turned) → KeepsGood each → LeavesBytes each → (l : List ℕ) (k : Kernel) (clock : ℕ)
+    (disc : List ℕ)
+    → GoodState k disc
+    → ByteKernel k
+    → Bytes disc
+    → ByteTurned (inOrder each l k clock disc)
+unfolding inOrder Each
+in-order-bytes each keeps leaves [] k clock disc good h d = record { kernel = h; disc = d; out = tt }
+in-order-bytes each keeps leaves (slot ∷ l) k clock disc good h d =
+    let t : Turned = each k slot clock disc in
+    let b = leaves k slot clock disc good h d in
+    let c = in-order-bytes each keeps leaves l (t .kernel) clock (t .disc) (keeps k slot clock disc good) (b .kernel) (b .disc) in
     record {
       kernel = c .kernel;
       disc = c .disc;
-      out = append-bytes (t .out) (turnsOf l (t .kernel) clock (t .disc) .out) (b .out) (c .out);
+      out = append-bytes (t .out) (inOrder each l (t .kernel) clock (t .disc) .out) (b .out) (c .out);
     }
+
+share-bytes : LeavesBytes shareOfTurns
+unfolding shareOfTurns
+share-bytes k slot clock disc good h d =
+    in-order-bytes turnIfRunning turn-if-running-good if-running-bytes (replicate (turnsDue (processAt k slot)) slot) k clock disc good h d
+
+pub round-bytes : (k : Kernel) (clock : ℕ) (disc : List ℕ) → GoodState k disc → ByteKernel k → Bytes disc
+    → ByteTurned (roundOf k clock disc)
+round-bytes = in-order-bytes shareOfTurns share-of-turns-good share-bytes slots

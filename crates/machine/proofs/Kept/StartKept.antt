@@ -42,7 +42,7 @@ module _ {name : List ℕ} {k : Kernel} {disc : List ℕ} {slot : ℕ} {e : Entr
       (record {
         low = area .header .low;
         given = omega arith;
-        registers = record { spare = refl; sp = omega arith; pc = omega arith; loop = inl refl };
+        registers = record { share = omega arith; sp = omega arith; pc = omega arith; loop = inl refl };
         program = is-listed (isProgram (startedProcess e (k .next))) disc (b .file) (lookup-at disc name (b .file) (b .found) .inside)
             (is-program (startedProcess e (k .next)) (entryAt disc (b .file))
             (record {

@@ -21,12 +21,12 @@ use Rattle.store.specs.declared.Refusal.the-variants.{ShortOutput}
 use Rattle.store.proofs.Checks.{by-checks}
 use Rattle.variable.proofs.Views.{take-bound}
 use Rattle.machine.specs.Answer.{Answer, Buffers, Other, store, retrieve, erase, files, freeSpace, list, Call, turn, round}
-use Rattle.machine.specs.Answer.{command, run, other, answer, bootAnswer, commandAnswer, eraseAt, formatAnswer, onGood, otherAnswer}
+use Rattle.machine.specs.Answer.{command, share, run, other, answer, bootAnswer, commandAnswer, eraseAt, formatAnswer, onGood, otherAnswer}
 use Rattle.machine.specs.Answer.{refused, runAt}
 use Rattle.machine.specs.Area.{isAreaLength, kernelOf}
 use Rattle.machine.specs.LeftAlone.{Keeps, SameArea, SameDisc, SameOut}
 use Rattle.machine.specs.Limits.{roundRoom, slotCount, turnRoom}
-use Rattle.machine.specs.Operations.{Commanded, becomes, refused as declined, commanded, inUse, listText, slots, turnsOf}
+use Rattle.machine.specs.Operations.{Commanded, becomes, refused as declined, commanded, inUse, listText, roundOf, shared}
 use Rattle.machine.specs.Start.{Starting, starts, refuses, starting}
 use Rattle.machine.specs.State.{isRunning, processAt}
 use Rattle.machine.specs.Turn.{turned}
@@ -110,6 +110,10 @@ module _ (b : Buffers) where
       (tried (Leaves (other list)) b (leb (length (listText k)) (length (b .out))) 4 _ ((refl, refl), still _) λ fit.
       ((refl, refl), wrote (length (listText k)) (listText k) (le-refl (length (listText k)))))
 
+  commanded-leaves : (r : Commanded) → let a = commandAnswer r b in (SameDisc a b × SameOut a b) × Behind (a .number) (a .out)
+  commanded-leaves (declined n) = ((refl, refl), still _)
+  commanded-leaves (becomes j) = ((refl, refl), still _)
+
   pub call-leaves : (c : Call) → Leaves c (answer c b)
   unfolding answer k
   call-leaves (turn slot clock) =
@@ -119,15 +123,12 @@ module _ (b : Buffers) where
       tried (Leaves (turn slot clock)) b (ltb slot slotCount && isRunning (processAt k slot)) 16 _ (tt, still _) λ may.
       (tt, wrote (length text) text (le-refl (length text))))
   call-leaves (round clock) =
-      let text : List ℕ = turnsOf slots k clock (b .disc) .out in
+      let text : List ℕ = roundOf k clock (b .disc) .out in
       both (round clock) _ (λ n. tt)
       (tried (Leaves (round clock)) b (leb roundRoom (length (b .out))) 4 _ (tt, still _) λ fit.
       (tt, wrote (length text) text (le-refl (length text))))
-  call-leaves (command c id) = both (command c id) _ (λ n. (refl, refl)) (given (commanded c id k))
-    where
-      given : (r : Commanded) → Leaves (command c id) (commandAnswer r b)
-      given (declined n) = ((refl, refl), still _)
-      given (becomes j) = ((refl, refl), still _)
+  call-leaves (command c id) = both (command c id) _ (λ n. (refl, refl)) (commanded-leaves (commanded c id k))
+  call-leaves (share id turns) = both (share id turns) _ (λ n. (refl, refl)) (commanded-leaves (shared id turns k))
   call-leaves (run name) = both (run name) _ (λ n. (refl, refl)) (placed (starting k (b .disc) name))
     where
       placed : (s : Starting) → Leaves (run name) (runAt s k b)
@@ -135,7 +136,7 @@ module _ (b : Buffers) where
       placed (starts slot e) = ((refl, refl), still _)
   call-leaves (other o) = other-leaves o
 
-  -- no operation but a turn, a round, a command and run touches the area
+  -- no operation but a turn, a round, a command, share and run touches the area
   pub other-area : (o : Other) → SameArea (answer (other o) b) b
   other-area (store name bytes) = call-leaves (other (store name bytes)) .0 .0
   other-area (retrieve name) = call-leaves (other (retrieve name)) .0 .1

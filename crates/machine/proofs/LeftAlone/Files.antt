@@ -26,7 +26,7 @@ use Rattle.store.proofs.Contents.{erased-contents, written-other-file}
 use Rattle.store.proofs.Effects.{stored-contents}
 use Rattle.store.proofs.Invariant.{file-inside, present}
 use Rattle.machine.specs.Answer.{Answer, Buffers, Other, store, retrieve, erase, files, freeSpace, list, Call, turn, round}
-use Rattle.machine.specs.Answer.{command, run, other, answer, eraseAt, otherAnswer}
+use Rattle.machine.specs.Answer.{command, share, run, other, answer, eraseAt, otherAnswer}
 use Rattle.machine.specs.Area.{kernelOf}
 use Rattle.machine.specs.AtPc.{byteAhead, processIn}
 use Rattle.machine.specs.Beyond.{fileRun}
@@ -193,5 +193,6 @@ module _ (b : Buffers) (name : List ℕ) (i : ℕ) (n : Named (b .disc) name i) 
   files-kept (turn slot clock) far = turn-remains slot clock far
   files-kept (round clock) far = absurd (far tt)
   files-kept (command c id) far = same-disc n (call-leaves b (command c id) .0 .0)
+  files-kept (share id turns) far = same-disc n (call-leaves b (share id turns) .0 .0)
   files-kept (run title) far = same-disc n (call-leaves b (run title) .0 .0)
   files-kept (other o) far = other-remains o far

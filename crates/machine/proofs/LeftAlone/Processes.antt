@@ -5,7 +5,7 @@ use mathlib.Core.Bool.{true, false}
 use mathlib.Core.List.{List}
 use mathlib.Core.Logic.{_⊎_, inl, inr}
 use Rattle.variable.specs.Table.{owned}
-use Rattle.machine.specs.Answer.{Answer, Buffers, Call, turn, round, command, run, other, answer, onGood}
+use Rattle.machine.specs.Answer.{Answer, Buffers, Call, turn, round, command, share, run, other, answer, onGood}
 use Rattle.machine.specs.Area.{kernelOf}
 use Rattle.machine.specs.AtPc.{processIn}
 use Rattle.machine.specs.LeftAlone.{Concerns}
@@ -55,5 +55,7 @@ module _ (b : Buffers) (own : ℕ) (live : isLive (processIn b own) ≡ true) wh
   processes-kept (round clock) far = absurd (far tt)
   processes-kept (command c id) far =
       untouched (command c id) refl (record { turns = tt; commands = λ e. far (slot-at (stateOf b) id own e .2) }) (bad-area _)
+  processes-kept (share id turns) far =
+      untouched (share id turns) refl (record { turns = tt; commands = λ e. far (slot-at (stateOf b) id own e .2) }) (bad-area _)
   processes-kept (run name) far = untouched (run name) refl (record { turns = tt; commands = tt }) (bad-area _)
   processes-kept (other o) far = same-area (answer (other o) b .area) (other-area b o)

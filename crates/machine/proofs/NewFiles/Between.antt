@@ -1,4 +1,5 @@
--- Whatever comes between leaves the process as OPEN left it, but for its state, and the bytes of its open file; or the process ends.
+-- Whatever comes between leaves the process as OPEN left it, but for its state and its share, and the bytes of its open file; or the process
+-- ends.
 use Prim.Native.Nat.{ℕ, _≤_, _<_}
 use mathlib.Core.Path.{_≡_, refl, sym, ap, subst, subst⁻¹, _∙_}
 use mathlib.Core.Bool.{Bool, true, false, _||_, cond, not}
@@ -13,16 +14,17 @@ use Rattle.buffer.specs.declared.Found.the-variants.{At}
 use Rattle.buffer.proofs.Bools.{and-both, and-false-right, and-left, and-right, true-not-false}
 use Rattle.buffer.proofs.Disjunctions.{or-false-left, or-false-right}
 use Rattle.disc.specs.Directory.{contents, files}
-use Rattle.machine.specs.Answer.{Answer, Buffers, Call, turn, round, command, run, other, answer, commandAnswer}
+use Rattle.machine.specs.Answer.{Answer, Buffers, Call, turn, round, command, share, run, other, answer, commandAnswer}
 use Rattle.machine.specs.Area.{kernelBytes, kernelOf}
 use Rattle.machine.specs.Beyond.{fileRun}
 use Rattle.machine.specs.Ended.{ended}
 use Rattle.machine.specs.Limits.{slotCount, turnRoom}
 use Rattle.machine.specs.NewFile.{NoneInterferes, interferes, turnInterferes}
 use Rattle.machine.specs.Observation.{placeIn}
-use Rattle.machine.specs.Operations.{Command, becomes, refused as denied, suspend, resume, kill, changed, commandAt, commanded}
+use Rattle.machine.specs.Operations.{Command, Commanded, becomes, refused as denied, suspend, resume, kill, changed, commandAt, commanded}
+use Rattle.machine.specs.Operations.{shared}
 use Rattle.machine.specs.Refusals.{Passes}
-use Rattle.machine.specs.State.{isLive, isRunning, paused, processAt, running, slotOf, withProcess, withState}
+use Rattle.machine.specs.State.{isLive, isRunning, paused, processAt, running, slotOf, withProcess, withShare, withState}
 use Rattle.machine.specs.Suppositions.{isDoneBy, writeLands}
 use Rattle.machine.specs.Trace.{Event, Storage, event, lending}
 use Rattle.machine.specs.declared.Kernel.{Kernel}
@@ -38,18 +40,17 @@ use Rattle.machine.proofs.Demands.Rounds.{turn-not-running, turn-runnin
 use Rattle.machine.proofs.Kept.ChangeKept.{NoWriteInto}
 use Rattle.machine.proofs.Kept.Gone.{Gone}
 use Rattle.machine.proofs.Kept.OwnEnd.{ended-gone}
-use Rattle.machine.proofs.Kept.OwnKept.{own-good}
-use Rattle.machine.proofs.Operations.Commanding.{command-own}
+use Rattle.machine.proofs.Operations.Commanding.{command-good, share-good, share-is}
 use Rattle.machine.proofs.Operations.FileAnswers.{opened-of}
 use Rattle.machine.proofs.Traces.CallEffects.{Elsewhere, Unwritten, call-effects, effects-contents, effects-gone}
 use Rattle.machine.proofs.Traces.CallEffects.{effects-untouched, isRound}
 use Rattle.machine.proofs.Traces.Chains.{Chain, Genuine}
 use Rattle.machine.proofs.Traces.Stepping.{Reports}
 
--- the process i, in that slot, is p but for its state, and its open file holds these bytes; or it has ended
+-- the process i, in that slot, is p but for its state and share, and its open file holds these bytes; or it has ended
 pub data Waits (i slot : ℕ) (p : Process) (bytes : List ℕ) (k : Kernel) (disc : List ℕ) : Type 0 where
-  on : (state : ℕ) → processAt k slot ≡ withState p state → isLive (processAt k slot) ≡ true → contents disc (fileRun (p .file)) ≡ bytes
-      → Waits i slot p bytes k disc
+  on : (state share : ℕ) → processAt k slot ≡ withShare (withState p state) share → isLive (processAt k slot) ≡ true
+      → contents disc (fileRun (p .file)) ≡ bytes → Waits i slot p bytes k disc
   off : Gone i k → Waits i slot p bytes k disc
 
 module _ (i slot : ℕ) (p : Process) (bytes : List ℕ) (named : p .id ≡ i) (some : 1 ≤ p .file .len) where
@@ -70,10 +71,10 @@ module _ (i slot : ℕ) (p : Process) (bytes : List ℕ) (named : p .id ≡ i) (
     abbrev Left : Answer → Type 0
     Left a = Kept (kernelOf (a .area)) (a .disc)
 
-    module _ (state : ℕ) (here : processAt k slot ≡ withState p state) (live : isLive (processAt k slot) ≡ true)
+    module _ (state turns : ℕ) (here : processAt k slot ≡ withShare (withState p state) turns) (live : isLive (processAt k slot) ≡ true)
         (held : contents (s .disc) (fileRun (p .file)) ≡ bytes) where
       as-it-was : Kept k (s .disc)
-      as-it-was = on state here live held
+      as-it-was = on state turns here live held
 
       id-here : processAt k slot .id ≡ i
       id-here = ap (λ (q : Process). q .id) here ∙ named
@@ -97,7 +98,7 @@ module _ (i slot : ℕ) (p : Process) (bytes : List ℕ) (named : p .id ≡ i) (
       others c h away safe =
           let e = call-effects s out passes c h in
           let same = effects-untouched good slot live c away e .process in
-          on state (same ∙ here) (ap isLive same ∙ live) (effects-contents good file c safe e ∙ held)
+          on state turns (same ∙ here) (ap isLive same ∙ live) (effects-contents good file c safe e ∙ held)
 
       -- ---- its own commands
       written : (j : Kernel) → GoodState j (s .disc) → Kept j (s .disc) → Kept (kernelOf (kernelBytes j)) (s .disc)
@@ -106,8 +107,7 @@ module _ (i slot : ℕ) (p : Process) (bytes : List ℕ) (named : p .id ≡ i) (
       becoming : (c : Command) (j : Kernel) → commandAt (At slot) c k ≡ becomes j → Kept j (s .disc) → Left (commandAnswer (becomes j) b)
       unfolding commanded
       becoming c j e w =
-          let o = command-own good c i j (subst⁻¹ (λ (f : Found). commandAt f c k ≡ becomes j) slot-here e) in
-          written j (own-good (o .0) k (s .disc) j good (o .2)) w
+          written j (command-good good c i j (subst⁻¹ (λ (f : Found). commandAt f c k ≡ becomes j) slot-here e)) w
 
       changes : (c : Command) (new : ℕ) → isLive (withState (processAt k slot) new) ≡ true → commandAt (At slot) c k ≡ changed k slot new
           → Left (commandAnswer (changed k slot new) b)
@@ -124,7 +124,7 @@ module _ (i slot : ℕ) (p : Process) (bytes : List ℕ) (named : p .id ≡ i) (
           go true e = as-it-was
           go false e =
               becoming c (withProcess k slot q) e
-              (on new (put ∙ ap (λ (r : Process). withState r new) here) (ap isLive put ∙ h) held)
+              (on new turns (put ∙ ap (λ (r : Process). withState r new) here) (ap isLive put ∙ h) held)
 
       killed : Kept (ended k slot 0) (s .disc)
       unfolding ended
@@ -142,6 +142,24 @@ module _ (i slot : ℕ) (p : Process) (bytes : List ℕ) (named : p .id ≡ i) (
           go suspend = changes suspend paused refl refl
           go resume = changes resume running refl refl
           go kill = becoming kill (ended k slot 0) refl killed
+
+      -- ---- its own share
+      own-share : (new : ℕ) → Left (answer (share i new) b)
+      unfolding answer
+      own-share new = subst⁻¹ Left (on-good b _ passes) (go (shared i new k) refl)
+        where
+          go : (r : Commanded) → shared i new k ≡ r → Left (commandAnswer r b)
+          go (denied n) e = as-it-was
+          go (becomes j) e =
+              let y = share-is k i new j e in
+              let found : At (y .slot) ≡ At slot = sym (y .found) ∙ slot-here in
+              let here-too : y .slot ≡ slot = cc in
+              let q : Process = withShare (processAt k slot) new in
+              let put : processAt (withProcess k slot q) slot ≡ q = put-at k slot q live in
+              written j (share-good good i new j e)
+              (subst⁻¹ (λ (x : Kernel). Kept x (s .disc))
+              (y .after ∙ ap (λ (n : ℕ). withProcess k n (withShare (processAt k n) new)) here-too)
+              (on state new (put ∙ ap (λ (r : Process). withShare r new) here) (ap isLive put ∙ live) held))
 
       -- ---- turns
       module _ (at clock : ℕ) (room : leb turnRoom (length out) ≡ true) (text : List ℕ) where
@@ -196,17 +214,26 @@ module _ (i slot : ℕ) (p : Process) (bytes : List ℕ) (named : p .id ≡ i) (
           go false q = others (command c id) refl
               (record { turns = tt; commands = λ at. eqb-false id i q (sym (slot-at k id slot at .2) ∙ id-here) }) tt
 
+      any-share : (id new : ℕ) → Left (answer (share id new) b)
+      any-share id new = go (eqb id i) refl
+        where
+          go : (f : Bool) → eqb id i ≡ f → Left (answer (share id new) b)
+          go true q = subst⁻¹ (λ (n : ℕ). Left (answer (share n new) b)) (eqb-true id i q) (own-share new)
+          go false q = others (share id new) refl
+              (record { turns = tt; commands = λ at. eqb-false id i q (sym (slot-at k id slot at .2) ∙ id-here) }) tt
+
       one-call : (c : Call) (text : List ℕ) → Reports c out (answer c b) text → interferes i c (event c s (answer c b) text) ≡ false
           → Left (answer c b)
       one-call (turn at clock) text r h = any-turn at clock (r .turns .0) text h
       one-call (command c id) text r h = any-command c id
+      one-call (share id new) text r h = any-share id new
       one-call (round clock) text r h = absurd (true-not-false refl (r .single))
       one-call (run name) text r h = others (run name) refl (record { turns = tt; commands = tt }) tt
       one-call (other o) text r h = others (other o) refl (record { turns = tt; commands = tt }) tt
 
     step : (c : Call) (text : List ℕ) → Reports c out (answer c b) text → interferes i c (event c s (answer c b) text) ≡ false
         → Kept k (s .disc) → Left (answer c b)
-    step c text r h (on state here live held) = one-call state here live held c text r h
+    step c text r h (on state turns here live held) = one-call state turns here live held c text r h
     step c text r h (off gone) = off (effects-gone good i c gone (call-effects s out passes c (r .single)))
 
   -- ---- the events between

@@ -14,7 +14,7 @@ use Rattle.machine.specs.Area.{kernelOf}
 use Rattle.machine.specs.Beyond.{fileRun}
 use Rattle.machine.specs.NewFile.{Executes, NewFileReadsEmpty, OpensNew, ReadsEmpty, withEmptyString}
 use Rattle.machine.specs.Refusals.{MayTurn}
-use Rattle.machine.specs.State.{processAt, running, withState}
+use Rattle.machine.specs.State.{processAt, running, withShare, withState}
 use Rattle.machine.specs.Suppositions.{isDoneBy, processIn}
 use Rattle.machine.specs.Trace.{Event, event, lending}
 use Rattle.machine.specs.Turn.{Turned, turned}
@@ -98,14 +98,15 @@ module _ {i slot : ℕ} (opening reading : Event) (g : Genuine reading) (x : Exe
   t : Took reading slot (x .clock)
   t = took g x
 
-  reads : processAt k slot ≡ p → contents (reading .before .disc) (fileRun (p .file)) ≡ zeros (p .file .len)
+  reads : (share : ℕ) → processAt k slot ≡ withShare p share → contents (reading .before .disc) (fileRun (p .file)) ≡ zeros (p .file .len)
       → ReadsEmpty slot opening reading
-  reads same held =
+  reads share same held =
       let fresh : Fresh i (processAt k slot) (reading .before .disc) =
       subst⁻¹ (λ (q : Process). Fresh i q (reading .before .disc)) same
       (record { named = f .named; runs = f .runs; some = f .some; first = f .first; holds = held; room = f .room }) in
       let q = read-empty k slot (x .clock) (reading .before .disc) fresh (x .found) in
       record {
+        share = share;
         before = same;
         after = ap (λ (j : Kernel). processAt j slot) (t .kernel ∙ ap (λ (u : Turned). u .kernel) q)
             ∙ put-at k slot (withEmptyString (processAt k slot)) (running-live (processAt k slot) (t .may .running));
@@ -116,11 +117,11 @@ module _ {i slot : ℕ} (opening reading : Event) (g : Genuine reading) (x : Exe
   -- a process that has waited is running when READSTRING comes, as it was after OPEN
   pub waited-reads : Waits i slot p (zeros (p .file .len)) k (reading .before .disc) → ReadsEmpty slot opening reading
   waited-reads (off gone) = absurd (no-place (sym (sym (place-is-slot (reading .before) i) ∙ x .own) ∙ gone .none))
-  waited-reads (on state here live held) =
+  waited-reads (on state share here live held) =
       let now : state ≡ running =
       sym (ap (λ (q : Process). q .state) here) ∙ eqb-true _ running (t .may .running) in
       let state-same : state ≡ p .state = now ∙ sym (eqb-true _ running (f .runs)) in
-      reads (here ∙ ap (withState p) state-same) held
+      reads share (here ∙ ap (λ (n : ℕ). withShare (withState p n) share) state-same) held
 
 -- ---- the theorem
 -- an event of a run is reached on good buffers, and the rest follows on what it leaves
@@ -138,5 +139,5 @@ new-file-reads-empty s calls i slot earlier opening between reading later passes
     let p : Process = processIn (opening .after) slot in
     let f = opened-fresh (c .0) creates in
     let w = waits-until i slot p (zeros (p .file .len)) (f .named) (f .some) (kernelOf (opening .after .area)) (opening .after .disc)
-    between reading later (c .1) none (on (p .state) refl (running-live p (f .runs)) (f .holds)) in
+    between reading later (c .1) none (on (p .state) (p .share) refl (running-live p (f .runs)) (f .holds)) in
     waited-reads opening reading (w .1) reads f (w .0)

@@ -48,7 +48,7 @@ module _ {k : Kernel} {disc : List ℕ} (good : GoodState k disc) (slot : ℕ) (
 
       registers : GoodRegisters (withFile (withLocal p l) f)
       registers = record {
-        spare = live-record good slot live .registers .spare;
+        share = live-record good slot live .registers .share;
         sp = within .stack;
         pc = in-record .pc;
         loop = in-record .loop;

@@ -11,7 +11,7 @@ use Rattle.buffer.proofs.Bools.{true-not-false}
 use Rattle.disc.specs.Directory.{goodDisc, isDiscLength}
 use Rattle.store.specs.File.{unless}
 use Rattle.machine.specs.Answer.{Answer, Buffers, Other, store, retrieve, erase, files, freeSpace, list, Call, turn, round}
-use Rattle.machine.specs.Answer.{command, run, other}
+use Rattle.machine.specs.Answer.{command, share, run, other}
 use Rattle.machine.specs.Answer.{answer, goodArea, onGood, otherAnswer, refused}
 use Rattle.machine.specs.Area.{isAreaLength, kernelOf}
 use Rattle.machine.specs.Isolation.{givesOut}
@@ -99,6 +99,7 @@ module _ (s : Storage) (out : List ℕ) (bad : Passes (s .disc) (s .area) → �
   bad-linked (round clock) =
       subst⁻¹ (λ (a : Answer). Linked (roundEvents (a .number) clock s (outputText a) ++ later)) (bad-refused b _ bad .1) l
   bad-linked (command c id) = bad-event (command c id) _ []
+  bad-linked (share id turns) = bad-event (share id turns) _ []
   bad-linked (run name) = bad-event (run name) _ []
   bad-linked (other o) = other-linked o
 

@@ -18,12 +18,12 @@ use Rattle.disc.proofs.Lookups.{lookup-at}
 use Rattle.store.proofs.Calls.{store-cases}
 use Rattle.variable.specs.Table.{owned}
 use Rattle.machine.specs.Answer.{Answer, Buffers, Other, store, retrieve, erase, files, freeSpace, list, Call, turn, round}
-use Rattle.machine.specs.Answer.{command, run, other}
+use Rattle.machine.specs.Answer.{command, share, run, other}
 use Rattle.machine.specs.Answer.{answer, commandAnswer, eraseAt, onDisc, otherAnswer, runAt}
 use Rattle.machine.specs.Area.{kernelBytes, kernelOf}
 use Rattle.machine.specs.Isolation.{startName}
 use Rattle.machine.specs.Limits.{slotCount, turnRoom}
-use Rattle.machine.specs.Operations.{Command, Commanded, becomes, refused as declined, commanded, inUse, listText}
+use Rattle.machine.specs.Operations.{Command, Commanded, becomes, refused as declined, commanded, inUse, listText, shared}
 use Rattle.machine.specs.Refusals.{Passes}
 use Rattle.machine.specs.Start.{Starting, starts, refuses, started, starting}
 use Rattle.machine.specs.State.{isLive, isRunning, processAt, slotOf}
@@ -35,10 +35,9 @@ use Rattle.machine.proofs.Changes.Directories.{FileAt}
 use Rattle.machine.proofs.Kept.ChangeKept.{NoWriteInto, Untouched, change-begun, change-contents, change-gone, change-untouched}
 use Rattle.machine.proofs.Kept.ChangeKept.{gone-after}
 use Rattle.machine.proofs.Demands.GoodCalls.{good-back, on-good, passes-good, turn-good, turn-is-change}
-use Rattle.machine.proofs.Kept.OwnKept.{own-good}
 use Rattle.machine.proofs.Kept.OwnSpared.{own-none, own-process, own-variables}
 use Rattle.machine.proofs.Kept.Begun.{Begun}
-use Rattle.machine.proofs.Operations.Commanding.{command-own}
+use Rattle.machine.proofs.Operations.Commanding.{Shares, command-good, command-own, share-good, share-is, shares-own}
 use Rattle.machine.proofs.Kept.EndedIds.{outside-begun, outside-gone}
 use Rattle.machine.proofs.Kept.Gone.{Gone}
 use Rattle.machine.proofs.Changes.LiveRecords.{running-live}
@@ -46,11 +45,12 @@ use Rattle.machine.proofs.Kept.OutsideKept.{outside-good}
 use Rattle.machine.proofs.Kept.OutsideSpares.{outside-contents, outside-spares}
 use Rattle.machine.proofs.Changes.Slots.{slot-at}
 
--- ---- facts asked of a turn alone, or of a command alone
+-- ---- facts asked of a turn alone, or of a command and share alone: of what names an ID
 abbrev pub OfTurn : Call → (ℕ → ℕ → Type 0) → Type 0
 OfTurn (turn slot clock) fact = fact slot clock
 OfTurn (round clock) fact = Unit {0}
 OfTurn (command c id) fact = Unit {0}
+OfTurn (share id turns) fact = Unit {0}
 OfTurn (run name) fact = Unit {0}
 OfTurn (other o) fact = Unit {0}
 
@@ -58,6 +58,7 @@ abbrev pub OfCommand : Call → (ℕ → Type 0) → Type 0
 OfCommand (turn slot clock) fact = Unit {0}
 OfCommand (round clock) fact = Unit {0}
 OfCommand (command c id) fact = fact id
+OfCommand (share id turns) fact = fact id
 OfCommand (run name) fact = Unit {0}
 OfCommand (other o) fact = Unit {0}
 
@@ -65,6 +66,7 @@ abbrev pub isRound : Call → Bool
 isRound (turn slot clock) = false
 isRound (round clock) = true
 isRound (command c id) = false
+isRound (share id turns) = false
 isRound (run name) = false
 isRound (other o) = false
 
@@ -74,6 +76,7 @@ pub data Effects (s : Storage) (k j : Kernel) (after : List ℕ) : Call → Type
   outside : {c : Call} → Outside (startName c s) k (s .disc) j after → Effects s k j after c
   alone : {c : Command} {id : ℕ} (w : ℕ) → isLive (processAt k w) ≡ true → slotOf k id ≡ At w → Own w k (s .disc) j → after ≡ s .disc
       → Effects s k j after (command c id)
+  shares : {id turns : ℕ} → Shares k id turns j → after ≡ s .disc → Effects s k j after (share id turns)
   takes : {slot clock : ℕ} → isRunning (processAt k slot) ≡ true → Change (startName (turn slot clock) s) slot k (s .disc) j after
       → Effects s k j after (turn slot clock)
 
@@ -129,8 +132,17 @@ module _ (s : Storage) (out : List ℕ) (passes : Passes (s .disc) (s .area)) wh
       given (declined n) e = none refl refl
       given (becomes j) e =
           let o = command-own good c id j e in
-          read-back (command c id) j (s .disc) (own-good (o .0) k (s .disc) j good (o .2))
+          read-back (command c id) j (s .disc) (command-good good c id j e)
           (alone (o .0) (slot-at k id (o .0) (o .1) .1) (o .1) (o .2) refl)
+
+  share-effects : (id turns : ℕ) → Leaves (share id turns) (answer (share id turns) b)
+  unfolding answer
+  share-effects id turns = subst⁻¹ (Leaves (share id turns)) (on-good b _ passes) (given (shared id turns k) refl)
+    where
+      given : (r : Commanded) → shared id turns k ≡ r → Leaves (share id turns) (commandAnswer r b)
+      given (declined n) e = none refl refl
+      given (becomes j) e =
+          read-back (share id turns) j (s .disc) (share-good good id turns j e) (shares (share-is k id turns j e) refl)
 
   list-effects : Leaves (other list) (answer (other list) b)
   unfolding answer otherAnswer
@@ -160,6 +172,7 @@ module _ (s : Storage) (out : List ℕ) (passes : Passes (s .disc) (s .area)) wh
   call-effects (turn slot clock) h = turn-effects slot clock
   call-effects (round clock) h = absurd (true-not-false refl h)
   call-effects (command c id) h = command-effects c id
+  call-effects (share id turns) h = share-effects id turns
   call-effects (run name) h = run-effects name
   call-effects (other o) h = other-effects o
 
@@ -178,6 +191,7 @@ module _ {s : Storage} {k j : Kernel} {after : List ℕ} (g : GoodState k (s .di
   effects-gone i c gone (none e f) = subst⁻¹ (Gone i) e gone
   effects-gone i c gone (outside o) = outside-gone i g gone o
   effects-gone i c gone (alone w l e x f) = gone-after i gone x
+  effects-gone i c gone (shares x f) = gone-after i gone (shares-own g x)
   effects-gone i c gone (takes r x) = change-gone _ _ k (s .disc) j after g i gone x
 
   pub effects-begun : (i : ℕ) (c : Call) → slotOf k i ≡ Nowhere → Effects s k j after c → (slotOf j i ≡ Nowhere)
@@ -185,6 +199,7 @@ module _ {s : Storage} {k j : Kernel} {after : List ℕ} (g : GoodState k (s .di
   effects-begun i c h (none e f) = inl (subst⁻¹ (λ (x : Kernel). slotOf x i ≡ Nowhere) e h)
   effects-begun i c h (outside o) = outside-begun i g h o
   effects-begun i c h (alone w l e x f) = inl (own-none i h x)
+  effects-begun i c h (shares x f) = inl (own-none i h (shares-own g x))
   effects-begun i (turn slot clock) h (takes r x) = change-begun _ slot k (s .disc) j after g (running-live (processAt k slot) r) i h x
 
   -- the record and the variables of the process in slot own are left as they are
@@ -200,6 +215,9 @@ module _ {s : Storage} {k j : Kernel} {after : List ℕ} (g : GoodState k (s .di
   effects-untouched own live (command c id) away (alone w l e x f) =
       let other : own ≡ w → ⊥ = λ q. away .commands (e ∙ ap At (sym q)) in
       record { process = own-process own other x; variables = own-variables own g live other x }
+  effects-untouched own live (share id turns) away (shares x f) =
+      let other : own ≡ x .slot → ⊥ = λ q. away .commands (x .found ∙ ap At (sym q)) in
+      record { process = own-process own other (shares-own g x); variables = own-variables own g live other (shares-own g x) }
   effects-untouched own live (turn slot clock) away (takes r x) = change-untouched _ slot k (s .disc) j after g own live (away .turns) x
 
   -- a file keeps its bytes
@@ -208,4 +226,5 @@ module _ {s : Storage} {k j : Kernel} {after : List ℕ} (g : GoodState k (s .di
   effects-contents {file} f c safe (none e d) = ap (λ (l : List ℕ). contents l file) d
   effects-contents f c safe (outside o) = outside-contents g f o
   effects-contents {file} f (command c id) safe (alone w l e x d) = ap (λ (l : List ℕ). contents l file) d
+  effects-contents {file} f c safe (shares x d) = ap (λ (l : List ℕ). contents l file) d
   effects-contents f (turn slot clock) safe (takes r x) = change-contents _ slot k (s .disc) j after g f (safe r) x

@@ -18,7 +18,7 @@ use Rattle.machine.specs.Limits.{stackSize}
 use Rattle.machine.specs.Observation.{seen, next, observedOf, seenIn, seenOf}
 use Rattle.machine.specs.Single.{Response, did, Single, advancedTo, inState, over, singleEffect}
 use Rattle.machine.specs.Ended.{ended, endedProcess}
-use Rattle.machine.specs.State.{Local, isLive, localOf, processAt, withLocal, withProcess, withState}
+use Rattle.machine.specs.State.{Local, isLive, localOf, processAt, withLocal, withProcess, withShare, withState}
 use Rattle.machine.specs.Turn.{Turned, carriedOut, finished, programOf, setting, turned}
 use Rattle.machine.specs.declared.Kernel.{Kernel}
 use Rattle.machine.specs.declared.Process.{Process}
@@ -180,6 +180,20 @@ module _ (i : ℕ) (prog : List ℕ) (k : Kernel) (disc : List ℕ) (s : Single)
         Agrees i prog (x .slot) s (setting k (x .slot) disc q (assigned (k .variables) name (p .id) (valueOf kind bytes) .variables) l)
         (singleEffect s (assigns name kind bytes l)))
         e (moved-agrees _ l (assignedCells (s .cells) (cell bytes)) [] (put-at k (x .slot) (withLocal p l) (x .live)) (set-cells a e))
+
+  -- ---- its share, which the single process does not have
+  pub share-follows : (turns : ℕ) → Follows i prog (withProcess k (x .slot) (withShare p turns)) disc s
+  share-follows turns =
+      let put = put-at k (x .slot) (withShare p turns) (x .live) in
+      let h = x .holds in
+      record {
+        slot = x .slot;
+        live = ap isLive put ∙ x .live;
+        named = ap (λ (r : Process). r .id) put ∙ x .named;
+        runs = ap (programOf disc) put ∙ x .runs;
+        holds = subst⁻¹ (λ (r : Process). Holds r (owned (k .variables) i) s) put
+            (record { sp = h .sp; stack = h .stack; pc = h .pc; loop = h .loop; state = h .state; fault = h .fault; cells = h .cells });
+      }
 
   -- ---- suspend and resume
   pub own-state : (state : ℕ) → isLive (withState p state) ≡ true

@@ -13,19 +13,19 @@ use Rattle.machine.specs.Answer.{Answer, Buffers, answer, round, turnedA
 use Rattle.machine.specs.Area.{Whole, kernelOf}
 use Rattle.machine.specs.Limits.{roundRoom}
 use Rattle.machine.specs.Refusals.{Passes}
-use Rattle.machine.specs.Operations.{turnsOf}
-use Rattle.machine.specs.Trace.{Event, IsItsEvents, Storage, lending, tenSlots, outputText, turnEvents}
+use Rattle.machine.specs.Operations.{roundOf}
+use Rattle.machine.specs.Trace.{Event, IsItsEvents, Storage, lending, tenSlots, outputText, shareEvents}
 use Rattle.machine.specs.Turn.{Turned}
-use Rattle.machine.proofs.Traces.RoundParts.{Parts, turn-parts}
+use Rattle.machine.proofs.Traces.RoundParts.{Parts, share-parts}
 use Rattle.machine.proofs.Demands.Rounds.{round-done, round-passed}
 
 -- "A done round stands for its turns in order, each printing its part of the output."
 pub round-events : (s : Storage) (out : List ℕ) (clock n : ℕ) → Whole (s .area) → answer (round clock) (lending s out) .number ≡ pos n
     → IsItsEvents s out (answer (round clock) (lending s out))
-    (turnEvents tenSlots clock s (outputText (answer (round clock) (lending s out))))
+    (shareEvents tenSlots clock s (outputText (answer (round clock) (lending s out))))
 unfolding all
 round-events s out clock n whole done =
-    subst⁻¹ (λ (a : Answer). IsItsEvents s out a (turnEvents tenSlots clock s (outputText a)))
+    subst⁻¹ (λ (a : Answer). IsItsEvents s out a (shareEvents tenSlots clock s (outputText a)))
     (round-done b clock (passed .0) (passed .1)) of-turns
   where
     b : Buffers
@@ -35,13 +35,13 @@ round-events s out clock n whole done =
     passed = round-passed b clock n done
 
     u : Turned
-    u = turnsOf tenSlots (kernelOf (s .area)) clock (s .disc)
+    u = roundOf (kernelOf (s .area)) clock (s .disc)
 
     es : List Event
-    es = turnEvents tenSlots clock s (outputText (turnedAnswer u b))
+    es = shareEvents tenSlots clock s (outputText (turnedAnswer u b))
 
     p : Parts s es u
-    p = turn-parts tenSlots clock s (outputText (turnedAnswer u b)) refl (passed .0) (take-at (u .out) _ (length (u .out)) refl)
+    p = share-parts tenSlots clock s (outputText (turnedAnswer u b)) refl (passed .0) (take-at (u .out) _ (length (u .out)) refl)
 
     of-turns : IsItsEvents s out (turnedAnswer u b) es
     of-turns = (

@@ -14,11 +14,11 @@ use Rattle.buffer.specs.declared.Found.the-variants.{At, Nowhere}
 use Rattle.buffer.proofs.Bools.{and-right}
 use Rattle.disc.specs.Directory.{entryAt, lookup}
 use Rattle.machine.specs.Answer.{Answer, Buffers, Other, store, retrieve, erase, files, freeSpace, list, Call, turn, round}
-use Rattle.machine.specs.Answer.{command, run, other}
+use Rattle.machine.specs.Answer.{command, share, run, other}
 use Rattle.machine.specs.Answer.{answer, commandAnswer, eraseAt, onGood, otherAnswer, refused, runAt, turnedAnswer}
 use Rattle.machine.specs.Area.{AreBytes, Whole, isAreaLength, kernelBytes, kernelOf}
 use Rattle.machine.specs.Limits.{areaLength, roundRoom, slotCount, turnRoom}
-use Rattle.machine.specs.Operations.{Command, Commanded, becomes, refused as declined, commanded, inUse, listText, slots, turnsOf}
+use Rattle.machine.specs.Operations.{Commanded, becomes, refused as declined, commanded, inUse, listText, roundOf, shared}
 use Rattle.machine.specs.Refusals.{Passes}
 use Rattle.machine.specs.Start.{Starting, starts, refuses, started, starting}
 use Rattle.machine.specs.State.{isRunning, processAt}
@@ -31,11 +31,10 @@ use Rattle.machine.proofs.Traces.AnyBuffers.{bad-refused, passes-or-not
 use Rattle.machine.proofs.Bytes.Area.{kernel-encode-decode}
 use Rattle.machine.proofs.Traces.Chains.{short-round, short-turn}
 use Rattle.machine.proofs.Changes.Change.{GoodState, begins}
-use Rattle.machine.proofs.Operations.Commanding.{command-own}
-use Rattle.machine.proofs.Demands.GoodCalls.{area-length, good-back, on-good, passes-good, turn-good, turns-good}
+use Rattle.machine.proofs.Operations.Commanding.{command-good, share-good}
+use Rattle.machine.proofs.Demands.GoodCalls.{area-length, good-back, on-good, passes-good, round-good, turn-good}
 use Rattle.machine.proofs.Kept.OutsideKept.{outside-good}
-use Rattle.machine.proofs.Kept.OwnKept.{own-good}
-use Rattle.machine.proofs.Traces.RoundParts.{turn-parts}
+use Rattle.machine.proofs.Traces.RoundParts.{last-append, share-parts}
 use Rattle.machine.proofs.Demands.Rounds.{round-done}
 
 -- an area of the right length is whole
@@ -66,6 +65,7 @@ module _ (s : Storage) (out : List ℕ) where
   bad-area bad (turn slot clock) = ap (λ (a : Answer). a .area) (bad-refused b _ bad .1)
   bad-area bad (round clock) = ap (λ (a : Answer). a .area) (bad-refused b _ bad .1)
   bad-area bad (command c id) = ap (λ (a : Answer). a .area) (bad-refused b _ bad .1)
+  bad-area bad (share id turns) = ap (λ (a : Answer). a .area) (bad-refused b _ bad .1)
   bad-area bad (run name) = ap (λ (a : Answer). a .area) (bad-refused b _ bad .1)
   bad-area bad (other o) = bad-other bad o
 
@@ -88,10 +88,9 @@ module _ (s : Storage) (out : List ℕ) where
     run-area name (starts slot f) e =
         state-bytes (started k slot f) (s .disc) (outside-good name k (s .disc) _ _ good (begins slot f e refl refl)) refl
 
-    command-area : (c : Command) (id : ℕ) (r : Commanded) → commanded c id k ≡ r → Written (commandAnswer r b)
-    command-area c id (declined n) e = as-it-was refl
-    command-area c id (becomes j) e = let o = command-own good c id j e in
-        state-bytes j (s .disc) (own-good (o .0) k (s .disc) j good (o .2)) refl
+    commanded-area : (r : Commanded) → ((j : Kernel) → r ≡ becomes j → GoodState j (s .disc)) → Written (commandAnswer r b)
+    commanded-area (declined n) leaves = as-it-was refl
+    commanded-area (becomes j) leaves = state-bytes j (s .disc) (leaves j refl) refl
 
     good-other : (o : Other) → Written (answer (other o) b)
     unfolding answer otherAnswer
@@ -113,9 +112,9 @@ module _ (s : Storage) (out : List ℕ) where
     good-area (round clock) =
         after-good _
         (tried Written b (leb roundRoom (length out)) 4 _ (as-it-was refl) λ fit.
-        state-bytes (turnsOf slots k clock (s .disc) .kernel) (turnsOf slots k clock (s .disc) .disc)
-        (turns-good slots k clock (s .disc) good) refl)
-    good-area (command c id) = after-good _ (command-area c id (commanded c id k) refl)
+        state-bytes (roundOf k clock (s .disc) .kernel) (roundOf k clock (s .disc) .disc) (round-good k clock (s .disc) good) refl)
+    good-area (command c id) = after-good _ (commanded-area (commanded c id k) (command-good good c id))
+    good-area (share id turns) = after-good _ (commanded-area (shared id turns k) (share-good good id turns))
     good-area (run name) = after-good _ (run-area name (starting k (s .disc) name) refl)
     good-area (other o) = good-other o
 
@@ -163,7 +162,7 @@ module _ (s : Storage) (out : List ℕ) where
   round-ends clock whole = go (leb roundRoom (length out)) refl (passes-or-not (s .disc) (s .area))
     where
       u : Turned
-      u = turnsOf slots (kernelOf (s .area)) clock (s .disc)
+      u = roundOf (kernelOf (s .area)) clock (s .disc)
 
       Right : Answer → Type 0
       Right a = Ends (roundEvents (a .number) clock s (outputText a)) a
@@ -176,7 +175,7 @@ module _ (s : Storage) (out : List ℕ) where
       go f h (inr bad) = let r = bad-refused b _ bad in short (r .0) (r .1)
       go false h (inl passes) = short 3 (short-round s out passes clock h)
       go true h (inl passes) =
-          let p = turn-parts tenSlots clock s (outputText (turnedAnswer u b)) refl passes (take-at (u .out) _ (length (u .out)) refl) in
+          let p = share-parts tenSlots clock s (outputText (turnedAnswer u b)) refl passes (take-at (u .out) _ (length (u .out)) refl) in
           subst⁻¹ Right (round-done b clock passes h) (λ z. record { disc = p .disc z; area = p .area (whole (area-length passes)) z })
 
   call-ends : (c : Call) → Sound (s .area) → Ends (eventsBy c out s (answer c b)) (answer c b)
@@ -184,13 +183,9 @@ module _ (s : Storage) (out : List ℕ) where
   call-ends (turn slot clock) h = turn-ends slot clock
   call-ends (round clock) h = round-ends clock h
   call-ends (command c id) h = refl
+  call-ends (share id turns) h = refl
   call-ends (run name) h = refl
   call-ends (other o) h = refl
-
-last-append : (s : Storage) (xs ys : List Event) → lastStorage s (xs ++ ys) ≡ lastStorage (lastStorage s xs) ys
-unfolding lastStorage
-last-append s [] ys = refl
-last-append s (x ∷ xs) ys = last-append (x .after) xs ys
 
 run-ends : (calls : List Invocation) (s : Storage) → Sound (s .area) → lastStorage s (events calls s) ≡ afterCalls calls s
 unfolding events lastStorage afterCalls

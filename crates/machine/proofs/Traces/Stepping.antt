@@ -12,17 +12,17 @@ use Rattle.buffer.specs.declared.Found.{Found}
 use Rattle.buffer.specs.declared.Found.the-variants.{At}
 use Rattle.buffer.proofs.Bools.{and-false-right, and-both, true-not-false}
 use Rattle.variable.specs.Table.{Cell, owned}
-use Rattle.machine.specs.Answer.{Answer, Buffers, Call, turn, round, command, run, other}
-use Rattle.machine.specs.Answer.{answer}
+use Rattle.machine.specs.Answer.{Answer, Buffers, Call, turn, round, command, share, run, other}
+use Rattle.machine.specs.Answer.{answer, commandAnswer}
 use Rattle.machine.specs.Area.{kernelOf}
 use Rattle.machine.specs.Suppositions.{disturbedBy, executedBy, isBarred, isDoneBy, setLacks, turnDisturbs, turnDisturbsAt}
 use Rattle.machine.specs.Suppositions.{processIn, writeLands}
 use Rattle.machine.specs.Observation.{inputIf, inputOf, isAt, next, observedBy, observedOf, placeIn}
-use Rattle.machine.specs.Operations.{Command}
+use Rattle.machine.specs.Operations.{Command, Commanded, becomes, refused as declined, shared}
 use Rattle.machine.specs.Limits.{slotCount, turnRoom}
 use Rattle.machine.specs.Refusals.{Passes}
 use Rattle.machine.specs.Single.{Input, tick, given, Single, single}
-use Rattle.machine.specs.State.{isLive, isRunning, processAt}
+use Rattle.machine.specs.State.{isLive, isRunning, processAt, withProcess, withShare}
 use Rattle.machine.specs.Trace.{Event, Storage, event, lending, outputText}
 use Rattle.machine.specs.Turn.{programOf}
 use Rattle.machine.specs.declared.Kernel.{Kernel}
@@ -33,9 +33,10 @@ use Rattle.machine.proofs.Changes.Change.{GoodState}
 use Rattle.machine.proofs.Changes.Directories.{program-at}
 use Rattle.machine.proofs.Kept.ChangeKept.{NoWriteInto, Untouched}
 use Rattle.buffer.proofs.Disjunctions.{or-false-left, or-false-right}
-use Rattle.machine.proofs.Traces.Following.{Follows, Holds, Tracks, on, off}
+use Rattle.machine.proofs.Traces.Following.{Follows, Holds, Tracks, on, off, share-follows}
 use Rattle.machine.proofs.Kept.Gone.{Gone}
-use Rattle.machine.proofs.Demands.GoodCalls.{passes-good}
+use Rattle.machine.proofs.Operations.Commanding.{share-good, share-is}
+use Rattle.machine.proofs.Demands.GoodCalls.{good-back, on-good, passes-good}
 use Rattle.machine.proofs.Changes.LiveRecords.{running-live}
 use Rattle.machine.proofs.Traces.OwnInputs.{Answers, Sheltered, command-answers, ended-answers, turn-answers}
 use Rattle.machine.proofs.Demands.Rounds.{turn-running}
@@ -152,6 +153,41 @@ module _ (i : ℕ) (prog : List ℕ) (s : Storage) (out : List ℕ) (q : Single)
       go false e = kept (command c id) refl
           (λ x. (record { turns = tt; commands = λ at. eqb-false id i e (sym (slot-at k id (x .slot) at .2) ∙ x .named) }, tt)) t
 
+  -- ---- shares: of any process, also of this one
+  share-step : (id turns : ℕ) → Tracks i prog k (s .disc) q → Tracks i prog (after (share id turns)) (answer (share id turns) b .disc) q
+  unfolding answer
+  share-step id turns t = go (eqb id i) refl
+    where
+      of-itself : (x : Follows i prog k (s .disc) q) → eqb id i ≡ true
+          → Follows i prog (after (share id turns)) (answer (share id turns) b .disc) q
+      of-itself x e = subst⁻¹ Followed (on-good b _ passes) (given (shared id turns k) refl)
+        where
+          Followed : Answer → Type 0
+          Followed a = Follows i prog (kernelOf (a .area)) (a .disc) q
+
+          with-share : ℕ → Kernel
+          with-share slot = withProcess k slot (withShare (processAt k slot) turns)
+
+          given : (r : Commanded) → shared id turns k ≡ r → Followed (commandAnswer r b)
+          given (declined n) h = x
+          given (becomes j) h =
+              let y = share-is k id turns j h in
+              let found : At (y .slot) ≡ At (x .slot) =
+              sym (y .found) ∙ slot-is good (x .slot) id (x .live) (x .named ∙ sym (eqb-true id i e)) in
+              let here : y .slot ≡ x .slot = cc in
+              subst⁻¹ (λ (l : Kernel). Follows i prog l (s .disc) q)
+              (good-back j (s .disc) (share-good good id turns j h) ∙ y .after ∙ ap with-share here)
+              (share-follows i prog k (s .disc) q good x turns)
+
+      own : eqb id i ≡ true → Tracks i prog k (s .disc) q → Tracks i prog (after (share id turns)) (answer (share id turns) b .disc) q
+      own e (on x) = on (of-itself x e)
+      own e (off g over) = gone (share id turns) refl g over
+
+      go : (f : Bool) → eqb id i ≡ f → Tracks i prog (after (share id turns)) (answer (share id turns) b .disc) q
+      go true e = own e t
+      go false e = kept (share id turns) refl
+          (λ x. (record { turns = tt; commands = λ at. eqb-false id i e (sym (slot-at k id (x .slot) at .2) ∙ x .named) }, tt)) t
+
   -- ---- turns
   module _ (slot clock : ℕ) (room : leb turnRoom (length out) ≡ true) where
     abbrev a : Answer
@@ -229,5 +265,6 @@ module _ (i : ℕ) (prog : List ℕ) (s : Storage) (out : List ℕ) (q : Single)
       (subst (λ (l : List ℕ). disturbedBy i (turn slot clock) (event (turn slot clock) s (answer (turn slot clock) b) l) ≡ false)
       (r .turns .1) h))
   step (round clock) text r t h = absurd (true-not-false refl (r .single))
+  step (share id turns) text r t h = share-step id turns t
   step (run name) text r t h = kept (run name) refl (λ x. (record { turns = tt; commands = tt }, tt)) t
   step (other o) text r t h = kept (other o) refl (λ x. (record { turns = tt; commands = tt }, tt)) t

@@ -2,7 +2,7 @@
 use Rattle.machine.specs.Done.{DoneExactly}
 use Rattle.machine.proofs.Done.Booting.{boot-done, format-done}
 use Rattle.machine.proofs.Done.Files.{erase-done, files-done, free-space-done, retrieve-done, store-done}
-use Rattle.machine.proofs.Done.Processes.{command-done, list-done, run-done}
+use Rattle.machine.proofs.Done.Processes.{command-done, list-done, run-done, share-done}
 use Rattle.machine.proofs.done_exactly.Statement.{statement}
 use Rattle.machine.proofs.done_exactly.Tie as tie
 
@@ -17,6 +17,7 @@ returns c = (
   run-done,
   list-done,
   command-done,
+  share-done,
   boot-done,
   format-done,
 )

@@ -7,8 +7,8 @@ use area::records::NO_LOOP;
 use area::records::PAUSED;
 use area::records::PC_AT;
 use area::records::RUNNING;
+use area::records::SHARE_AT;
 use area::records::SP_AT;
-use area::records::SPARE_AT;
 use area::records::STATE_AT;
 use area::records::record_at;
 use buffer::bytes::four_at;
@@ -109,7 +109,7 @@ fn are_good_registers(bytes: &[u8]) -> bool
     let len = word_at(bytes, CODE_AT + 2);
     let pc = word_at(bytes, PC_AT);
     let start = word_at(bytes, LOOP_AT);
-    (bytes[SPARE_AT] == 0)
+    (bytes[SHARE_AT] == 0)
         & ((bytes[SP_AT] as usize <= STACK_SIZE)
             & ((pc <= len) & ((start == NO_LOOP) | (start <= len))))
 }
