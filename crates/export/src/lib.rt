@@ -5,7 +5,7 @@ ghost use mathlib.Core.List.{List};
 ghost use mathlib.Core.Path.{_≡_};
 ghost use Prim.Native.Nat.{ℕ};
 ghost use Rattle.machine.specs.Answer.{answer, bootAnswer, command, erase, files, formatAnswer, freeSpace, list, other};
-ghost use Rattle.machine.specs.Answer.{retrieve, round, run, store, turn};
+ghost use Rattle.machine.specs.Answer.{retrieve, round, run, share, store, turn};
 ghost use Rattle.machine.specs.Operations.{kill, resume, suspend};
 ghost use Rattle.operation.specs.Answers.{lent};
 ghost use Rattle.export.specs.Returned.{returned};
@@ -96,6 +96,14 @@ pub extern "C" fn arduinos_kill(disc: &[u8], area: &mut [u8], id: u32) -> i32
         ≡ answer (command kill id) (lent (now (disc .entry)) (now (area .entry)) out)) ⌝ }
 {
     operation::numbers::number(operation::commands::kill(disc, area, id))
+}
+
+#[no_mangle]
+pub extern "C" fn arduinos_share(disc: &[u8], area: &mut [u8], id: u32, turns: u32) -> i32
+    ensures { λ r. ⌜ ((out : List ℕ) → returned r (now (disc .entry)) (now (area .exit)) out
+        ≡ answer (share id turns) (lent (now (disc .entry)) (now (area .entry)) out)) ⌝ }
+{
+    operation::numbers::number(operation::commands::share(disc, area, id, turns))
 }
 
 #[no_mangle]

@@ -7,7 +7,7 @@
 --     409  seven zeros
 --     416  ten process records of 64: name 12, ID 2, state 1, fault 1, code start 2, code length 2, PC 2, loop 2,
 --          file start 2, file length 2, file offset 2, SP 1, share 1, stack 32
-use Prim.Native.Nat.{ℕ}
+use Prim.Native.Nat.{ℕ, _*_}
 
 -- Document 01: "Work area, 1,056 bytes."
 abbrev pub areaLength : ℕ
@@ -56,6 +56,10 @@ turnRoom = 32
 -- Document 02, Q-9: "The spare byte holds 1 to 8"
 abbrev pub maxShare : ℕ
 maxShare = 8
+
+-- what the turns of one slot in a round may print
+abbrev pub shareRoom : ℕ
+shareRoom = maxShare * turnRoom
 
 -- Document 02, Q-9: *Round* "needs 2,560 output bytes"
 abbrev pub roundRoom : ℕ

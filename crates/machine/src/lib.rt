@@ -18,6 +18,7 @@ ghost use Rattle.machine.specs.Isolation.{Isolation};
 ghost use Rattle.machine.specs.LeftAlone.{LeavesAlone};
 ghost use Rattle.machine.specs.NewFile.{NewFileReadsEmpty};
 ghost use Rattle.machine.specs.Reaching.{ReachesExactly};
+ghost use Rattle.machine.specs.ShareRows.{Shares};
 ghost use Rattle.machine.specs.Tests.{RefusedExactly};
 ghost use Rattle.machine.specs.Waiting.{WaitsKeepTime};
 
@@ -69,6 +70,11 @@ pub fn delays()
 // Document 02, Q-3: the order of the operands of CONSTRAIN, MAP and POW, and of their faults.
 pub fn scalings()
     ensures { λ _. ⌜ Scalings ⌝ }
+{}
+
+// Document 02, Q-9: what rounds print and leave where processes have shares.
+pub fn shares()
+    ensures { λ _. ⌜ Shares ⌝ }
 {}
 
 // Document 02, Q-4: MILLIS, INT d, PLUS, DELAYUNTIL waits d milliseconds, from every time on.

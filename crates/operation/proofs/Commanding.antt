@@ -1,13 +1,13 @@
--- The commands behind the tests; suspend and resume turn a process to the state paused or running.
+-- The commands and share behind the tests; suspend and resume turn a process to the state paused or running.
 use Prim.Native.Nat.{ℕ}
 use mathlib.Core.Path.{_≡_, refl, ap, _∙_}
 use mathlib.Core.List.{List}
 use Rattle.buffer.specs.declared.Found.{Found}
 use Rattle.buffer.specs.declared.Found.the-variants.{At, Nowhere}
-use Rattle.machine.specs.Answer.{answer, command, commandAnswer}
+use Rattle.machine.specs.Answer.{answer, command, commandAnswer, share}
 use Rattle.machine.specs.Answer.{Answer as Expected}
 use Rattle.machine.specs.Area.{kernelOf}
-use Rattle.machine.specs.Operations.{Command, Commanded, suspend, resume, commandAt, commanded}
+use Rattle.machine.specs.Operations.{Command, Commanded, suspend, resume, commandAt, commanded, shared}
 use Rattle.machine.specs.State.{paused, running, slotOf}
 use Rattle.machine.specs.declared.Kernel.{Kernel}
 use Rattle.operation.specs.Answers.{answered, checked, lent}
@@ -47,3 +47,14 @@ module _ (disc area : List ℕ) {told : Checked} (e : told ≡ checked disc area
   command-turned t u h =
       let k = kernelOf area in
       command-done u (h ∙ ap (λ (x : Commanded). commandAnswer x (lent disc area out)) (t (slotOf k id) k))
+
+module _ (disc area : List ℕ) {told : Checked} (e : told ≡ checked disc area) (id turns : ℕ) (out : List ℕ) where
+  pub share-refused : {refusal : Refusal} → told ≡ Unusable refusal
+      → answered (Refused refusal) disc area out ≡ answer (share id turns) (lent disc area out)
+  unfolding answer
+  share-refused u = first-refused disc area e u out _
+
+  pub share-done : told ≡ Usable → {given : Expected}
+      → given ≡ commandAnswer (shared id turns (kernelOf area)) (lent disc area out) → given ≡ answer (share id turns) (lent disc area out)
+  unfolding answer
+  share-done u h = first-done disc area e u out h

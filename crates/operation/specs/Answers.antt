@@ -14,11 +14,12 @@ use Rattle.operation.specs.declared.Checked.the-variants.{Usable, Unusab
 use Rattle.operation.specs.declared.Refusal.{Refusal}
 use Rattle.operation.specs.declared.Refusal.the-variants.{WrongLength, BadDisc, BadArea, ShortOutput, NoSuchFile}
 use Rattle.operation.specs.declared.Refusal.the-variants.{FileInUse, NoSlot, NoId, NoProcess, SameState}
-use Rattle.operation.specs.declared.Refusal.the-variants.{NotRunning}
+use Rattle.operation.specs.declared.Refusal.the-variants.{NotRunning, BadShare}
 
 -- Document 01: "1: a buffer has the wrong length. 2: disc not good. 3: work area not good. 4: output shorter than
 -- needed."; Erase: "10; 11 a live process runs it or has it open."; Run: "12 no ended slot, 10, 13 next ID is 32768.";
 -- Suspend, resume: "14 no live process of that ID, 15 already in that state."; Turn: "16 slot above 9 or not running."
+-- Document 02, Q-9: "22 a share outside 1 to 8"
 abbrev pub refusalNumber : Refusal → ℕ
 refusalNumber WrongLength = 1
 refusalNumber BadDisc = 2
@@ -31,6 +32,7 @@ refusalNumber NoId = 13
 refusalNumber NoProcess = 14
 refusalNumber SameState = 15
 refusalNumber NotRunning = 16
+refusalNumber BadShare = 22
 
 -- Document 01: "0 or more is done [..], −n is refusal n"
 abbrev pub answerNumber : Answer → ℤ

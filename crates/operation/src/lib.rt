@@ -7,7 +7,7 @@ pub mod list;
 pub mod numbers;
 pub mod turns;
 
-// Document 01's refusals of the operations on both buffers.
+// The refusals of the operations on both buffers, document 01's and then document 02's.
 pub enum Refusal {
     WrongLength,
     BadDisc,
@@ -20,6 +20,7 @@ pub enum Refusal {
     NoProcess,
     SameState,
     NotRunning,
+    BadShare,
 }
 
 // What an operation returns: a number, or why it was refused.

@@ -1,4 +1,4 @@
-// Document 01's numbers for the answers.
+// The documents' numbers for the answers.
 use crate::Answer;
 use crate::Refusal;
 ghost use mathlib.Core.Path.{_≡_};
@@ -21,6 +21,7 @@ fn refusal_number(refusal: Refusal) -> i32
         Refusal::NoProcess => -14,
         Refusal::SameState => -15,
         Refusal::NotRunning => -16,
+        Refusal::BadShare => -22,
     }
 }
 

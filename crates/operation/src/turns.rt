@@ -35,7 +35,8 @@ pub fn turn(disc: &mut [u8], area: &mut [u8], slot: u32, clock: u32, out: &mut [
     Answer::Done(turn_slot(disc, area, at, clock, out) as u16)
 }
 
-// Document 01, Round: "needs 320 bytes". It tests goodness once, and returns the number of all bytes printed.
+// Document 02, Q-9, Round: "needs 2,560 output bytes". It tests goodness once, and returns the number of all bytes
+// printed.
 pub fn round(disc: &mut [u8], area: &mut [u8], clock: u32, out: &mut [u8]) -> Answer
     ensures { λ r. ⌜ answered r (now (disc .exit)) (now (area .exit)) (now (out .exit))
         ≡ answer (round clock) (lent (now (disc .entry)) (now (area .entry)) (now (out .entry))) ⌝ }

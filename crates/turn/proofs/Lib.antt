@@ -4,5 +4,7 @@ pub mod Passing
 pub mod Bounded
 -- what is carried out and printed is the turn
 pub mod Printed
--- turns one after the other
+-- slot after slot
 pub mod Going
+-- the ten slots of a round, and the turns of a share
+pub mod Rounding

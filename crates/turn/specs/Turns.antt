@@ -1,12 +1,14 @@
 -- A turn in code: what carrying out a step needs, what it prints, and the buffers that a turn or a round leaves.
 use Prim.Native.Nat.{ℕ, _+_, _-_, _≤_}
 use mathlib.Core.Path.{_≡_}
+use mathlib.Core.Bool.{cond}
 use mathlib.Core.List.{List, []}
 use lib.ListN.{length}
 use Rattle.buffer.specs.Buffer.{overwrite}
 use Rattle.machine.specs.Area.{kernelBytes, kernelOf}
 use Rattle.machine.specs.Limits.{idLimit, stackSize}
-use Rattle.machine.specs.State.{localOf}
+use Rattle.machine.specs.Operations.{turnsDue}
+use Rattle.machine.specs.State.{isRunning, localOf}
 use Rattle.machine.specs.Turn.{Turned}
 use Rattle.machine.specs.declared.Process.{Process}
 use Rattle.process.specs.Stepping.{Stepping, stackOf}
@@ -73,3 +75,8 @@ turnLeft count disc area out = record { count = count; disc = disc; area = area;
 -- Document 01: "the rest of the output is untouched"
 abbrev pub turnLeftBy : Turned → List ℕ → TurnLeft
 turnLeftBy t out = turnLeft (length (t .out)) (t .disc) (kernelBytes (t .kernel)) (overwrite out 0 (t .out))
+
+-- ---- a share of a round
+-- Document 02, Q-9: "that many turns in a row while it stays running"; none of a slot that does not run
+abbrev pub due : Process → ℕ
+due p = cond (isRunning p) (turnsDue p) 0

@@ -31,7 +31,7 @@ use Rattle.machine.specs.Answer.{command, share, run, other, answer, boo
 use Rattle.machine.specs.Answer.{onGood, otherAnswer, refused, runAt}
 use Rattle.machine.specs.Area.{isAreaLength, kernelOf}
 use Rattle.machine.specs.Demands.{SameLengths}
-use Rattle.machine.specs.Limits.{maxShare, roundRoom, slotCount, turnRoom}
+use Rattle.machine.specs.Limits.{maxShare, roundRoom, shareRoom, slotCount, turnRoom}
 use Rattle.machine.specs.Operations.{Commanded, becomes, refused as declined, commanded, inOrder, inUse, listText, roundOf}
 use Rattle.machine.specs.Operations.{shareOfTurns, shared, slots, turnIfRunning, turnsDue, turnsInRow}
 use Rattle.machine.specs.Refusals.{Passes}
@@ -103,9 +103,6 @@ few-turns k slot disc g h = go (eqb (processAt k slot .share) 0)
     go : (none : Bool) → cond none 1 (processAt k slot .share) ≤ maxShare
     go true = omega arith
     go false = few
-
-abbrev pub shareRoom : ℕ
-shareRoom = maxShare * turnRoom
 
 pub share-short : PrintsAtMost shareRoom shareOfTurns
 unfolding shareOfTurns

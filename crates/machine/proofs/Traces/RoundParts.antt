@@ -5,7 +5,7 @@ use mathlib.Core.Bool.{Bool, true, false, cond}
 use mathlib.Core.List.{List, [], _∷_, _++_, append-assoc, append-nil}
 use native.Mathlib.Nat.{zero-add}
 use native.Mathlib.Omega.{arith}
-use lib.Dec.{eqb, ltb}
+use lib.Dec.{ltb}
 use lib.IntN.{pos}
 use lib.ListN.{drop, length, replicate, take, length-append}
 use lib.Seq.{drop-at, take-at}
@@ -22,6 +22,7 @@ use Rattle.machine.specs.Trace.{Event, PrintsItsPart, Storage, counts, e
 use Rattle.machine.specs.Trace.{atLeastOne, shareEvents, turnEvents}
 use Rattle.machine.specs.Turn.{Turned, turned}
 use Rattle.machine.specs.declared.Kernel.{Kernel}
+use Rattle.machine.specs.declared.Process.{Process}
 use Rattle.machine.proofs.Demands.GoodCalls.{good-back, good-kept, passes-good, turn-good}
 use Rattle.machine.proofs.Demands.Rounds.{turn-not-running, turn-running}
 use Rattle.machine.proofs.Traces.Chains.{Leads}
@@ -230,9 +231,12 @@ joined-parts s xs ys t u p r =
     last = last-append s xs ys
 
 -- ---- the shares of a round
-due : (n : ℕ) → atLeastOne n ≡ cond (eqb n 0) 1 n
-due zero = refl
-due (suc n) = rw (ne-eqb (suc n) 0 (λ (e : suc n ≡ 0). omega arith))
+due : (p : Process) → atLeastOne (p .share) ≡ turnsDue p
+due p = go (p .share) refl
+  where
+    go : (n : ℕ) → p .share ≡ n → atLeastOne n ≡ turnsDue p
+    go zero e = rw e refl
+    go (suc n) e = rw (e, ne-eqb (suc n) 0 (λ (z : suc n ≡ 0). omega arith)) refl
 
 -- one slot is as good as many of it
 all-low : (n slot : ℕ) → ltb slot slotCount ≡ true → all (λ i. ltb i slotCount) (replicate n slot) ≡ true
@@ -249,7 +253,7 @@ own-share slot clock s text more low passes e =
     let p = processAt (kernelOf (s .area)) slot in
     subst⁻¹ (λ (n : ℕ).
     Parts s (turnEvents (replicate n slot) clock s text) (turnsInRow (turnsDue p) (kernelOf (s .area)) slot clock (s .disc)))
-    (due (p .share)) (turn-parts (replicate (turnsDue p) slot) clock s text more (all-low (turnsDue p) slot low) passes e)
+    (due p) (turn-parts (replicate (turnsDue p) slot) clock s text more (all-low (turnsDue p) slot low) passes e)
 
 shares-behind : (l : List ℕ) (clock : ℕ) (s : Storage) (text more : List ℕ) → all (λ slot. ltb slot slotCount) l ≡ true
     → Passes (s .disc) (s .area)

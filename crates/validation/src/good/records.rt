@@ -16,6 +16,7 @@ use buffer::bytes::word_at;
 use disc::layout::ENTRY_SIZE;
 use disc::layout::MAX_FILES;
 use disc::layout::NAME_SIZE;
+use machine::limits::MAX_SHARE;
 use machine::limits::NEXT_AT;
 use machine::limits::SLOT_COUNT;
 use machine::limits::STACK_SIZE;
@@ -101,7 +102,8 @@ fn is_good_file(disc: &[u8], runs: &[u32; MAX_FILES], bytes: &[u8]) -> bool
     file_of(runs, four_at(bytes, FILE_AT)) < MAX_FILES
 }
 
-// "zero spare bytes in live records [..] SP at most 32, PC, loop (unless none) [..] at most their lengths"
+// Document 02, Q-9: a live record's share is at most 8; "SP at most 32, PC, loop (unless none) [..] at most their
+// lengths"
 fn are_good_registers(bytes: &[u8]) -> bool
     requires { ⌜ length (now bytes) ≡ recordSize ⌝ }
     ensures { λ r. ⌜ r ≡ goodRegisters (processOf (now (bytes .entry))) ⌝ }
@@ -109,7 +111,7 @@ fn are_good_registers(bytes: &[u8]) -> bool
     let len = word_at(bytes, CODE_AT + 2);
     let pc = word_at(bytes, PC_AT);
     let start = word_at(bytes, LOOP_AT);
-    (bytes[SHARE_AT] == 0)
+    (bytes[SHARE_AT] <= MAX_SHARE)
         & ((bytes[SP_AT] as usize <= STACK_SIZE)
             & ((pc <= len) & ((start == NO_LOOP) | (start <= len))))
 }

@@ -1,0 +1,34 @@
+-- The rows of rounds with shares hold: by computing the definitions.
+use mathlib.Core.Path.{refl}
+use Rattle.buffer.specs.Lists.{all, any, flat, index, keep, tab}
+use Rattle.decimal.specs.Decimal.{lastDigits}
+use Rattle.integer.specs.Modular.{wrapped}
+use Rattle.operator.specs.Arithmetic.{whole}
+use Rattle.operator.specs.Binary.{binary}
+use Rattle.operator.specs.Instruction.{lookup as lookupOperator, operatorOf, includes}
+use Rattle.number.specs.Text.{textOf}
+use Rattle.operator.specs.Unary.{unary}
+use Rattle.number.specs.Value.{numberOf}
+use Rattle.place.specs.Place.{apart, begins, fits, freeFrom, greatest, least, place}
+use Rattle.variable.specs.Assign.{added, assigned, placeFor, placing}
+use Rattle.variable.specs.Table.{freed, owned}
+use Rattle.machine.specs.Area.{kernelOf}
+use Rattle.machine.specs.Effect.{operates, settle}
+use Rattle.machine.specs.Exec.{exec}
+use Rattle.machine.specs.Instruction.{instructionOf}
+use Rattle.machine.specs.Stack.{pop, wellFormed}
+use Rattle.machine.specs.Ended.{ended}
+use Rattle.machine.specs.Turn.{turned}
+use Rattle.machine.specs.Operations.{inOrder, shareOfTurns, shared, turnIfRunning}
+use Rattle.machine.specs.ShareRows.{Every, Shares, loading, rounds, shareRows}
+use Rattle.machine.specs.State.{slotOf}
+
+rows-hold : Every shareRows
+unfolding loading rounds inOrder shareOfTurns shared slotOf turnIfRunning exec instructionOf operatorOf lookupOperator includes
+    operates settle pop wellFormed unary binary whole wrapped numberOf textOf lastDigits index tab flat all apart begins fits
+    freeFrom greatest least place kernelOf any keep ended turned owned freed assigned placeFor placing added
+rows-hold = ((refl, refl), ((refl, refl), ((refl, refl), ((refl, refl), ((refl, refl), tt)))))
+
+pub shares-hold : Shares
+unfolding Shares
+shares-hold = rows-hold

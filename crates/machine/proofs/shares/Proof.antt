@@ -1,0 +1,10 @@
+-- `machine::shares` meets its contract, which is the table of rounds with shares.
+use Rattle.machine.proofs.ShareCases.{shares-hold}
+use Rattle.machine.proofs.shares.Statement.{statement}
+use Rattle.machine.proofs.shares.Tie as tie
+
+returns : tie.Need-returns
+returns c = shares-hold
+
+pub shares-spec : {M : Type 1} → statement M
+shares-spec = tie.close (tie.spec returns)
