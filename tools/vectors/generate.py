@@ -9,7 +9,7 @@ store_vectors takes the lines of store, retrieve, files and free (free space). B
   data/vectors   for each vector a letter (s, r, f, u), then disc, name, data and output as lent, each as its length (two bytes, low byte first) and its bytes
   stdout         for each vector its letter, the number, and checksums of disc and output after the call
 operation_vectors takes all others. Below crates/operation_vectors:
-  data/vectors   for each vector a letter, two numbers of four bytes (ID or slot; clock), then name, disc, area and output as lent, each as its length in two
+  data/vectors   for each vector a letter, two numbers of four bytes (ID or slot; clock or share), then name, disc, area and output as lent, each as its length in two
                  bytes and what differs from the vector before (a name from zeros): how many bytes stay, how many are new, these
   stdout         for each vector its letter, the number, and checksums of disc, area and output after the call
 It knows nothing of what the operations do: number and changes are those of the vector.
@@ -23,6 +23,7 @@ CRATES = os.path.join(os.path.dirname(os.path.abspath(__file__)), "..", "..", "c
 ON_DISC = {"store": "s", "retrieve": "r", "files": "f", "free": "u"}
 ON_BOTH = {
     "format": "f", "boot": "b", "erase": "e", "run": "r", "suspend": "s", "resume": "c", "kill": "k", "list": "l", "turn": "t", "round": "o",
+    "share": "h",
 }
 NAMED = ("erase", "run")
 LONGEST = 4096

@@ -12,6 +12,7 @@ use Rattle.machine.specs.Area.{kernelOf}
 use Rattle.machine.specs.Cases.{down}
 use Rattle.machine.specs.Operations.{Commanded, becomes, refused, roundOf, shared}
 use Rattle.machine.specs.Start.{started}
+use Rattle.machine.specs.State.{running}
 use Rattle.machine.specs.Turn.{Turned}
 use Rattle.machine.specs.declared.Kernel.{Kernel}
 use Rattle.machine.specs.declared.Process.{Process}
@@ -48,20 +49,36 @@ rounds (suc n) t =
     let u = roundOf (t .kernel) 0 (t .disc) in
     rounds n (record { kernel = u .kernel; disc = u .disc; out = t .out ++ u .out })
 
--- n rounds print this text, and leave these shares in the slots
+-- what is looked at of a slot
+pub record SlotSeen : Type 0 where
+  pub state : ℕ
+  pub share : ℕ
+  pub fault : ℕ
+
+abbrev pub slotSeen : Process → SlotSeen
+slotSeen p = record { state = p .state; share = p .share; fault = p .fault }
+
+-- running with that share, or ended by that fault
+abbrev pub runs : ℕ → SlotSeen
+runs share = record { state = running; share = share; fault = 0 }
+
+abbrev pub over : ℕ → SlotSeen
+over fault = record { state = 0; share = 0; fault = fault }
+
+-- so many rounds print this text, and leave the slots like this
 pub record ShareRow : Type 0 where
   pub sharers : List Sharer
-  pub rounds : ℕ
+  pub count : ℕ
   pub text : List ℕ
-  pub shares : List ℕ
+  pub seen : List SlotSeen
 
-abbrev pub row : List Sharer → ℕ → (text shares : List ℕ) → ShareRow
-row sharers n text shares = record { sharers = sharers; rounds = n; text = text; shares = shares }
+abbrev pub row : List Sharer → ℕ → List ℕ → List SlotSeen → ShareRow
+row sharers count text seen = record { sharers = sharers; count = count; text = text; seen = seen }
 
 abbrev pub RowHolds : ShareRow → Type 0
 RowHolds r =
-    let t = rounds (r .rounds) (loaded (r .sharers)) in
-    (t .out ≡ r .text) × (map (λ (p : Process). p .share) (take (length (r .sharers)) (t .kernel .processes)) ≡ r .shares)
+    let t = rounds (r .count) (loaded (r .sharers)) in
+    (t .out ≡ r .text) × (map slotSeen (take (length (r .sharers)) (t .kernel .processes)) ≡ r .seen)
 
 abbrev pub Every : List ShareRow → Type 0
 Every [] = Unit
@@ -76,15 +93,16 @@ abbrev pub shareRows : List ShareRow
 shareRows =
     -- "that many turns in a row", "with zero as one": in each round four turns of the first, then one of the second
     row (sharer (printing (97 ∷ 98 ∷ 99 ∷ 100 ∷ [])) 4 ∷ sharer (printing (120 ∷ [])) 0 ∷ []) 2
-    (97 ∷ 98 ∷ 99 ∷ 100 ∷ 120 ∷ []) (4 ∷ 0 ∷ []) ∷
+    (97 ∷ 98 ∷ 99 ∷ 100 ∷ 120 ∷ []) (runs 4 ∷ runs 0 ∷ []) ∷
     -- setting 1 writes 1; "22 a share outside 1 to 8": 9 changes nothing
-    row (sharer (printing (97 ∷ [])) 1 ∷ sharer (printing (120 ∷ [])) 9 ∷ []) 1 [] (1 ∷ 0 ∷ []) ∷
-    -- "while it stays running", "when it is cleared like the rest": STOP, and a PRINT that faults, in the midst of it
+    row (sharer (printing (97 ∷ [])) 1 ∷ sharer (printing (120 ∷ [])) 9 ∷ []) 1 [] (runs 1 ∷ runs 0 ∷ []) ∷
+    -- "while it stays running", "when it is cleared like the rest": STOP, and a PRINT that faults, in the midst of it; a
+    -- turn more would meet fault 1
     row (sharer (printing (97 ∷ []) ++ (67 ∷ [])) 8 ∷ sharer (printing (98 ∷ []) ++ (51 ∷ [])) 8 ∷ []) 1 (97 ∷ 98 ∷ [])
-    (0 ∷ 0 ∷ []) ∷
+    (over 0 ∷ over 5 ∷ []) ∷
     -- `down`: 29 turns, so with a share of 8 it is live after three rounds and has ended after four
-    row (sharer down 8 ∷ []) 3 (51 ∷ 10 ∷ 50 ∷ 10 ∷ 49 ∷ 10 ∷ []) (8 ∷ []) ∷
-    row (sharer down 8 ∷ []) 4 (51 ∷ 10 ∷ 50 ∷ 10 ∷ 49 ∷ 10 ∷ []) (0 ∷ []) ∷ []
+    row (sharer down 8 ∷ []) 3 (51 ∷ 10 ∷ 50 ∷ 10 ∷ 49 ∷ 10 ∷ []) (runs 8 ∷ []) ∷
+    row (sharer down 8 ∷ []) 4 (51 ∷ 10 ∷ 50 ∷ 10 ∷ 49 ∷ 10 ∷ []) (over 0 ∷ []) ∷ []
 
 -- every row holds of the definitions
 unfoldable pub Shares : Type 0

@@ -56,14 +56,14 @@ fn read_changes(fd: i32, buf: &mut [u8]) -> usize
     len
 }
 
-// The operation of a vector, told by its letter; 'c' is resume, 'o' round.
+// The operation of a vector, told by its letter; 'c' is resume, 'h' share, 'o' round.
 fn perform(
     letter: u8,
     disc: &mut [u8],
     area: &mut [u8],
     name: &[u8],
     first: u32,
-    clock: u32,
+    second: u32,
     out: &mut [u8],
 ) -> Answer {
     match letter {
@@ -74,9 +74,10 @@ fn perform(
         b's' => operation::commands::suspend(disc, area, first),
         b'c' => operation::commands::resume(disc, area, first),
         b'k' => operation::commands::kill(disc, area, first),
+        b'h' => operation::commands::share(disc, area, first, second),
         b'l' => operation::list::list(disc, area, out),
-        b't' => operation::turns::turn(disc, area, first, clock, out),
-        _ => operation::turns::round(disc, area, clock, out),
+        b't' => operation::turns::turn(disc, area, first, second, out),
+        _ => operation::turns::round(disc, area, second, out),
     }
 }
 
@@ -87,10 +88,10 @@ fn run(
     area: &mut [u8],
     name: &[u8],
     first: u32,
-    clock: u32,
+    second: u32,
     out: &mut [u8],
 ) {
-    let answer = perform(letter, disc, area, name, first, clock, out);
+    let answer = perform(letter, disc, area, name, first, second, out);
     printing::text(&[letter, b' ']);
     printing::number(operation::numbers::number(answer));
     printing::checksum(disc);
@@ -108,7 +109,7 @@ fn run_rest(
     out: &mut [u8; LONGEST],
 ) {
     let first = read_number(fd);
-    let clock = read_number(fd);
+    let second = read_number(fd);
     let mut name = [0u8; LONGEST];
     let name_len = read_changes(fd, &mut name);
     let disc_len = read_changes(fd, disc);
@@ -123,7 +124,7 @@ fn run_rest(
         &mut a[..area_len],
         &name[..name_len],
         first,
-        clock,
+        second,
         &mut o[..out_len],
     );
 }

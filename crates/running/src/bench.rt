@@ -7,7 +7,7 @@ use machine::limits::ROUND_ROOM;
 const ROUNDS: u16 = 29;
 
 // Document 01's program down.
-const DOWN: [u8; 20] = [
+pub const DOWN: [u8; 20] = [
     2, // INT 0 3
     0,
     3,
