@@ -10,10 +10,10 @@ use crate::tracking::{Step, Tracking};
 use second::layout::*;
 use second::{directory, records};
 
-/// What a process is fed.
+/// What a process is fed: so many turns under one clock, or a command.
 #[derive(Clone, Copy)]
 enum Fed {
-    Turn(u32),
+    Turns(u32, usize),
     Suspend,
     Resume,
     Kill,
@@ -39,7 +39,7 @@ pub fn compare_pair(comparison: &mut Comparison, unit: u64) -> Compared<()> {
         comparison.coverage.reach("pair, a supposition was broken");
         return Ok(());
     };
-    if one != other {
+    if one.steps != other.steps {
         let text = format!("# {}: two runs with different neighbours differ", comparison.place());
         return Err(comparison.broken(text));
     }
@@ -47,7 +47,18 @@ pub fn compare_pair(comparison: &mut Comparison, unit: u64) -> Compared<()> {
     if discs[0] != discs[1] {
         comparison.coverage.reach("pair, equal on discs of both lengths");
     }
+    if differ(one.own_share, other.own_share) {
+        comparison.coverage.reach("pair, equal with other shares of its own");
+    }
+    if differ(one.neighbours_share, other.neighbours_share) {
+        comparison.coverage.reach("pair, equal with other shares of its neighbours");
+    }
     Ok(())
+}
+
+/// Whether rounds of both runs had a share, and not the same.
+fn differ(one: u8, other: u8) -> bool {
+    one.min(other) > 0 && one != other
 }
 
 fn any_fed(random: &mut Random) -> Fed {
@@ -55,19 +66,31 @@ fn any_fed(random: &mut Random) -> Fed {
         0 | 1 => Fed::Suspend,
         2..=4 => Fed::Resume,
         5 if random.chance(1, 6) => Fed::Kill,
-        _ => Fed::Turn(arguments::time(random)),
+        _ => {
+            let count = if random.chance(1, 2) { 1 } else { random.between(2, 10) };
+            Fed::Turns(arguments::time(random), count)
+        }
     }
 }
 
-/// A run of the process among random neighbours: the steps it takes, or none if a supposition was broken.
+/// What a run shows: the steps that the process takes, and of the last round that gave it turns its share and the greatest
+/// of its running neighbours'.
+struct Shown {
+    steps: Vec<Step>,
+    own_share: u8,
+    neighbours_share: u8,
+}
+
+/// A run of the process among random neighbours, or none if a supposition was broken.
 fn run_among(
     comparison: &mut Comparison,
     disc_len: usize,
     code: &[u8],
     fed: &[Fed],
     random: &mut Random,
-) -> Compared<Option<Vec<Step>>> {
-    let mut run = Run { state: State::zero(disc_len), tracking: Tracking::default(), id: 0, random };
+) -> Compared<Option<Shown>> {
+    let (state, tracking) = (State::zero(disc_len), Tracking::default());
+    let mut run = Run { state, tracking, id: 0, own_share: 0, neighbours_share: 0, random };
     run.tracking.call(comparison, &mut run.state, &Call::Format)?;
     let store = Call::Store { name: PROGRAM.to_vec(), data: code.to_vec() };
     run.tracking.call(comparison, &mut run.state, &store)?;
@@ -83,7 +106,8 @@ fn run_among(
         run.neighbours(comparison, 3)?;
         run.feed(comparison, fed)?;
     }
-    Ok((!run.tracking.lost_watched).then_some(run.tracking.steps))
+    let Run { tracking, own_share, neighbours_share, .. } = run;
+    Ok((!tracking.lost_watched).then_some(Shown { steps: tracking.steps, own_share, neighbours_share }))
 }
 
 /// A run under way.
@@ -91,6 +115,8 @@ struct Run<'a> {
     state: State,
     tracking: Tracking,
     id: u32,
+    own_share: u8,
+    neighbours_share: u8,
     random: &'a mut Random,
 }
 
@@ -145,22 +171,63 @@ impl Run<'_> {
     /// "the clock of each turn of its slot until it ends … and each suspend, resume and kill of its ID".
     fn feed(&mut self, comparison: &mut Comparison, fed: Fed) -> Compared<()> {
         let id = self.id;
-        let call = match (fed, self.own_slot()) {
-            (Fed::Turn(_), None) => return Ok(()),
-            (Fed::Turn(clock), Some(slot)) => self.turn(slot, clock),
-            (Fed::Suspend, _) => Call::Suspend { id },
-            (Fed::Resume, _) => Call::Resume { id },
-            (Fed::Kill, _) => Call::Kill { id },
-        };
-        self.tracking.call(comparison, &mut self.state, &call).map(|_| ())
+        match fed {
+            Fed::Turns(clock, count) => self.turns(comparison, clock, count),
+            Fed::Suspend => self.call(comparison, &Call::Suspend { id }),
+            Fed::Resume => self.call(comparison, &Call::Resume { id }),
+            Fed::Kill => self.call(comparison, &Call::Kill { id }),
+        }
     }
 
-    /// A turn, by itself or as part of a round.
-    fn turn(&mut self, slot: u32, clock: u32) -> Call {
-        let running = self.state.area[records::record(slot as usize) + STATE] == RUNNING;
-        if running && self.random.chance(1, 3) {
-            return Call::Round { clock, room: ROUND_OUTPUT };
+    fn call(&mut self, comparison: &mut Comparison, call: &Call) -> Compared<()> {
+        self.tracking.call(comparison, &mut self.state, call).map(|_| ())
+    }
+
+    /// So many turns under one clock, one by one or by rounds that give as many as the process's share. Document 02, Q-9:
+    /// "A process still behaves by its own turns, counted singly".
+    fn turns(&mut self, comparison: &mut Comparison, clock: u32, count: usize) -> Compared<()> {
+        let mut left = count;
+        while let (1.., Some(slot)) = (left, self.own_slot()) {
+            let record = records::record(slot as usize);
+            if self.state.area[record + STATE] == RUNNING && self.random.chance(1, 2) {
+                left -= self.round(comparison, record, clock, left)?;
+            } else {
+                let room = TURN_OUTPUT + arguments::room(0, self.random);
+                self.call(comparison, &Call::Turn { slot, clock, room })?;
+                left -= 1;
+            }
         }
-        Call::Turn { slot, clock, room: TURN_OUTPUT + arguments::room(0, self.random) }
+        Ok(())
+    }
+
+    /// A round that gives the process its share of turns, `most` at most; a greater share is set anew, others at times.
+    fn round(&mut self, comparison: &mut Comparison, record: usize, clock: u32, most: usize) -> Compared<usize> {
+        let mut share = usize::from(self.state.area[record + SPARE]).max(1);
+        if share > most || self.random.chance(1, 2) {
+            share = self.random.between(1, most.min(usize::from(MAX_SHARE)));
+            self.call(comparison, &Call::Share { id: self.id, share: share as u32 })?;
+        }
+        self.share_neighbours(comparison)?;
+        let area = &self.state.area;
+        let neighbours = records::all().filter(|&other| other != record && area[other + STATE] == RUNNING);
+        self.neighbours_share = neighbours.map(|other| area[other + SPARE]).max().unwrap_or(0);
+        self.own_share = share as u8;
+        self.call(comparison, &Call::Round { clock, room: ROUND_OUTPUT })?;
+        Ok(share)
+    }
+
+    /// Now and then a share for every neighbour.
+    fn share_neighbours(&mut self, comparison: &mut Comparison) -> Compared<()> {
+        if self.random.chance(3, 4) {
+            return Ok(());
+        }
+        let area = &self.state.area;
+        let ids = records::live(area).map(|record| records::id(area, record) as u32);
+        let neighbours: Vec<u32> = ids.filter(|&id| id != self.id).collect();
+        for id in neighbours {
+            let share = self.random.between(1, usize::from(MAX_SHARE)) as u32;
+            self.call(comparison, &Call::Share { id, share })?;
+        }
+        Ok(())
     }
 }

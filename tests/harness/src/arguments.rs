@@ -62,6 +62,14 @@ pub fn id(area: &[u8], random: &mut Random) -> u32 {
     }
 }
 
+/// A share, mostly one of 1 to 8; some of the others are so only modulo 256 or 65,536.
+pub fn share(random: &mut Random) -> u32 {
+    match random.below(4) {
+        0 => *random.pick(&[0, 9, 10, 127, 128, 255, 256, 257, 264, 265, 65_536, 65_537, 65_544, 1 << 31, u32::MAX]),
+        _ => random.between(1, 8) as u32,
+    }
+}
+
 /// A slot that is mostly there; some are 0 to 9 only modulo 256 or 65,536.
 pub fn slot(random: &mut Random) -> u32 {
     match random.below(12) {
@@ -131,7 +139,7 @@ pub fn data(disc: &[u8], random: &mut Random) -> Vec<u8> {
 /// Any call on a state whose buffers have their lengths.
 pub fn call(state: &State, random: &mut Random) -> Call {
     let State { disc, area } = state;
-    match random.below(34) {
+    match random.below(36) {
         0 => Call::Format,
         1 => Call::Boot,
         2..=5 => Call::Store { name: name(disc, random), data: data(disc, random) },
@@ -148,6 +156,7 @@ pub fn call(state: &State, random: &mut Random) -> Call {
         20 => Call::Kill { id: id(area, random) },
         21 => Call::List { room: room(list_need(state), random) },
         22..=23 => Call::Round { clock: clock(random), room: room(ROUND_OUTPUT, random) },
+        24..=25 => Call::Share { id: id(area, random), share: share(random) },
         _ => Call::Turn { slot: slot(random), clock: clock(random), room: turn_room(random) },
     }
 }

@@ -31,13 +31,14 @@ pub enum Call {
     Suspend { id: u32 },
     Resume { id: u32 },
     Kill { id: u32 },
+    Share { id: u32, share: u32 },
     List { room: usize },
     Turn { slot: u32, clock: u32, room: usize },
     Round { clock: u32, room: usize },
 }
 
 /// The operations by name, in the order of [`Call`].
-pub const OPERATIONS: [&str; 14] = [
+pub const OPERATIONS: [&str; 15] = [
     "format",
     "boot",
     "store",
@@ -49,6 +50,7 @@ pub const OPERATIONS: [&str; 14] = [
     "suspend",
     "resume",
     "kill",
+    "share",
     "list",
     "turn",
     "round",
@@ -69,9 +71,10 @@ impl Call {
             Call::Suspend { .. } => 8,
             Call::Resume { .. } => 9,
             Call::Kill { .. } => 10,
-            Call::List { .. } => 11,
-            Call::Turn { .. } => 12,
-            Call::Round { .. } => 13,
+            Call::Share { .. } => 11,
+            Call::List { .. } => 12,
+            Call::Turn { .. } => 13,
+            Call::Round { .. } => 14,
         }
     }
 
@@ -110,6 +113,7 @@ impl Kernel for Second {
             Call::Suspend { id } => second::suspend(disc, area, *id),
             Call::Resume { id } => second::resume(disc, area, *id),
             Call::Kill { id } => second::kill(disc, area, *id),
+            Call::Share { id, share } => second::share(disc, area, *id, *share),
             Call::List { .. } => second::list(disc, area, output),
             Call::Turn { slot, clock, .. } => second::turn(disc, area, *slot, *clock, output),
             Call::Round { clock, .. } => second::round(disc, area, *clock, output),
@@ -140,6 +144,7 @@ impl fmt::Display for Call {
             Call::Erase { name } | Call::Run { name } => write!(f, " {}", literal(name)),
             Call::Files { room } | Call::List { room } => write!(f, " {room}"),
             Call::Suspend { id } | Call::Resume { id } | Call::Kill { id } => write!(f, " {id}"),
+            Call::Share { id, share } => write!(f, " {id} {share}"),
             Call::Turn { slot, clock, room } => write!(f, " {slot} {clock} {room}"),
             Call::Round { clock, room } => write!(f, " {clock} {room}"),
         }

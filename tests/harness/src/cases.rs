@@ -165,6 +165,7 @@ fn parse_call(words: &[&str]) -> Option<Call> {
         ["suspend", id] => Call::Suspend { id: id.parse().ok()? },
         ["resume", id] => Call::Resume { id: id.parse().ok()? },
         ["kill", id] => Call::Kill { id: id.parse().ok()? },
+        ["share", id, share] => Call::Share { id: id.parse().ok()?, share: share.parse().ok()? },
         ["list", room] => Call::List { room: room.parse().ok()? },
         ["turn", slot, clock, room] => {
             Call::Turn { slot: slot.parse().ok()?, clock: clock.parse().ok()?, room: room.parse().ok()? }

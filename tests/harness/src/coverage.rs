@@ -4,6 +4,7 @@ use crate::call::{Call, State};
 use crate::comparison::Outcome;
 use crate::long_discs;
 use crate::scaling;
+use crate::shares;
 use crate::tables::Tables;
 use second::instruction::{DELAYUNTIL, FORK, OPEN, SET, WAITUNTILDONE};
 use second::layout::*;
@@ -28,6 +29,7 @@ impl Coverage {
         let answer = if after.number < 0 { after.number.unsigned_abs() as u8 } else { 0 };
         self.tables_of(&before.disc).count_answer(call.operation(), answer);
         long_discs::situations(call, answer, before, after).into_iter().for_each(|name| self.reach(name));
+        shares::situations(call, answer, before, after).iter().for_each(|name| self.reach(name));
         match (call, answer) {
             (Call::Turn { slot, clock, .. }, 0) => {
                 self.record_turn(records::record(*slot as usize), *clock, before, &after.state)

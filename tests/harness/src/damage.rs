@@ -36,13 +36,19 @@ const DISC_DAMAGES: [(&str, Change); 16] = [
 ];
 
 /// Each clause of a good work area, broken by one byte or field.
-const AREA_DAMAGES: [(&str, Change); 37] = [
+const AREA_DAMAGES: [(&str, Change); 39] = [
     ("variable count above 25", |s, r| put(&mut s.area, VARIABLE_COUNT, *r.pick(&[26, 27, 255]))),
     ("one of the seven zeros", |s, r| put(&mut s.area, ZEROS + r.below(ZEROS_LEN), r.between(1, 255) as u8)),
     ("next ID 0", |s, _| set(&mut s.area, NEXT_ID, 0)),
     ("next ID above 32768", |s, r| set(&mut s.area, NEXT_ID, *r.pick(&[32_769, 40_000, 65_535]))),
     ("unknown state", |s, r| put(&mut s.area, records::record(r.below(10)) + STATE, *r.pick(b"\x01RPsq\x80"))),
-    ("spare byte", |s, r| live(s, r, |s, at, r| put(&mut s.area, at + SPARE, r.between(1, 255) as u8))),
+    ("spare byte 9", |s, r| live(s, r, |s, at, _| put(&mut s.area, at + SPARE, 9))),
+    ("spare byte above 9", |s, r| live(s, r, |s, at, r| put(&mut s.area, at + SPARE, r.between(10, 255) as u8))),
+    ("spare byte of a paused process", |s, r| {
+        live(s, r, |s, at, r| {
+            put(&mut s.area, at + STATE, PAUSED) && put(&mut s.area, at + SPARE, r.between(9, 255) as u8)
+        })
+    }),
     ("ID 0", |s, r| live(s, r, |s, at, _| set(&mut s.area, at + ID, 0))),
     ("ID equal to next ID", |s, r| live(s, r, |s, at, _| copy(&mut s.area, NEXT_ID, at + ID, 2))),
     ("ID above next ID", |s, r| live(s, r, |s, at, _| set(&mut s.area, at + ID, 65_535))),
@@ -130,7 +136,7 @@ const AREA_DAMAGES: [(&str, Change); 37] = [
 ];
 
 /// Changes that keep a state good: the last value allowed, or garbage in an unread place.
-const EDGES: [(&str, Change); 19] = [
+const EDGES: [(&str, Change); 22] = [
     ("PC at the code length", |s, r| live(s, r, |s, at, _| copy(&mut s.area, at + CODE_LENGTH, at + PC, 2))),
     ("loop at the code length", |s, r| live(s, r, |s, at, _| copy(&mut s.area, at + CODE_LENGTH, at + LOOP_PC, 2))),
     ("no loop", |s, r| live(s, r, |s, at, _| set(&mut s.area, at + LOOP_PC, NO_LOOP))),
@@ -159,6 +165,12 @@ const EDGES: [(&str, Change); 19] = [
         r.fill(&mut s.area[at + FAULT..at + RECORD_LEN]);
         r.fill(&mut s.area[at..at + STATE]);
         !records::is_live(&s.area, at)
+    }),
+    ("spare byte 8", |s, r| live(s, r, |s, at, _| put(&mut s.area, at + SPARE, 8))),
+    ("spare byte 0", |s, r| live(s, r, |s, at, _| put(&mut s.area, at + SPARE, 0))),
+    ("spare byte above 8 in an ended record", |s, r| {
+        let at = records::record(r.below(MAX_PROCESSES));
+        put(&mut s.area, at + SPARE, r.between(9, 255) as u8) && !records::is_live(&s.area, at)
     }),
     ("garbage beyond the file count", |s, r| {
         let at = directory::entry(directory::count(&s.disc).min(MAX_FILES));

@@ -9,6 +9,8 @@ use crate::instructions::{compare_numbers, compare_sizes, compare_stacks, compar
 use crate::operands::compare_scaling;
 use crate::scaling;
 use crate::sequences::{compare_sequence, compare_state};
+use crate::sharers::compare_shares;
+use crate::shares;
 use std::time::{Duration, Instant};
 
 /// What one run does.
@@ -33,13 +35,14 @@ const SIZE_UNITS: u64 = 200;
 const NUMBER_UNITS: u64 = 4;
 const NUMBER_PAIRS: usize = 400;
 const SCALING_UNITS: u64 = 4;
+const SHARE_UNITS: u64 = 400;
 const SEQUENCES: u64 = 300;
 const SEQUENCE_LENGTH: usize = 400;
 const STATES: u64 = 2600;
 const PAIRS: u64 = 1000;
 
-/// What must have been reached, at least, in one pass, beside the tables and what `scaling` needs.
-const NEEDED: [(&str, u64); 61] = [
+/// What must have been reached, at least, in one pass, beside the tables and what `scaling` and `shares` need.
+const NEEDED: [(&str, u64); 63] = [
     ("format, bytes behind 1023 that were not 0", 1),
     ("store, more than 863 bytes", 1),
     ("store, 3,935 bytes", 1),
@@ -100,12 +103,14 @@ const NEEDED: [(&str, u64); 61] = [
     ("single process, let go, SET lacks space", 1),
     ("pair, equal in both runs", 100),
     ("pair, equal on discs of both lengths", 100),
+    ("pair, equal with other shares of its own", 100),
+    ("pair, equal with other shares of its neighbours", 50),
     ("pair, a supposition was broken", 5),
 ];
 
 /// The parts by name, in order.
 type Part = fn(&mut Comparison, &Plan) -> Compared<()>;
-const PARTS: [(&str, Part); 13] = [
+const PARTS: [(&str, Part); 14] = [
     ("cases", |comparison, plan| {
         (0..).zip(&plan.cases).try_for_each(|(index, case)| compare_case(comparison, case, index))
     }),
@@ -116,6 +121,7 @@ const PARTS: [(&str, Part); 13] = [
     ("scaling", |comparison, _| {
         (0..SCALING_UNITS).try_for_each(|unit| compare_scaling(comparison, unit, SCALING_UNITS))
     }),
+    ("shares", |comparison, _| (0..SHARE_UNITS).try_for_each(|unit| compare_shares(comparison, unit))),
     ("states", |comparison, _| (0..STATES).try_for_each(|unit| compare_state(comparison, unit))),
     ("damage", |comparison, _| compare_damages(comparison, DAMAGE_REPEATS)),
     ("edges", |comparison, _| compare_edges(comparison, DAMAGE_REPEATS)),
@@ -175,7 +181,8 @@ fn holes(comparison: &Comparison) -> Vec<String> {
     let coverage = &comparison.coverage;
     let few = NEEDED.iter().filter(|(name, least)| coverage.count(name) < *least);
     let few = few.map(|(name, least)| format!("{name}: {} of at least {least}", coverage.count(name)));
-    let never = scaling::needed().into_iter().filter(|name| coverage.count(name) == 0);
+    let named = [scaling::needed(), shares::needed()].concat();
+    let never = named.into_iter().filter(|name| coverage.count(name) == 0);
     let never = never.map(|name| format!("{name}: never"));
     coverage.holes().into_iter().chain(few).chain(never).collect()
 }

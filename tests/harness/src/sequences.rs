@@ -28,13 +28,14 @@ pub fn compare_sequence(comparison: &mut Comparison, unit: u64, length: usize) -
 
 /// A call that keeps a sequence going: programs stored, run and given turns; every other call now and then.
 pub fn step(state: &State, random: &mut Random) -> Call {
-    match random.below(40) {
+    match random.below(42) {
         0..=2 => Call::Store { name: file_name(random), data: file_data(&state.disc, random) },
         3..=5 => Call::Run { name: arguments::name(&state.disc, random) },
         6..=7 => Call::Round { clock: arguments::time(random), room: ROUND_OUTPUT },
         8..=28 => Call::Turn { slot: running_slot(state, random), clock: arguments::time(random), room: TURN_OUTPUT },
         29 => Call::Kill { id: arguments::id(&state.area, random) },
         30 => Call::Erase { name: arguments::name(&state.disc, random) },
+        31..=32 => Call::Share { id: arguments::id(&state.area, random), share: arguments::share(random) },
         _ => match arguments::call(state, random) {
             Call::Format | Call::Boot if random.chance(9, 10) => Call::FreeSpace,
             call => call,

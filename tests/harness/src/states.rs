@@ -207,7 +207,7 @@ fn fill_record(disc: &[u8], area: &mut [u8], record: usize, id: usize, context: 
         set_word(area, record + FILE_LENGTH, open.len());
         set_word(area, record + FILE_OFFSET, up_to(open.len(), random));
     }
-    area[record + SPARE] = 0;
+    area[record + SPARE] = if random.chance(1, 3) { 0 } else { random.between(1, 8) as u8 };
     let stack = values::stack(STACK_LEN, context, random);
     area[record + SP] = if random.chance(1, 8) { random.between(0, STACK_LEN) } else { stack.len() } as u8;
     area[record + STACK..record + STACK + stack.len()].copy_from_slice(&stack);

@@ -4,8 +4,8 @@ use crate::call::OPERATIONS;
 use second::instruction::{DELAYUNTIL, WAITUNTILDONE};
 use std::collections::BTreeMap;
 
-/// The refusals that each operation can give, read off document 01.
-const REFUSALS: [&[u8]; 14] = [
+/// The refusals that each operation can give, read off documents 01 and 02.
+const REFUSALS: [&[u8]; 15] = [
     &[1],
     &[1],
     &[1, 2, 5, 6, 7, 8, 9],
@@ -17,6 +17,7 @@ const REFUSALS: [&[u8]; 14] = [
     &[1, 2, 3, 14, 15],
     &[1, 2, 3, 14, 15],
     &[1, 2, 3, 14],
+    &[1, 2, 3, 14, 22],
     &[1, 2, 3, 4],
     &[1, 2, 3, 4, 16],
     &[1, 2, 3, 4],
@@ -129,11 +130,11 @@ impl Tables {
     pub fn text(&self) -> String {
         let mut text = String::from("operation");
         text = format!("{text:<22}{:>8}", "done");
-        text.extend((1..=16).map(|refusal| format!("{:>7}", -refusal)));
+        text.extend(columns().map(|refusal| format!("{:>7}", -i32::from(refusal))));
         for (operation, name) in OPERATIONS.iter().enumerate() {
             text += &format!("\n{name:<22}{:>8}", self.answer(operation, 0));
             text.extend(
-                (1..=16).map(|refusal| cell(REFUSALS[operation].contains(&refusal), self.answer(operation, refusal))),
+                columns().map(|refusal| cell(REFUSALS[operation].contains(&refusal), self.answer(operation, refusal))),
             );
         }
         text += &format!("\n\n{:<22}{:>8}{:>7}", "instruction", "done", "stays");
@@ -183,6 +184,11 @@ impl Tables {
             .chain(faults.map(|(opcode, fault)| format!("instruction {opcode:?} met fault {fault}")))
             .collect()
     }
+}
+
+/// The refusals that there are.
+fn columns() -> impl Iterator<Item = u8> {
+    (1..=16).chain([22])
 }
 
 fn can_stay(opcode: u8) -> bool {

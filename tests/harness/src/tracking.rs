@@ -6,7 +6,9 @@ use crate::call::{Call, State};
 use crate::comparison::{Answered, Compared, Comparison};
 use crate::coverage::{opcode_at, stack_bytes};
 use crate::long_discs;
+use crate::rounds::{self, turns_of_round, Histories, Turned};
 use crate::scaling;
+use crate::shares;
 use second::fault::Fault;
 use second::instruction::*;
 use second::layout::*;
@@ -44,6 +46,7 @@ struct Seen<'a> {
 #[derive(Default)]
 pub struct Tracking {
     held: Vec<Held>,
+    histories: Histories,
     /// The steps of the process that a caller asked for.
     watched: Option<u32>,
     pub steps: Vec<Step>,
@@ -60,6 +63,9 @@ impl Tracking {
     pub fn call(&mut self, comparison: &mut Comparison, state: &mut State, call: &Call) -> Compared<Answered> {
         let before = state.clone();
         let answered = comparison.call(state, call)?;
+        if answered.is_done() && !shares::are_kept(call, &before, state) {
+            return Err(comparison.broken(format!("# {}: a share is not kept until the end", comparison.place())));
+        }
         self.follow(comparison, &before, call, state, &answered)?;
         Ok(answered)
     }
@@ -73,6 +79,9 @@ impl Tracking {
         after: &State,
         answered: &Answered,
     ) -> Compared<()> {
+        if answered.is_done() {
+            self.histories.follow(call, before);
+        }
         match *call {
             Call::Format | Call::Boot if answered.is_done() => {
                 self.held.clear();
@@ -85,13 +94,27 @@ impl Tracking {
             Call::Turn { slot, clock, .. } if slot < MAX_PROCESSES as u32 => {
                 let (number, output) = (answered.number, answered.written());
                 let record = records::record(slot as usize);
-                self.turn(comparison, &Seen { record, clock, before, after, number, output })
+                self.turn_alone(comparison, &Seen { record, clock, before, after, number, output })
+            }
+            Call::Share { id, share } => {
+                let expected = shares::state_after_share(before, id, share, answered.is_done());
+                self.share(comparison, &expected, after)
             }
             Call::Round { clock, .. } if answered.is_done() => {
                 self.round(comparison, before, clock, after, answered.written())
             }
             _ => Ok(()),
         }
+    }
+
+    /// A turn that is none of a round.
+    fn turn_alone(&mut self, comparison: &mut Comparison, seen: &Seen) -> Compared<()> {
+        let held = self.turn(comparison, seen)?;
+        if held && seen.number >= 0 && seen.before.area[seen.record + SPARE] == MAX_SHARE {
+            let name = shares::of_single(shares::OF_SINGLE_TURN);
+            comparison.coverage.reach(&shares::on_disc(&name, seen.before.disc.len()));
+        }
+        Ok(())
     }
 
     /// "A done round stands for its turns in order, each printing its part of the output."
@@ -103,25 +126,42 @@ impl Tracking {
         after: &State,
         output: &[u8],
     ) -> Compared<()> {
-        let mut state = before.clone();
-        let mut joined: Vec<u8> = Vec::new();
-        for slot in 0..MAX_PROCESSES {
-            let record = records::record(slot);
-            if state.area[record + STATE] != RUNNING {
-                continue;
+        let turns = turns_of_round(before, clock);
+        for slot in turns.chunk_by(|one, next| one.record == next.record) {
+            let mut held = true;
+            for Turned { record, before, after, output, .. } in slot {
+                let number = output.len() as i32;
+                held &= self.turn(comparison, &Seen { record: *record, clock, before, after, number, output })?;
             }
-            let before_turn = state.clone();
-            let mut part = [0; TURN_OUTPUT];
-            let number = second::turn(&mut state.disc, &mut state.area, slot as u32, clock, &mut part);
-            let output = &part[..number.unwrap_or(0) as usize];
-            joined.extend(output);
-            let number = output.len() as i32;
-            self.turn(comparison, &Seen { record, clock, before: &before_turn, after: &state, number, output })?;
+            self.count_slot(comparison, slot, held);
         }
-        if joined != output || state != *after {
+        let joined: Vec<u8> = turns.iter().flat_map(|turned| turned.output.clone()).collect();
+        if joined != output || turns.last().map_or(before, |turned| &turned.after) != after {
             return Err(comparison.broken(format!("# {}: the round is not its turns", comparison.place())));
         }
+        let reached = rounds::of_round(before, &turns);
+        reached.iter().for_each(|name| comparison.coverage.reach(&shares::on_disc(name, before.disc.len())));
         Ok(())
+    }
+
+    /// Counts what a slot's turns in a round met; `held` says whether its single process made all of them too.
+    fn count_slot(&self, comparison: &mut Comparison, turns: &[Turned], held: bool) {
+        let Some(disc_len) = turns.first().map(|first| first.before.disc.len()) else { return };
+        let reached = rounds::of_slot(turns);
+        let single = reached.iter().filter(|_| held).map(|name| shares::of_single(name));
+        let names: Vec<String> = reached.iter().cloned().chain(single).collect();
+        let history = self.histories.of_slot(turns).map(String::from);
+        names.into_iter().chain(history).for_each(|name| comparison.coverage.reach(&shares::on_disc(&name, disc_len)));
+    }
+
+    /// Document 02, Q-9: a share is no command of the single process. It writes its byte, and every held process is as
+    /// before.
+    fn share(&mut self, comparison: &mut Comparison, expected: &State, after: &State) -> Compared<()> {
+        if after != expected {
+            return Err(comparison.broken(format!("# {}: share writes other than its byte", comparison.place())));
+        }
+        let held: Vec<usize> = (0..self.held.len()).filter(|&index| !self.held[index].ended).collect();
+        held.into_iter().try_for_each(|index| self.check(comparison, index, after))
     }
 
     /// The program bytes "are the named file's at the moment run or another's FORK gives out its ID".
@@ -136,16 +176,18 @@ impl Tracking {
         self.check(comparison, self.held.len() - 1, after)
     }
 
-    /// A turn of a record, refused or done; "calls lent too little output aside".
-    fn turn(&mut self, comparison: &mut Comparison, seen: &Seen) -> Compared<()> {
+    /// A turn of a record, refused or done; "calls lent too little output aside". Returns whether a single process made
+    /// it too.
+    fn turn(&mut self, comparison: &mut Comparison, seen: &Seen) -> Compared<bool> {
         if seen.number == -(Refusal::ShortOutput as i32) {
-            return Ok(());
+            return Ok(false);
         }
         if seen.number >= 0 {
             self.let_go_if_supposition_broken(comparison, seen);
             self.let_go_if_written(comparison, seen);
         }
-        if let Some(index) = self.held.iter().position(|held| held.record == seen.record && !held.ended) {
+        let held = self.held.iter().position(|held| held.record == seen.record && !held.ended);
+        if let Some(index) = held {
             let expected = self.held[index].single.turn(seen.clock);
             let expected_number = second::number(expected.clone().map(|bytes| bytes.len() as u32));
             if expected_number != seen.number || expected.is_ok_and(|bytes| bytes != seen.output) {
@@ -158,7 +200,7 @@ impl Tracking {
         if forked {
             self.hold_new(comparison, seen.before, seen.after)?;
         }
-        Ok(())
+        Ok(held.is_some())
     }
 
     /// "executes no file, FORK or WAITUNTILDONE instruction"; "no SET of its own lacks space".

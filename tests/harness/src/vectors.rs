@@ -54,6 +54,7 @@ fn call(operation: &str, arguments: &[&str], room: usize) -> Result<Call, String
         "suspend" => Call::Suspend { id: number(0)? },
         "resume" => Call::Resume { id: number(0)? },
         "kill" => Call::Kill { id: number(0)? },
+        "share" => Call::Share { id: number(0)?, share: number(1)? },
         "list" => Call::List { room },
         "turn" => Call::Turn { slot: number(0)?, clock: number(1)?, room },
         "round" => Call::Round { clock: number(0)?, room },

@@ -42,6 +42,7 @@ extern "C" {
     fn arduinos_suspend(disc: *const u8, disc_len: usize, area: *mut u8, area_len: usize, id: u32) -> i32;
     fn arduinos_resume(disc: *const u8, disc_len: usize, area: *mut u8, area_len: usize, id: u32) -> i32;
     fn arduinos_kill(disc: *const u8, disc_len: usize, area: *mut u8, area_len: usize, id: u32) -> i32;
+    fn arduinos_share(disc: *const u8, disc_len: usize, area: *mut u8, area_len: usize, id: u32, share: u32) -> i32;
     fn arduinos_list(
         disc: *const u8,
         disc_len: usize,
@@ -95,6 +96,7 @@ impl Kernel for Archive {
                 Call::Suspend { id } => arduinos_suspend(d, dn, a, an, *id),
                 Call::Resume { id } => arduinos_resume(d, dn, a, an, *id),
                 Call::Kill { id } => arduinos_kill(d, dn, a, an, *id),
+                Call::Share { id, share } => arduinos_share(d, dn, a, an, *id, *share),
                 Call::List { .. } => arduinos_list(d, dn, a, an, o, on),
                 Call::Turn { slot, clock, .. } => arduinos_turn(d, dn, a, an, *slot, *clock, o, on),
                 Call::Round { clock, .. } => arduinos_round(d, dn, a, an, *clock, o, on),

@@ -1,6 +1,6 @@
 //! What an operation answers. Document 01, "Operations and their refusals".
 
-/// Refusals by their number in document 01.
+/// Refusals by their number in documents 01 and 02.
 #[derive(Clone, Copy, Debug, PartialEq, Eq)]
 pub enum Refusal {
     WrongLength = 1,
@@ -19,6 +19,7 @@ pub enum Refusal {
     NoSuchProcess = 14,
     AlreadyInState = 15,
     NotRunning = 16,
+    BadShare = 22,
 }
 
 pub type Answer = Result<u32, Refusal>;

@@ -47,11 +47,11 @@ fn good_record(disc: &[u8], area: &[u8], record: usize) -> bool {
     }
 }
 
-/// "zero spare bytes in live records", "live IDs from 1 to next ID − 1", "SP at most 32, PC, loop (unless none) and file
-/// offset at most their lengths".
+/// Document 02, Q-9: "The spare byte holds 1 to 8, with zero as one". Document 01: "live IDs from 1 to next ID − 1", "SP
+/// at most 32, PC, loop (unless none) and file offset at most their lengths".
 fn good_registers(area: &[u8], record: usize) -> bool {
     let field = |at: usize| word(area, record + at);
-    area[record + SPARE] == 0
+    area[record + SPARE] <= MAX_SHARE
         && (1..word(area, NEXT_ID)).contains(&field(ID))
         && usize::from(area[record + SP]) <= STACK_LEN
         && field(PC) <= field(CODE_LENGTH)

@@ -44,7 +44,7 @@ pub const MAX_PROCESSES: usize = 10;
 pub const RECORD_LEN: usize = 64;
 
 /// "name 12, ID 2, state 1, fault 1, code start 2, code length 2, PC 2, loop 2, file start 2, file length 2,
-/// file offset 2, SP 1, spare 1 (zero), stack 32."
+/// file offset 2, SP 1, spare 1, stack 32." Document 02, Q-9: "The spare byte holds 1 to 8, with zero as one".
 pub const ID: usize = 12;
 pub const STATE: usize = 14;
 pub const FAULT: usize = 15;
@@ -59,6 +59,7 @@ pub const SP: usize = 30;
 pub const SPARE: usize = 31;
 pub const STACK: usize = 32;
 pub const STACK_LEN: usize = 32;
+pub const MAX_SHARE: u8 = 8;
 
 /// "state 1 ('r' running, 'p' paused, 0 ended)", "loop 2 (hex FFFF: none)".
 pub const RUNNING: u8 = b'r';
@@ -66,9 +67,9 @@ pub const PAUSED: u8 = b'p';
 pub const ENDED: u8 = 0;
 pub const NO_LOOP: usize = 0xFFFF;
 
-/// "at least 32 output bytes"; a round "needs 320 bytes".
+/// "at least 32 output bytes"; Q-9: a round "needs 2,560 output bytes".
 pub const TURN_OUTPUT: usize = 32;
-pub const ROUND_OUTPUT: usize = 320;
+pub const ROUND_OUTPUT: usize = 2560;
 
 /// Whether a disc may have this length.
 pub fn is_disc_len(length: usize) -> bool {

@@ -25,5 +25,5 @@ pub mod variables;
 
 pub use answer::{number, Answer, Refusal};
 pub use files::{erase, files, free_space, retrieve, store};
-pub use processes::{boot, format, kill, list, resume, run, suspend};
+pub use processes::{boot, format, kill, list, resume, run, share, suspend};
 pub use turn::{round, turn};

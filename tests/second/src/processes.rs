@@ -72,6 +72,15 @@ pub fn kill(disc: &[u8], area: &mut [u8], id: u32) -> Answer {
     DONE
 }
 
+/// Document 02, Q-9: "A new operation sets it by ID."; "22 a share outside 1 to 8, after 14."
+pub fn share(disc: &[u8], area: &mut [u8], id: u32, share: u32) -> Answer {
+    need_buffers(disc, area)?;
+    let record = records::of_id(area, id).ok_or(Refusal::NoSuchProcess)?;
+    need((1..=u32::from(MAX_SHARE)).contains(&share), Refusal::BadShare)?;
+    area[record + SPARE] = share as u8;
+    DONE
+}
+
 /// "ID, space, 'r' or 'p', space, name, newline per live process in slot order; returns the bytes written."
 pub fn list(disc: &[u8], area: &[u8], output: &mut [u8]) -> Answer {
     need_buffers(disc, area)?;

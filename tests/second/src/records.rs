@@ -33,8 +33,13 @@ pub fn of_id(area: &[u8], wanted: u32) -> Option<usize> {
     live(area).find(|&record| id(area, record) as u32 == wanted)
 }
 
+/// The turns that a round gives a record. Document 02, Q-9: "The spare byte holds 1 to 8, with zero as one".
+pub fn share(area: &[u8], record: usize) -> u8 {
+    area[record + SPARE].max(1)
+}
+
 /// "Ending (STOP, kill, fault) frees the process's variables. Its record keeps name, ID and fault (0 unless a fault)
-/// and is otherwise zero."
+/// and is otherwise zero." Document 02, Q-9: the share too "is cleared like the rest".
 pub fn end(area: &mut [u8], record: usize, fault: u8) {
     variables::free_all(area, id(area, record));
     area[record + STATE..record + RECORD_LEN].fill(0);

@@ -24,17 +24,27 @@ pub fn turn(disc: &mut [u8], area: &mut [u8], slot: u32, clock: u32, output: &mu
     Ok(take_turn(disc, area, record, clock, output) as u32)
 }
 
-/// "a turn for slots 0 to 9, each if running when reached, under one clock reading, outputs joined; needs 320 bytes."
+/// "a turn for slots 0 to 9, each if running when reached, under one clock reading, outputs joined". Document 02, Q-9: it
+/// "gives a slot that many turns in a row while it stays running, and needs 2,560 output bytes."
 pub fn round(disc: &mut [u8], area: &mut [u8], clock: u32, output: &mut [u8]) -> Answer {
     need_buffers(disc, area)?;
     need_or_refuse(output.len() >= ROUND_OUTPUT, Refusal::ShortOutput)?;
     let mut printed = 0;
     for record in records::all() {
-        if area[record + STATE] == RUNNING {
-            printed += take_turn(disc, area, record, clock, &mut output[printed..]);
-        }
+        printed += take_turns(disc, area, record, clock, &mut output[printed..]);
     }
     Ok(printed as u32)
+}
+
+/// A slot's turns of one round, by its share as it is when the slot is reached. Returns the bytes printed.
+fn take_turns(disc: &mut [u8], area: &mut [u8], record: usize, clock: u32, output: &mut [u8]) -> usize {
+    let mut printed = 0;
+    let mut left = records::share(area, record);
+    while left > 0 && area[record + STATE] == RUNNING {
+        printed += take_turn(disc, area, record, clock, &mut output[printed..]);
+        left -= 1;
+    }
+    printed
 }
 
 /// The turn of a running record; "A faulting instruction changes nothing but the ending."

@@ -134,6 +134,20 @@ pub unsafe extern "C" fn arduinos_kill(
 /// # Safety
 /// As [`arduinos_format`].
 #[no_mangle]
+pub unsafe extern "C" fn arduinos_share(
+    disc: *const u8,
+    disc_len: usize,
+    area: *mut u8,
+    area_len: usize,
+    id: u32,
+    share: u32,
+) -> i32 {
+    number(second::share(from_raw_parts(disc, disc_len), from_raw_parts_mut(area, area_len), id, share))
+}
+
+/// # Safety
+/// As [`arduinos_format`].
+#[no_mangle]
 pub unsafe extern "C" fn arduinos_list(
     disc: *const u8,
     disc_len: usize,

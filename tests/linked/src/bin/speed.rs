@@ -52,7 +52,8 @@ impl Row {
 const TESTS: usize = 0;
 const TURN: usize = 1;
 const ROUND: usize = 4;
-const LONG_TURN: usize = 13;
+const FULL_ROUND: usize = 5;
+const LONG_TURN: usize = 14;
 
 fn rows() -> Vec<Row> {
     let turn = Call::Turn { slot: 5, clock: 0, room: TURN_OUTPUT };
@@ -62,12 +63,14 @@ fn rows() -> Vec<Row> {
     let set = full_state(SHORT_DISC, &[SET, b'b'], &[0, 5, 2]);
     let print = full_state(SHORT_DISC, &[PRINT], &[66, 246, 230, 102, 4]);
     let long = full_state(LONG_DISC, &[INCREMENT], &[0, 5, 2]);
+    let [shared, long_shared] = [SHORT_DISC, LONG_DISC].map(full_shares);
     vec![
         Row::new("tests alone: turn of a paused slot, refused by 16", &paused(&increment), &turn),
         Row::new("turn, INCREMENT", &increment, &turn),
         Row::new("turn, SET", &set, &turn),
         Row::new("turn, PRINT of FLOAT", &print, &turn),
         Row::new("round, ten INCREMENTs", &increment, &round),
+        Row::new("round, ten INCREMENTs, shares of 8", &shared, &round),
         Row::new("round, ten SETs", &set, &round),
         Row::new("round, ten PRINTs of FLOAT", &print, &round),
         Row::new("store, nine files there", &nine_files(&increment), &store),
@@ -78,6 +81,7 @@ fn rows() -> Vec<Row> {
         Row::new("long: tests alone", &paused(&long), &turn),
         Row::new("long: turn, INCREMENT", &long, &turn),
         Row::new("long: round, ten INCREMENTs", &long, &round),
+        Row::new("long: round, ten INCREMENTs, shares of 8", &long_shared, &round),
         Row::new("long: store, nine files there", &nine_files(&long), &store),
         Row::new("long: free space, ten files", &long, &Call::FreeSpace),
         Row::new("long: turn, OPEN of a new file of 3,934 bytes", &one_file(LONG_DISC), &turn),
@@ -98,6 +102,13 @@ fn full_state(disc_len: usize, code: &[u8], stack: &[u8]) -> State {
         second::run(&state.disc, &mut state.area, &name).expect("there are ten slots");
     }
     fill(&mut state.area, stack);
+    state
+}
+
+/// Ten processes, each at eight INCREMENTs with a share of 8: a round of 80 turns.
+fn full_shares(disc_len: usize) -> State {
+    let mut state = full_state(disc_len, &[INCREMENT; 8], &[0, 5, 2]);
+    records::all().for_each(|record| state.area[record + SPARE] = MAX_SHARE);
     state
 }
 
@@ -253,10 +264,10 @@ fn print_parts(measured: &Measured) {
     for (index, (kernel, _)) in KERNELS.iter().enumerate() {
         let of = |row: usize, repeat: usize| measured.rows[row][index][repeat] - short[repeat];
         let over = |part: &dyn Fn(usize) -> f64| median(&(0..REPEATS).map(part).collect::<Vec<f64>>());
-        let [turn, tests, round] = [TURN, TESTS, ROUND].map(|row| over(&|repeat| of(row, repeat)));
+        let [turn, tests, round, full] = [TURN, TESTS, ROUND, FULL_ROUND].map(|row| over(&|repeat| of(row, repeat)));
         let share = over(&|repeat| of(TESTS, repeat) / of(TURN, repeat));
-        let turns = over(&|repeat| of(ROUND, repeat) / of(TURN, repeat));
+        let [turns, full_turns] = [ROUND, FULL_ROUND].map(|row| over(&|repeat| of(row, repeat) / of(TURN, repeat)));
         print!("{kernel}, median: turn at INCREMENT {turn:.0}, its tests {tests:.0} ({share:.2} of it); ");
-        println!("round of ten INCREMENTs {round:.0} ({turns:.2} turns)");
+        println!("round of ten INCREMENTs {round:.0} ({turns:.2} turns), of eighty {full:.0} ({full_turns:.2} turns)");
     }
 }
