@@ -31,7 +31,7 @@ pub extern "C" fn arduinos_store(disc: &mut [u8], name: &[u8], data: &[u8]) -> i
     ensures { λ r. ⌜ ((area out : List ℕ) → returned r (now (disc .exit)) area out
         ≡ answer (other (store (now (name .entry)) (now («data» .entry)))) (lent (now (disc .entry)) area out)) ⌝ }
 {
-    store::numbers::number(store::operations::store(disc, name, data))
+    disc_operation::numbers::number(disc_operation::operations::store(disc, name, data))
 }
 
 #[no_mangle]
@@ -39,7 +39,7 @@ pub extern "C" fn arduinos_retrieve(disc: &[u8], name: &[u8], out: &mut [u8]) ->
     ensures { λ r. ⌜ ((area : List ℕ) → returned r (now (disc .entry)) area (now (out .exit))
         ≡ answer (other (retrieve (now (name .entry)))) (lent (now (disc .entry)) area (now (out .entry)))) ⌝ }
 {
-    store::numbers::number(store::operations::retrieve(disc, name, out))
+    disc_operation::numbers::number(disc_operation::operations::retrieve(disc, name, out))
 }
 
 #[no_mangle]
@@ -55,7 +55,7 @@ pub extern "C" fn arduinos_files(disc: &[u8], out: &mut [u8]) -> i32
     ensures { λ r. ⌜ ((area : List ℕ) → returned r (now (disc .entry)) area (now (out .exit))
         ≡ answer (other files) (lent (now (disc .entry)) area (now (out .entry)))) ⌝ }
 {
-    store::numbers::number(store::operations::files(disc, out))
+    disc_operation::numbers::number(disc_operation::operations::files(disc, out))
 }
 
 #[no_mangle]
@@ -63,7 +63,7 @@ pub extern "C" fn arduinos_free_space(disc: &[u8]) -> i32
     ensures { λ r. ⌜ ((area out : List ℕ) → returned r (now (disc .entry)) area out
         ≡ answer (other freeSpace) (lent (now (disc .entry)) area out)) ⌝ }
 {
-    store::numbers::number(store::operations::free_space(disc))
+    disc_operation::numbers::number(disc_operation::operations::free_space(disc))
 }
 
 #[no_mangle]

@@ -3,10 +3,8 @@ use mathlib.Core.Path.{_≡_, refl}
 use mathlib.Core.Bool.{Bool, true, false}
 use mathlib.Core.List.{List}
 use Prim.Native.Nat.{ℕ}
-use native.Mathlib.Omega.{arith}
 use lib.ListN.{length}
-use Rattle.disc.specs.Directory.{Readable, goodDisc, isDiscLength}
-use Rattle.disc.proofs.Lengths.{readable}
+use Rattle.disc.specs.Directory.{goodDisc, isDiscLength}
 use Rattle.store.specs.Answer.{checked, ifUsable}
 use Rattle.store.specs.File.{unless}
 use Rattle.store.specs.declared.Checked.the-variants.{Usable, Unusable}
@@ -26,19 +24,3 @@ by-checks disc P refuse rest p q r = go (isDiscLength (length disc)) refl (goodD
     go false e b f = p e
     go true e false f = q f
     go true e true f = r e f
-
--- a disc that may be used
-pub record Fit (disc : List ℕ) : Type 0 where
-  pub right : isDiscLength (length disc) ≡ true
-  pub sound : goodDisc disc ≡ true
-  pub ready : Readable disc
-
-pub usable : (disc : List ℕ) → checked disc ≡ Usable → Fit disc
-unfolding checked
-usable disc e = go (isDiscLength (length disc)) refl (goodDisc disc) refl e
-  where
-    go : (a : Bool) → isDiscLength (length disc) ≡ a → (b : Bool) → goodDisc disc ≡ b
-        → unless a (Unusable WrongLength) (unless b (Unusable BadDisc) Usable) ≡ Usable → Fit disc
-    go false l b g h = absurd (let z : _≡_ {A = ℕ} 0 1 = cc in omega arith)
-    go true l false g h = absurd (let z : _≡_ {A = ℕ} 0 1 = cc in omega arith)
-    go true l true g h = record { right = l; sound = g; ready = readable disc l g }

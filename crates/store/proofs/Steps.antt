@@ -4,7 +4,6 @@ use mathlib.Core.Path.{_≡_, sym, ap, ap₂, _∙_}
 use mathlib.Core.List.{List, _++_}
 use native.Mathlib.Nat.{add-zero}
 use native.Mathlib.Omega.{arith}
-use borrow.Author.Tests.{le-leb, lt-leb}
 use lib.ListN.{length, set, replicate, length-append, length-replicate}
 use Rattle.buffer.specs.Buffer.{part, overwrite, zeros}
 use Rattle.buffer.specs.Text.{appended}
@@ -12,13 +11,9 @@ use Rattle.buffer.specs.declared.text.Text.{Text}
 use Rattle.buffer.proofs.Buffer.{overwrite-joined, overwrite-set}
 use Rattle.buffer.proofs.Parts.{part-length}
 use Rattle.buffer.proofs.Texts.{appended-joined}
-use Rattle.disc.specs.Directory.{contents, entryBytes, fileCount, runOf}
+use Rattle.disc.specs.Directory.{entryBytes, fileCount}
 use Rattle.disc.specs.Layout.{countAt, dataStart, entrySize, maxFiles}
-use Rattle.disc.specs.declared.Entry.{Entry}
-use Rattle.store.specs.Answer.{reported, retrieveFile, textAnswer}
 use Rattle.store.specs.File.{entered, erased, newEntry, stored, writtenAt}
-use Rattle.store.specs.declared.Answer.the-variants.{Done, Refused}
-use Rattle.store.specs.declared.Refusal.the-variants.{ShortOutput}
 
 module _ (d : List ℕ) (h : dataStart ≤ length d) where
   pub entered-steps : (p name : List ℕ) (n s count : ℕ) → count ≡ fileCount d → length p ≡ length d
@@ -49,20 +44,3 @@ line-appended t a b c d h =
     ap (λ (u : Text). appended u d) (ap (λ (u : Text). appended u c) (appended-joined t a (omega arith) b)
     ∙ appended-joined t (a ++ b) (simp length-append (omega arith)) c)
     ∙ appended-joined t ((a ++ b) ++ c) (simp length-append (omega arith)) d
-
--- a text that the output has room for, and one that it has not
-pub text-done : (text out after : List ℕ) (n : ℕ) → length text ≡ n → n ≤ length out → after ≡ overwrite out 0 text
-    → reported (Done n) after ≡ textAnswer text out
-text-done text out after n e h q =
-    rw (le-leb (length text) (length out) (omega arith)) (ap₂ (λ (m : ℕ) (l : List ℕ). reported (Done m) l) (sym e) q)
-
-pub text-short : (text out : List ℕ) (n : ℕ) → length text ≡ n → length out < n → reported (Refused ShortOutput) out ≡ textAnswer text out
-text-short text out n e h = rw (lt-leb (length text) (length out) (omega arith))
-
--- a file that the output has room for, and one that it has not
-pub file-done : (e : Entry) (disc out after : List ℕ) → e .len ≤ length out → after ≡ overwrite out 0 (contents disc (runOf e))
-    → reported (Done (e .len)) after ≡ retrieveFile e disc out
-file-done e disc out after h q = rw (le-leb _ _ h) (ap (λ (l : List ℕ). reported (Done (e .len)) l) q)
-
-pub file-short : (e : Entry) (disc out : List ℕ) → length out < e .len → reported (Refused ShortOutput) out ≡ retrieveFile e disc out
-file-short e disc out h = rw (lt-leb _ _ h)

@@ -1,7 +1,5 @@
-// The file store: files on a disc that the caller lends, by name, and the operations on the disc alone.
+// The file store: files on a disc that the caller lends, by name; what the operations on the disc alone answer.
 pub mod file;
-pub mod numbers;
-pub mod operations;
 
 // Document 01's refusals that concern the disc alone.
 pub enum Refusal {

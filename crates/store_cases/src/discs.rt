@@ -6,24 +6,24 @@ ghost use Prim.Native.Nat.{_<_, _≤_};
 ghost use Rattle.disc.specs.Layout.{maxFiles};
 
 pub fn store(disc: &mut [u8], name: &[u8], data: &[u8]) -> i32 {
-    store::numbers::number(store::operations::store(disc, name, data))
+    disc_operation::numbers::number(disc_operation::operations::store(disc, name, data))
 }
 
 pub fn retrieve(disc: &[u8], name: &[u8], out: &mut [u8]) -> i32 {
-    store::numbers::number(store::operations::retrieve(disc, name, out))
+    disc_operation::numbers::number(disc_operation::operations::retrieve(disc, name, out))
 }
 
 pub fn files(disc: &[u8], out: &mut [u8]) -> i32 {
-    store::numbers::number(store::operations::files(disc, out))
+    disc_operation::numbers::number(disc_operation::operations::files(disc, out))
 }
 
 pub fn free_space(disc: &[u8]) -> i32 {
-    store::numbers::number(store::operations::free_space(disc))
+    disc_operation::numbers::number(disc_operation::operations::free_space(disc))
 }
 
 // Erases the file of that name, if the disc is good and has one. Whether it is in use, only the kernel knows.
 fn erase(disc: &mut [u8], name: &[u8]) {
-    if let Checked::Unusable(_) = store::operations::check(disc) {
+    if let Checked::Unusable(_) = disc_operation::operations::check(disc) {
         return;
     }
     if let Found::At(i) = disc::directory::find(disc, name) {

@@ -23,10 +23,10 @@ fn read_part(fd: i32, buf: &mut [u8]) -> usize
 // The operation of a vector, told by its first letter; free space has 'u', for unused.
 fn perform(operation: u8, disc: &mut [u8], name: &[u8], bytes: &[u8], out: &mut [u8]) -> Answer {
     match operation {
-        b's' => store::operations::store(disc, name, bytes),
-        b'r' => store::operations::retrieve(disc, name, out),
-        b'f' => store::operations::files(disc, out),
-        _ => store::operations::free_space(disc),
+        b's' => disc_operation::operations::store(disc, name, bytes),
+        b'r' => disc_operation::operations::retrieve(disc, name, out),
+        b'f' => disc_operation::operations::files(disc, out),
+        _ => disc_operation::operations::free_space(disc),
     }
 }
 
@@ -34,7 +34,7 @@ fn perform(operation: u8, disc: &mut [u8], name: &[u8], bytes: &[u8], out: &mut 
 fn run(operation: u8, disc: &mut [u8], name: &[u8], bytes: &[u8], out: &mut [u8]) {
     let answer = perform(operation, disc, name, bytes, out);
     printing::text(&[operation, b' ']);
-    printing::number(store::numbers::number(answer));
+    printing::number(disc_operation::numbers::number(answer));
     printing::checksum(disc);
     printing::checksum(out);
     printing::text(b"\n");

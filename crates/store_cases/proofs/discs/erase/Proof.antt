@@ -3,7 +3,7 @@ use mathlib.Core.Path.{sym, _∙_}
 use borrow.Author.Needs.{needs}
 use Rattle.disc.specs.Directory.{Readable}
 use Rattle.disc.proofs.Lookups.{lookup-at}
-use Rattle.store.proofs.Checks.{usable}
+use Rattle.disc_operation.proofs.Checks.{usable}
 use Rattle.store_cases.proofs.discs.erase.Statement.{statement}
 use Rattle.store_cases.proofs.discs.erase.Tie as tie
 

@@ -2,11 +2,11 @@
 use mathlib.Core.Path.{sym, ap, _∙_}
 use mir.Facts.{toZ-ofZ, toZ-pos}
 use mir.Syntax.{w32}
 use Rattle.store.specs.Answer.{answerNumber}
 use native.Mathlib.Omega.{arith}
 use borrow.Author.Needs.{needs}
-use Rattle.store.proofs.numbers.number.Statement.{statement}
-use Rattle.store.proofs.numbers.number.Tie as tie
+use Rattle.disc_operation.proofs.numbers.number.Statement.{statement}
+use Rattle.disc_operation.proofs.numbers.number.Tie as tie
 
 returns : tie.Need-returns
 returns c = toZ-pos w32 {n = c .before .answer .given .0 .0} (omega (arith, c .known-told .given))

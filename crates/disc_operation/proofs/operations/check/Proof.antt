@@ -5,10 +5,10 @@ use borrow.Author.Tests.{not-true, not-false}
 use lib.ListN.{length}
 use Rattle.disc.specs.Directory.{isDiscLength}
 use Rattle.disc.proofs.Lengths.{disc-bounds}
 use Rattle.store.specs.Answer.{checked}
 use borrow.Author.Needs.{needs}
-use Rattle.store.proofs.operations.check.Statement.{statement}
-use Rattle.store.proofs.operations.check.Tie as tie
+use Rattle.disc_operation.proofs.operations.check.Statement.{statement}
+use Rattle.disc_operation.proofs.operations.check.Tie as tie
 
 right : (c : tie.Else1) → isDiscLength (length (c .before .before .before .args .disc .now)) ≡ true
 right c = sym (c .before .is-disc-length .ensures) ∙ not-false _ (c .if1 .left)

@@ -9,14 +9,14 @@ use Rattle.buffer.specs.Text.{textSize, written}
 use Rattle.buffer.specs.declared.text.Text.{Text}
 use Rattle.buffer.proofs.Texts.{only-written}
 use Rattle.disc.specs.Directory.{files}
 use Rattle.store.specs.Answer.{checked, fileLine, filesAnswer}
 use Rattle.store.specs.declared.Checked.the-variants.{Usable}
-use Rattle.store.proofs.Checks.{Fit, usable}
-use Rattle.store.proofs.Steps.{text-done, text-short}
+use Rattle.disc_operation.proofs.Checks.{Fit, usable}
+use Rattle.disc_operation.proofs.Outputs.{text-done, text-short}
 use native.Mathlib.Omega.{arith}
 use borrow.Author.Needs.{needs}
-use Rattle.store.proofs.operations.files.Statement.{statement}
-use Rattle.store.proofs.operations.files.Tie as tie
+use Rattle.disc_operation.proofs.operations.files.Statement.{statement}
+use Rattle.disc_operation.proofs.operations.files.Tie as tie
 
 -- the states: the start, the disc tested, found usable, the text put together, and found short enough
 abbrev start : tie.After-check → tie.Start

@@ -4,17 +4,17 @@ use mathlib.Core.Path.{_≡_, sym, ap, _∙_}
 use mathlib.Core.List.{List}
 use lib.ListN.{length}
 use Rattle.disc.proofs.Names.{good-name-is}
 use Rattle.store.specs.Answer.{checked, storeAnswer, storeAt, updated}
 use Rattle.store.specs.File.{stored}
 use Rattle.store.specs.declared.Admission.{Admission}
 use Rattle.store.specs.declared.Answer.the-variants.{Done}
 use Rattle.store.specs.declared.Checked.the-variants.{Usable}
 use Rattle.store.proofs.Admissions.{Admitted, admitted}
-use Rattle.store.proofs.Checks.{Fit, usable}
+use Rattle.disc_operation.proofs.Checks.{Fit, usable}
 use native.Mathlib.Omega.{arith}
 use borrow.Author.Needs.{needs}
-use Rattle.store.proofs.operations.store.Statement.{statement}
-use Rattle.store.proofs.operations.store.Tie as tie
+use Rattle.disc_operation.proofs.operations.store.Statement.{statement}
+use Rattle.disc_operation.proofs.operations.store.Tie as tie
 
 -- the states: the start, the disc tested and found usable, the file admitted, placed and entered
 abbrev start : tie.After-shared-slice-known2 → tie.Start

@@ -1,21 +1,21 @@
 // The operations on the disc alone, for every disc, name and buffer. A refused one writes nothing.
-use crate::Admission;
-use crate::Answer;
-use crate::Checked;
-use crate::Refusal;
 use buffer::Found;
 use buffer::text::Text;
 use disc::Entry;
 use disc::layout::DATA_START;
 use place::Run;
+use store::Admission;
+use store::Answer;
+use store::Checked;
+use store::Refusal;
 ghost use mathlib.Core.Path.{_≡_};
 ghost use Prim.Native.Nat.{_+_, _*_, _≤_};
 ghost use Rattle.buffer.specs.Lists.{flat};
 ghost use Rattle.buffer.specs.Text.{appended, emptyText, textSize};
 ghost use Rattle.disc.specs.Directory.{Readable, files};
 ghost use Rattle.disc.specs.Layout.{lineSize, maxFiles};
 ghost use Rattle.store.specs.Answer.{answerNumber, checked, fileLine, filesAnswer, freeSpaceAnswer, reported};
 ghost use Rattle.store.specs.Answer.{retrieveAnswer, storeAnswer, updated};
 
 // Document 01: "1: a buffer has the wrong length. 2: disc not good." Every operation tries these first.
 pub fn check(disc: &[u8]) -> Checked
@@ -37,15 +37,15 @@ pub fn store(disc: &mut [u8], name: &[u8], data: &[u8]) -> Answer
     if let Checked::Unusable(refusal) = check(disc) {
         return Answer::Refused(refusal);
     }
-    match crate::file::admit(disc, name, data.len()) {
+    match store::file::admit(disc, name, data.len()) {
         Admission::Denied(refusal) => Answer::Refused(refusal),
         Admission::Start(start) => {
-            crate::file::enter(disc, name, data.len(), start);
+            store::file::enter(disc, name, data.len(), start);
             let run = Run {
                 start: start as u16,
                 len: data.len() as u16,
             };
-            crate::file::write_at(disc, run, 0, data);
+            store::file::write_at(disc, run, 0, data);
             Answer::Done(0)
         }
     }

@@ -1,8 +1,8 @@
 // Document 01's numbers for the answers.
-use crate::Answer;
-use crate::Refusal;
+use store::Answer;
+use store::Refusal;
 ghost use mathlib.Core.Path.{_≡_};
 ghost use Rattle.store.specs.Answer.{answerNumber, refusalNumber};
 ghost use lib.IntN.{negℤ, pos};
 
 // Document 01: "−n is refusal n".

@@ -8,14 +8,14 @@ use Rattle.buffer.specs.declared.Found.{Found}
 use Rattle.disc.specs.declared.Entry.{Entry}
 use Rattle.disc.proofs.Goodness.{GoodEntry, good-entry-at}
 use Rattle.disc.proofs.Lookups.{Located, lookup-at}
 use Rattle.store.specs.Answer.{checked, retrieveAnswer, retrieveAt, retrieveFile}
 use Rattle.store.specs.declared.Checked.the-variants.{Usable}
-use Rattle.store.proofs.Checks.{Fit, usable}
-use Rattle.store.proofs.Steps.{file-done, file-short}
+use Rattle.disc_operation.proofs.Checks.{Fit, usable}
+use Rattle.disc_operation.proofs.Outputs.{file-done, file-short}
 use native.Mathlib.Omega.{arith}
 use borrow.Author.Needs.{needs}
-use Rattle.store.proofs.operations.retrieve.Statement.{statement}
-use Rattle.store.proofs.operations.retrieve.Tie as tie
+use Rattle.disc_operation.proofs.operations.retrieve.Statement.{statement}
+use Rattle.disc_operation.proofs.operations.retrieve.Tie as tie
 
 -- the states: the start, the disc tested, the file found, its entry read
 abbrev start : tie.After-slice-known → tie.Start

@@ -1,11 +1,11 @@
 -- `numbers::refusal_number` meets its contract, refusal by refusal.
 use mathlib.Core.Path.{_≡_, sym, ap}
 use lib.IntN.{negℤ, pos}
 use Rattle.store.specs.Answer.{refusalNumber}
 use Rattle.store.specs.declared.Refusal.{Refusal}
 use borrow.Author.Needs.{needs}
-use Rattle.store.proofs.numbers.refusal_number.Statement.{statement}
-use Rattle.store.proofs.numbers.refusal_number.Tie as tie
+use Rattle.disc_operation.proofs.numbers.refusal_number.Statement.{statement}
+use Rattle.disc_operation.proofs.numbers.refusal_number.Tie as tie
 
 numbered : {a b : Refusal} → a ≡ b → negℤ (pos (refusalNumber b)) ≡ negℤ (pos (refusalNumber a))
 numbered e = ap (λ (r : Refusal). negℤ (pos (refusalNumber r))) (sym e)

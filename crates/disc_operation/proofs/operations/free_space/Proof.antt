@@ -10,13 +10,13 @@ use Rattle.place.proofs.Place.{longest-bound}
 use Rattle.disc.specs.Directory.{taken}
 use Rattle.disc.specs.Layout.{dataStart}
 use Rattle.disc.proofs.Entries.{taken-first}
 use Rattle.store.specs.Answer.{checked, freeSpaceAnswer}
 use Rattle.store.specs.declared.Checked.the-variants.{Usable}
-use Rattle.store.proofs.Checks.{Fit, usable}
+use Rattle.disc_operation.proofs.Checks.{Fit, usable}
 use native.Mathlib.Omega.{arith}
 use borrow.Author.Needs.{needs}
-use Rattle.store.proofs.operations.free_space.Statement.{statement}
-use Rattle.store.proofs.operations.free_space.Tie as tie
+use Rattle.disc_operation.proofs.operations.free_space.Statement.{statement}
+use Rattle.disc_operation.proofs.operations.free_space.Tie as tie
 
 -- the states: the start, and the disc found usable
 abbrev start : tie.After-check → tie.Start

@@ -9,11 +9,11 @@ use Rattle.buffer.proofs.Lists.{flat-tab-next}
 use Rattle.buffer.proofs.Texts.{appended-joined}
 use Rattle.disc.specs.Directory.{entryAt, fileCount}
 use Rattle.disc.specs.Layout.{lineSize}
 use Rattle.store.specs.Answer.{fileLine}
 use native.Mathlib.Omega.{arith}
 use borrow.Author.Needs.{needs}
-use Rattle.store.proofs.operations.files_text.Statement.{statement}
-use Rattle.store.proofs.operations.files_text.Tie as tie
+use Rattle.disc_operation.proofs.operations.files_text.Statement.{statement}
+use Rattle.disc_operation.proofs.operations.files_text.Tie as tie
 
 abbrev Inv-loop : tie.InvT-loop
 Inv-loop disc count text₀ i₀ text i = (i ≤ count) × (text .len ≤ i * lineSize)

@@ -7,12 +7,12 @@ use Rattle.buffer.specs.Text.{appended, textSize}
 use Rattle.buffer.specs.declared.text.Text.{Text}
 use Rattle.decimal.specs.Decimal.{decimal}
 use Rattle.disc.specs.Name.{trimmed}
 use Rattle.store.specs.Answer.{fileLine}
 use Rattle.store.proofs.Steps.{line-appended}
 use native.Mathlib.Omega.{arith}
 use borrow.Author.Needs.{needs}
-use Rattle.store.proofs.operations.with_line.Statement.{statement}
-use Rattle.store.proofs.operations.with_line.Tie as tie
+use Rattle.disc_operation.proofs.operations.with_line.Statement.{statement}
+use Rattle.disc_operation.proofs.operations.with_line.Tie as tie
 
 sizes : (s : tie.Start) → length (s .args .text .bytes) ≡ textSize
 sizes s = search needs

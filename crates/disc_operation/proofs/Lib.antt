@@ -1,0 +1,3 @@
+-- The laws of the operations on the disc alone.
+pub mod Checks
+pub mod Outputs

@@ -1,0 +1,3 @@
+// The operations on the disc alone, and their answers by document 01's numbers.
+pub mod numbers;
+pub mod operations;
