@@ -1,4 +1,2 @@
 -- what reading a variable finds
 pub mod Held
--- operands popped one below another
-pub mod Operands

@@ -3,6 +3,5 @@ pub mod clock;
 pub mod decode;
 pub mod execute;
 pub mod flow;
-pub mod operate;
 pub mod reach;
 pub mod values;

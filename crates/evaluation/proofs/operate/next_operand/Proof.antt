@@ -1,8 +1,8 @@
 -- The pop asks by operator and place.
 use Rattle.stack.proofs.Popping.{operand-numeric}
 use borrow.Author.Needs.{needs}
-use Rattle.instruction.proofs.operate.next_operand.Statement.{statement}
-use Rattle.instruction.proofs.operate.next_operand.Tie as tie
+use Rattle.evaluation.proofs.operate.next_operand.Statement.{statement}
+use Rattle.evaluation.proofs.operate.next_operand.Tie as tie
 
 next-number-requires : tie.Need-next-number-requires
 next-number-requires c κs =

@@ -1,12 +1,13 @@
--- The second operand comes off first: the other's type is judged only then.
+-- y comes off first.
 use mathlib.Core.Path.{ap₂, _∙_}
 use Rattle.machine.specs.Effect.{operates}
-use Rattle.operator.specs.Binary.{binary}
-use Rattle.operator.specs.declared.operators.Operator.the-variants.{OfTwo}
-use Rattle.instruction.proofs.Operands.{behind, two-operands}
+use Rattle.operator.specs.declared.operators.Operator.the-variants.{Scale}
+use Rattle.operator.specs.declared.operators.Scaling.the-variants.{Power}
+use Rattle.scaling.specs.Power.{power}
+use Rattle.evaluation.proofs.Operands.{behind, two-operands}
 use borrow.Author.Needs.{needs}
-use Rattle.instruction.proofs.operate.operate_two.Statement.{statement}
-use Rattle.instruction.proofs.operate.operate_two.Tie as tie
+use Rattle.evaluation.proofs.operate.power.Statement.{statement}
+use Rattle.evaluation.proofs.operate.power.Tie as tie
 
 -- ---- the states: the second operand popped; the first
 abbrev start : tie.After-top-operand → tie.Start
@@ -30,12 +31,12 @@ returns c =
     let x = k .next-operand in
     let y = k .before .top-operand in
     let a = start (k .before) .args in
-    two-operands (a .stack .now) (OfTwo (a .operator)) (behind (a .code .now) (a .stack .now) (a .loopstart) (a .at)) (y .result)
-    (x .result) (y .ensures .0) (x .ensures .0) (binary (a .operator))
-    (c .before .apply .ensures ∙ ap₂ (binary (a .operator)) (n .number-in .ensures) (m .number-in2 .ensures)) (c .push-answer .ensures)
+    two-operands (a .stack .now) (Scale Power) (behind (a .code .now) (a .stack .now) (a .loopstart) (a .at)) (y .result)
+    (x .result) (y .ensures .0) (x .ensures .0) (power)
+    (c .before .power-of .ensures ∙ ap₂ (power) (n .number-in .ensures) (m .number-in2 .ensures)) (c .push-answer .ensures)
 
-pub operate-two-spec : {M : Type 1} → statement M
-operate-two-spec =
+pub power-spec : {M : Type 1} → statement M
+power-spec =
     tie.close
     (tie.spec
     (λ c κs. search needs)

@@ -6,8 +6,8 @@ use Rattle.stack.specs.Tops.{bytesBelow}
 use Rattle.stack.specs.declared.TopNumber.{TopNumber}
 use Rattle.stack.proofs.Steps.{last-means}
 use borrow.Author.Needs.{needs}
-use Rattle.instruction.proofs.operate.push_answer.Statement.{statement}
-use Rattle.instruction.proofs.operate.push_answer.Tie as tie
+use Rattle.evaluation.proofs.operate.push_answer.Statement.{statement}
+use Rattle.evaluation.proofs.operate.push_answer.Tie as tie
 
 abbrev start : tie.After-first → tie.Start
 start c = let matched = c .before in matched .before .before .before

@@ -3,10 +3,10 @@ use mathlib.Core.Path.{ap, _∙_}
 use Rattle.machine.specs.Effect.{operates}
 use Rattle.operator.specs.Unary.{unary}
 use Rattle.operator.specs.declared.operators.Operator.the-variants.{OfOne}
-use Rattle.instruction.proofs.Operands.{behind, one-operand}
+use Rattle.evaluation.proofs.Operands.{behind, one-operand}
 use borrow.Author.Needs.{needs}
-use Rattle.instruction.proofs.operate.operate_one.Statement.{statement}
-use Rattle.instruction.proofs.operate.operate_one.Tie as tie
+use Rattle.evaluation.proofs.operate.operate_one.Statement.{statement}
+use Rattle.evaluation.proofs.operate.operate_one.Tie as tie
 
 -- ---- the states: the operand popped
 abbrev start : tie.After-top-operand → tie.Start

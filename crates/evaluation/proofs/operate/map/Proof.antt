@@ -3,10 +3,10 @@ use Rattle.machine.specs.Effect.{operates}
 use Rattle.operator.specs.declared.operators.Operator.the-variants.{Scale}
 use Rattle.operator.specs.declared.operators.Scaling.the-variants.{Map}
 use Rattle.scaling.specs.Map.{mapped}
-use Rattle.instruction.proofs.Operands.{behind, five-operands}
+use Rattle.evaluation.proofs.Operands.{behind, five-operands}
 use borrow.Author.Needs.{needs}
-use Rattle.instruction.proofs.operate.map.Statement.{statement}
-use Rattle.instruction.proofs.operate.map.Tie as tie
+use Rattle.evaluation.proofs.operate.map.Statement.{statement}
+use Rattle.evaluation.proofs.operate.map.Tie as tie
 
 -- ---- the states: e popped; d; c; b; a, and then the five numbers
 abbrev start : tie.After-top-operand → tie.Start

@@ -1,8 +1,8 @@
 -- The pop asks by operator and place.
 use Rattle.stack.proofs.Popping.{operand-numeric}
 use borrow.Author.Needs.{needs}
-use Rattle.instruction.proofs.operate.top_operand.Statement.{statement}
-use Rattle.instruction.proofs.operate.top_operand.Tie as tie
+use Rattle.evaluation.proofs.operate.top_operand.Statement.{statement}
+use Rattle.evaluation.proofs.operate.top_operand.Tie as tie
 
 top-number-requires : tie.Need-top-number-requires
 top-number-requires c κs =

@@ -2,8 +2,8 @@
 use Rattle.machine.specs.Effect.{operates}
 use Rattle.stack.proofs.Steps.{last-means}
 use borrow.Author.Needs.{needs}
-use Rattle.instruction.proofs.operate.operate.Statement.{statement}
-use Rattle.instruction.proofs.operate.operate.Tie as tie
+use Rattle.evaluation.proofs.operate.operate.Statement.{statement}
+use Rattle.evaluation.proofs.operate.operate.Tie as tie
 
 abbrev start : tie.After-enum-told → tie.Start
 start c = let matched = c .before in matched .before .before .before

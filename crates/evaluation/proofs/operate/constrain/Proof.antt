@@ -5,10 +5,10 @@ use Rattle.operator.specs.declared.Outcome.the-variants.{Value}
 use Rattle.operator.specs.declared.operators.Operator.the-variants.{Scale}
 use Rattle.operator.specs.declared.operators.Scaling.the-variants.{Constrain}
 use Rattle.scaling.specs.Constrain.{constrained}
-use Rattle.instruction.proofs.Operands.{behind, three-operands}
+use Rattle.evaluation.proofs.Operands.{behind, three-operands}
 use borrow.Author.Needs.{needs}
-use Rattle.instruction.proofs.operate.constrain.Statement.{statement}
-use Rattle.instruction.proofs.operate.constrain.Tie as tie
+use Rattle.evaluation.proofs.operate.constrain.Statement.{statement}
+use Rattle.evaluation.proofs.operate.constrain.Tie as tie
 
 -- ---- the states: b popped; a; x
 abbrev start : tie.After-top-operand → tie.Start

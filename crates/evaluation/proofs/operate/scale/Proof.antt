@@ -1,7 +1,7 @@
 -- By the operator.
 use borrow.Author.Needs.{needs}
-use Rattle.instruction.proofs.operate.scale.Statement.{statement}
-use Rattle.instruction.proofs.operate.scale.Tie as tie
+use Rattle.evaluation.proofs.operate.scale.Statement.{statement}
+use Rattle.evaluation.proofs.operate.scale.Tie as tie
 
 pub scale-spec : {M : Type 1} → statement M
 scale-spec =
