@@ -1,13 +1,5 @@
 // One instruction.
-use crate::clock::delay;
-use crate::clock::push_clock;
 use crate::decode::instruction;
-use crate::flow::drop_number;
-use crate::flow::end_while;
-use crate::flow::enter_while;
-use crate::flow::jump_if;
-use crate::flow::loop_back;
-use crate::flow::mark_loop;
 use crate::reach::reach;
 use crate::values::get_variable;
 use crate::values::print;
@@ -15,6 +7,14 @@ use crate::values::push_literal;
 use crate::values::push_text;
 use crate::values::set_variable;
 use area::variables::variables_of;
+use control::clock::delay;
+use control::clock::push_clock;
+use control::flow::drop_number;
+use control::flow::end_while;
+use control::flow::enter_while;
+use control::flow::jump_if;
+use control::flow::loop_back;
+use control::flow::mark_loop;
 use evaluation::operate::operate;
 use machine::instruction::Instruction;
 use stack::Action;

@@ -1,7 +1,5 @@
 // One instruction of one process: a function of its program bytes, its stack, the clock and its own variables.
-pub mod clock;
 pub mod decode;
 pub mod execute;
-pub mod flow;
 pub mod reach;
 pub mod values;

@@ -8,8 +8,8 @@ use borrow.Author.Tests.{le-leb, lt-leb}
 use Rattle.machine.proofs.Instructions.Settling.{settle-nowhere}
 use Rattle.stack.proofs.Steps.{last-means}
 use borrow.Author.Needs.{needs}
-use Rattle.instruction.proofs.flow.end_while.Statement.{statement}
-use Rattle.instruction.proofs.flow.end_while.Tie as tie
+use Rattle.control.proofs.flow.end_while.Statement.{statement}
+use Rattle.control.proofs.flow.end_while.Tie as tie
 
 -- ---- the states: nothing there; the raw byte read
 abbrev empty : tie.Then1 → tie.Start

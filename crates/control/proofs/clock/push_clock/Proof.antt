@@ -1,8 +1,8 @@
 -- The clock's two bytes above the whole stack.
 use lib.Seq.{take-length}
 use borrow.Author.Needs.{needs}
-use Rattle.instruction.proofs.clock.push_clock.Statement.{statement}
-use Rattle.instruction.proofs.clock.push_clock.Tie as tie
+use Rattle.control.proofs.clock.push_clock.Statement.{statement}
+use Rattle.control.proofs.clock.push_clock.Tie as tie
 
 abbrev start : tie.After-bytes → tie.Start
 start c = c .before .before .before

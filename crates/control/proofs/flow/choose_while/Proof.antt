@@ -5,8 +5,8 @@ use native.Mathlib.Omega.{arith}
 use borrow.Author.Tests.{le-leb, lt-leb}
 use Rattle.stack.proofs.Steps.{last-means}
 use borrow.Author.Needs.{needs}
-use Rattle.instruction.proofs.flow.choose_while.Statement.{statement}
-use Rattle.instruction.proofs.flow.choose_while.Tie as tie
+use Rattle.control.proofs.flow.choose_while.Statement.{statement}
+use Rattle.control.proofs.flow.choose_while.Tie as tie
 
 -- ---- the states: both bytes widened
 abbrev other : tie.After-wide3 → tie.Else1

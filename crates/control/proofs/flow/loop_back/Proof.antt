@@ -4,8 +4,8 @@ use borrow.Author.Tests.{eq-eqb, ne-eqb}
 use Rattle.machine.proofs.Instructions.Settling.{settle-nowhere}
 use Rattle.stack.proofs.Steps.{last-means}
 use borrow.Author.Needs.{needs}
-use Rattle.instruction.proofs.flow.loop_back.Statement.{statement}
-use Rattle.instruction.proofs.flow.loop_back.Tie as tie
+use Rattle.control.proofs.flow.loop_back.Statement.{statement}
+use Rattle.control.proofs.flow.loop_back.Tie as tie
 
 abbrev start : tie.Then1 → tie.Start
 start c = c .before .before .before

@@ -7,8 +7,8 @@ use Rattle.operator.specs.declared.instruction.Types.the-variants.{AnyNumber}
 use Rattle.stack.proofs.Popping.{NumberOnTop, number-faults, number-on-top}
 use Rattle.stack.proofs.Steps.{last-means}
 use borrow.Author.Needs.{needs}
-use Rattle.instruction.proofs.flow.enter_while.Statement.{statement}
-use Rattle.instruction.proofs.flow.enter_while.Tie as tie
+use Rattle.control.proofs.flow.enter_while.Statement.{statement}
+use Rattle.control.proofs.flow.enter_while.Tie as tie
 
 -- ---- the states: the code ends; the argument bytes are there; popped; a number; judged
 abbrev ended : tie.Then1 → tie.Start

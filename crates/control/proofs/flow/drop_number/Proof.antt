@@ -3,8 +3,8 @@ use native.Mathlib.Omega.{arith}
 use Rattle.operator.specs.declared.instruction.Types.the-variants.{AnyNumber}
 use Rattle.stack.proofs.Popping.{NumberOnTop, number-faults, number-on-top}
 use borrow.Author.Needs.{needs}
-use Rattle.instruction.proofs.flow.drop_number.Statement.{statement}
-use Rattle.instruction.proofs.flow.drop_number.Tie as tie
+use Rattle.control.proofs.flow.drop_number.Statement.{statement}
+use Rattle.control.proofs.flow.drop_number.Tie as tie
 
 -- ---- the states: popped; a number
 abbrev start : tie.After-top-number → tie.Start

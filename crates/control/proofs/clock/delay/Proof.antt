@@ -4,8 +4,8 @@ use mathlib.Core.Path.{sym, _∙_}
 use Rattle.operator.specs.declared.instruction.Types.the-variants.{CharOrInt}
 use Rattle.stack.proofs.Popping.{NumberOnTop, number-faults, number-on-top}
 use borrow.Author.Needs.{needs}
-use Rattle.instruction.proofs.clock.delay.Statement.{statement}
-use Rattle.instruction.proofs.clock.delay.Tie as tie
+use Rattle.control.proofs.clock.delay.Statement.{statement}
+use Rattle.control.proofs.clock.delay.Tie as tie
 
 -- ---- the states: popped; a number; judged
 abbrev start : tie.After-top-number → tie.Start
