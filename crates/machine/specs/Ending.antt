@@ -4,6 +4,7 @@ use mathlib.Core.Path.{_≡_}
 use mathlib.Core.Bool.{not}
 use mathlib.Core.List.{List, []}
 use mathlib.Core.Logic.{_⊎_}
+use lib.ListN.{replicate}
 use Rattle.buffer.specs.Lists.{keep}
 use Rattle.variable.specs.Assign.{assigned, valueOf}
 use Rattle.variable.specs.Table.{counted, owned, ownedBy}
@@ -13,7 +14,7 @@ use Rattle.variable.specs.declared.Assigned.{Assigned}
 use Rattle.variable.specs.declared.Placing.the-variants.{NoEntry, NoRun}
 use Rattle.machine.specs.Beyond.{breaks, answered}
 use Rattle.machine.specs.Effect.{assigns, stops, faults, asks, Request}
-use Rattle.machine.specs.Ended.{endedProcess}
+use Rattle.machine.specs.Limits.{stackSize}
 use Rattle.machine.specs.State.{Local, processAt}
 use Rattle.machine.specs.Turn.{effectAt}
 use Rattle.machine.specs.declared.Kernel.{Kernel}
@@ -42,8 +43,21 @@ pub record Touched (k : Kernel) (slot n : ℕ) (j : Kernel) : Type 0 where
   -- Document 01: "Freed memory keeps its bytes"
   pub memory : j .variables .memory ≡ k .variables .memory
   pub others : (i : ℕ) → (i ≡ slot → ⊥) → processAt j i ≡ processAt k i
-  -- Document 01: "Its record keeps name, ID and fault (0 unless a fault) and is otherwise zero."
-  pub own : processAt j slot ≡ endedProcess (processAt k slot) n
+  -- Document 01: "Its record keeps name, ID and fault (0 unless a fault) and is otherwise zero."; so its share, too
+  pub own : processAt j slot
+      ≡ record {
+        name = processAt k slot .name;
+        id = processAt k slot .id;
+        state = 0;
+        fault = n;
+        code = record { start = 0; len = 0 };
+        pc = 0;
+        loopstart = 0;
+        file = record { start = 0; len = 0; offset = 0 };
+        sp = 0;
+        share = 0;
+        stack = replicate stackSize 0;
+      }
   pub other-variables : (id : ℕ) → (id ≡ processAt k slot .id → ⊥) → owned (j .variables) id ≡ owned (k .variables) id
   pub other-entries : entriesOfOthers (processAt k slot .id) (j .variables) ≡ entriesOfOthers (processAt k slot .id)
       (k .variables)

@@ -1,13 +1,13 @@
 -- No call changes the length of disc, area or output: no kind of change changes the disc's, the area is the bytes of a state before and
 -- after, and no text written is longer than the output lent.
 use Prim.Native.Nat.{ℕ, zero, suc, _*_, _≤_}
-use mathlib.Core.Path.{_≡_, refl, sym, subst⁻¹, _∙_}
+use mathlib.Core.Path.{_≡_, refl, sym, subst, subst⁻¹, _∙_}
 use mathlib.Core.Bool.{Bool, true, false, _&&_, not, cond}
 use mathlib.Core.List.{List, [], _∷_}
 use native.Mathlib.Omega.{arith}
-use lib.Dec.{eqb, leb, ltb}
+use lib.Dec.{leb, ltb}
 use lib.ListN.{length, replicate, length-append, length-replicate}
-use borrow.Author.Tests.{eqb-true, leb-true}
+use borrow.Author.Tests.{eqb-true, leb-true, ne-eqb}
 use Rattle.buffer.specs.Buffer.{overwrite}
 use Rattle.buffer.specs.Lists.{flat}
 use Rattle.buffer.specs.declared.Found.{Found}
@@ -37,8 +37,10 @@ use Rattle.machine.specs.Operations.{shareOfTurns, shared, slots, turnIf
 use Rattle.machine.specs.Refusals.{Passes}
 use Rattle.machine.specs.Start.{Starting, starts, refuses, starting}
 use Rattle.machine.specs.State.{isRunning, processAt}
+use Rattle.machine.specs.Trace.{atLeastOne}
 use Rattle.machine.specs.Turn.{Turned, turned}
 use Rattle.machine.specs.declared.Kernel.{Kernel}
+use Rattle.machine.specs.declared.Process.{Process}
 use Rattle.machine.proofs.Bytes.Area.{kernel-bytes-length}
 use Rattle.machine.proofs.Changes.Change.{GoodState, begins}
 use Rattle.machine.proofs.Changes.Directories.{live-record}
@@ -92,17 +94,24 @@ unfolding inOrder turnIfRunning
 turns-idle zero k slot clock disc h = refl
 turns-idle (suc n) k slot clock disc h = rw h (turns-idle n k slot clock disc h)
 
--- of a slot that runs, the share is at most 8
+-- "with zero as one"
+pub due : (p : Process) → atLeastOne (p .share) ≡ turnsDue p
+due p = go (p .share) refl
+  where
+    go : (n : ℕ) → p .share ≡ n → atLeastOne n ≡ turnsDue p
+    go zero e = rw e refl
+    go (suc n) e = rw (e, ne-eqb (suc n) 0 (λ (z : suc n ≡ 0). omega arith)) refl
+
+-- of a slot that runs, at most eight turns are due
 pub few-turns : (k : Kernel) (slot : ℕ) (disc : List ℕ) → GoodState k disc → isRunning (processAt k slot) ≡ true
     → turnsDue (processAt k slot) ≤ maxShare
-few-turns k slot disc g h = go (eqb (processAt k slot .share) 0)
+few-turns k slot disc g h =
+    let p = processAt k slot in
+    subst (λ (n : ℕ). n ≤ maxShare) (due p) (at-most (p .share) (live-record g slot (running-live p h) .registers .share))
   where
-    few : processAt k slot .share ≤ maxShare
-    few = live-record g slot (running-live (processAt k slot) h) .registers .share
-
-    go : (none : Bool) → cond none 1 (processAt k slot .share) ≤ maxShare
-    go true = omega arith
-    go false = few
+    at-most : (n : ℕ) → n ≤ maxShare → atLeastOne n ≤ maxShare
+    at-most zero few = omega arith
+    at-most (suc n) few = few
 
 pub share-short : PrintsAtMost shareRoom shareOfTurns
 unfolding shareOfTurns

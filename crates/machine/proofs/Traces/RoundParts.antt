@@ -9,7 +9,6 @@ use lib.Dec.{ltb}
 use lib.IntN.{pos}
 use lib.ListN.{drop, length, replicate, take, length-append}
 use lib.Seq.{drop-at, take-at}
-use borrow.Author.Tests.{ne-eqb}
 use Rattle.buffer.specs.Lists.{all, consIf, flat}
 use Rattle.buffer.proofs.Bools.{and-both, and-left, and-right}
 use Rattle.machine.specs.Answer.{Answer, Buffers, turn, answer, refused}
@@ -22,8 +21,8 @@ use Rattle.machine.specs.Trace.{Event, PrintsItsPart, Storage, counts, e
 use Rattle.machine.specs.Trace.{atLeastOne, shareEvents, turnEvents}
 use Rattle.machine.specs.Turn.{Turned, turned}
 use Rattle.machine.specs.declared.Kernel.{Kernel}
-use Rattle.machine.specs.declared.Process.{Process}
 use Rattle.machine.proofs.Demands.GoodCalls.{good-back, good-kept, passes-good, turn-good}
+use Rattle.machine.proofs.Demands.Lengths.{due}
 use Rattle.machine.proofs.Demands.Rounds.{turn-not-running, turn-running}
 use Rattle.machine.proofs.Traces.Chains.{Leads}
 
@@ -231,13 +230,6 @@ joined-parts s xs ys t u p r =
     last = last-append s xs ys
 
 -- ---- the shares of a round
-due : (p : Process) → atLeastOne (p .share) ≡ turnsDue p
-due p = go (p .share) refl
-  where
-    go : (n : ℕ) → p .share ≡ n → atLeastOne n ≡ turnsDue p
-    go zero e = rw e refl
-    go (suc n) e = rw (e, ne-eqb (suc n) 0 (λ (z : suc n ≡ 0). omega arith)) refl
-
 -- one slot is as good as many of it
 all-low : (n slot : ℕ) → ltb slot slotCount ≡ true → all (λ i. ltb i slotCount) (replicate n slot) ≡ true
 unfolding all
