@@ -1,6 +1,6 @@
-// Runs the example programs of the guide's appendix A, and one for document 02's load lamps, through the functions that
-// the firmware calls. The gate compares what comes out with the file stdout, which was worked out by hand before the
-// first run, from these places:
+// Runs the example programs of the guide's appendix A, one for document 02's load lamps, and two of the former with
+// document 02's shares, through the functions that the firmware calls. The gate compares what comes out with the file
+// stdout, which was worked out by hand before the first run, from these places:
 //   A.1    the stacks that the guide draws, bottom first. Neither example has a STOP, so that the code ends: fault 2
 //   A.2    "print de letter a", 263, 123.45, "test"; no STOP either
 //   A.3.2  "False": 3 is not 5
@@ -17,8 +17,14 @@
 //   Q-3    "Load lamps need CONSTRAIN, MAP and POW": 700 of 0 to 1023 is 700 * 255 / 1023 = 174.4.. of 0 to 255, "cut
 //          toward zero" 174; that kept between 50 and 150 is 150, MAX of 174 and 50 being 174 and MIN of it and 150
 //          being 150; 1.5 POW 2 is 1 * 1.5 * 1.5. Nine instructions to the first PRINTLN, five, four, and STOP
-// A process has one instruction in a round, so that the rounds are the instructions of slot 0, and what it stays at:
-// two rounds at DELAYUNTIL; none or two at WAITUNTILDONE, by whether the child ends in FORK's round or two later.
+//   Q-9    "that many turns in a row while it stays running": of A.3.4's 57 turns seven rounds take eight each, and the
+//          eighth takes STOP. Beside it the same program without a share has had eight turns then, and has printed
+//          nothing; it ends in round 57, as alone. A.4 with its prints takes eight turns up to its first time, 0. In
+//          round 2 MILLIS is 100; DELAYUNTIL stays for the rest of that share and for four whole ones, and lets go in
+//          round 7, which has the next time in the same share, 600. In round 8 MILLIS is 700, and round 13 has 1200
+// Without a share a process has one instruction in a round, so that the rounds are the instructions of slot 0, and what
+// it stays at: two rounds at DELAYUNTIL; none or two at WAITUNTILDONE, by whether the child ends in FORK's round or two
+// later.
 mod code;
 mod programs;
 mod show;
@@ -46,4 +52,19 @@ fn main() {
         MOST_ROUNDS,
     );
     show::run(b"Q-3, load lamps", programs::load_lamps(), MOST_ROUNDS);
+    show::run_beside(
+        b"Q-9, A.3.4 with a share of 8 beside A.3.4, 8 rounds of it",
+        programs::counted(),
+        8,
+    );
+    show::run_beside(
+        b"Q-9, A.3.4 with a share of 8 beside A.3.4",
+        programs::counted(),
+        MOST_ROUNDS,
+    );
+    show::run_shared(
+        b"Q-9, A.4 with prints for pins and a share of 8, 13 rounds of it",
+        programs::blink_printed(),
+        13,
+    );
 }

@@ -2,11 +2,15 @@
 use crate::code::Code;
 use disc::layout::SHORT_DISC;
 use machine::limits::AREA_LENGTH;
+use machine::limits::MAX_SHARE;
 use machine::limits::RECORDS_AT;
 use running::MOST_ROUNDS;
 
 // Milliseconds from one round to the next.
 const STEP: u32 = 100;
+
+// The ID of the first process.
+const FIRST_ID: u32 = 1;
 
 // Where the record of slot 0 has its SP and its stack.
 const SP_AT: usize = RECORDS_AT + 30;
@@ -29,13 +33,40 @@ fn start(title: &[u8], code: Code, disc: &mut [u8], area: &mut [u8; AREA_LENGTH]
     export::arduinos_run(disc, area, b"guide");
 }
 
+// Document 02, Q-9: as many turns a round as there can be.
+fn start_shared(title: &[u8], code: Code, disc: &mut [u8], area: &mut [u8; AREA_LENGTH]) {
+    start(title, code, disc, area);
+    export::arduinos_share(disc, area, FIRST_ID, MAX_SHARE as u32);
+}
+
+fn finish(disc: &mut [u8], area: &mut [u8; AREA_LENGTH], most: u16) {
+    let rounds = running::rounds(disc, area, STEP, most);
+    running::print_end(rounds, area);
+}
+
 // Runs a program to its end, and so many rounds at most.
 pub fn run(title: &[u8], code: Code, most: u16) {
     let mut disc = [0u8; SHORT_DISC];
     let mut area = [0u8; AREA_LENGTH];
     start(title, code, &mut disc, &mut area);
-    let rounds = running::rounds(&mut disc, &mut area, STEP, most);
-    running::print_end(rounds, &area);
+    finish(&mut disc, &mut area, most);
+}
+
+// The same with the most turns a round.
+pub fn run_shared(title: &[u8], code: Code, most: u16) {
+    let mut disc = [0u8; SHORT_DISC];
+    let mut area = [0u8; AREA_LENGTH];
+    start_shared(title, code, &mut disc, &mut area);
+    finish(&mut disc, &mut area, most);
+}
+
+// The same, and in the next slot the same program with one turn a round.
+pub fn run_beside(title: &[u8], code: Code, most: u16) {
+    let mut disc = [0u8; SHORT_DISC];
+    let mut area = [0u8; AREA_LENGTH];
+    start_shared(title, code, &mut disc, &mut area);
+    export::arduinos_run(&disc, &mut area, b"guide");
+    finish(&mut disc, &mut area, most);
 }
 
 fn print_byte(byte: u8) {

@@ -41,13 +41,13 @@ use Rattle.machine.specs.Instruction.{find, instructionOf}
 use Rattle.machine.specs.Isolation.{Isolation, Started, fileNamed, givesOut, startName}
 use Rattle.machine.specs.Suppositions.{Undisturbed, lacksSpace, turnDisturbs, writeLands}
 use Rattle.machine.specs.Observation.{placeIn, Observation, declined, inputs, notRefused, observations, watch}
-use Rattle.machine.specs.Operations.{commanded, inUse, turnIfRunning, turnsOf}
+use Rattle.machine.specs.Operations.{commanded, inOrder, inUse, shareOfTurns, shared, turnIfRunning}
 use Rattle.machine.specs.Single.{single}
 use Rattle.machine.specs.Stack.{pop, popNumber, popString, wellFormed}
 use Rattle.machine.specs.Start.{starting}
 use Rattle.machine.specs.Ended.{ended}
 use Rattle.machine.specs.State.{endedSlot, slotOf}
-use Rattle.machine.specs.Trace.{Event, Invocation, event, events, turnEvents}
+use Rattle.machine.specs.Trace.{Event, Invocation, event, events, lastStorage, shareEvents, total, turnEvents}
 use Rattle.machine.specs.Turn.{carriedOut, turned}
 use Rattle.machine.proofs.Traces.Isolated.{isolated}
 
@@ -77,17 +77,17 @@ started i n calls rest c =
       program = c .program;
     }
 
-runs : Computed 1 1 alone restAlone × Computed 5 12 beside restBeside × (length (watch 1 restAlone) ≡ 11)
+runs : Computed 1 1 alone restAlone × Computed 5 21 beside restBeside × (length (watch 1 restAlone) ≡ 11)
     × (getD (observations (notRefused (watch 1 restAlone))) 7 (declined (pos 0)) ≡ printed)
-unfolding none restAlone restBeside placeIn givesOut lacksSpace turnDisturbs writeLands events turnEvents watch answer otherAnswer
-    storeAnswer checked isDiscLength lookup index entryAt tab goodDisc goodFiles goodEntry goodField goodName besideEntry all pairs apart
-    begins fits freeFrom greatest least place placeOf admission
-    entered erased writtenAt readAt goodArea goodKernel goodHeader goodProcess goodLive goodRegisters goodFile isProgram otherId
-    goodVariables goodVariable goodSize besideVariable kernelOf kernelBytes variablesOf flat inUse any keep ended turned carriedOut answered
-    owned freed assigned placeFor placing added assignedCells exec performs find instructionOf operatorOf lookupOperator includes operates
-    settle pop
-    popNumber popString wellFormed trimmed same unary binary whole wrapped wholeBits convertedFloat numberOf textOf printedOf wholeOf
-    lastDigits ofBits ofFields trailingZeros commanded turnIfRunning turnsOf single starting endedSlot slotOf
+unfolding none restAlone restBeside placeIn givesOut lacksSpace turnDisturbs writeLands events turnEvents shareEvents lastStorage
+    total watch answer otherAnswer storeAnswer checked isDiscLength lookup index entryAt tab goodDisc goodFiles goodEntry goodField
+    goodName besideEntry all pairs apart begins fits freeFrom greatest least place placeOf admission entered erased writtenAt readAt
+    goodArea goodKernel goodHeader goodProcess goodLive goodRegisters goodFile isProgram otherId goodVariables goodVariable goodSize
+    besideVariable kernelOf kernelBytes variablesOf flat inUse any keep ended turned carriedOut answered owned freed assigned
+    placeFor placing added assignedCells exec performs find instructionOf operatorOf lookupOperator includes operates settle pop
+    popNumber popString wellFormed trimmed same unary binary whole wrapped wholeBits convertedFloat numberOf textOf printedOf
+    wholeOf lastDigits ofBits ofFields trailingZeros commanded shared turnIfRunning shareOfTurns inOrder single starting endedSlot
+    slotOf
 runs = (
   record { rest-is = refl; inside = refl; gives = refl; program = refl; undisturbed = refl; inputs-are = refl },
   record { rest-is = refl; inside = refl; gives = refl; program = refl; undisturbed = refl; inputs-are = refl },
@@ -100,14 +100,14 @@ alike : observations (notRefused (watch 1 restAlone)) ≡ observations (notRefus
 unfolding Isolation
 alike =
     isolated empty empty alone beside 1 5 hours restAlone restBeside (started 1 1 alone restAlone (runs .0))
-    (started 5 12 beside restBeside (runs .1)) (runs .0 .undisturbed) (runs .1 .undisturbed)
+    (started 5 21 beside restBeside (runs .1)) (runs .0 .undisturbed) (runs .1 .undisturbed)
     (runs .0 .inputs-are ∙ sym (runs .1 .inputs-are)) .0
 
 pub example-holds : Example
 unfolding Example
 example-holds = (
   started 1 1 alone restAlone (runs .0),
-  started 5 12 beside restBeside (runs .1),
+  started 5 21 beside restBeside (runs .1),
   runs .0 .undisturbed,
   runs .1 .undisturbed,
   runs .0 .inputs-are,

@@ -23,7 +23,7 @@ use Rattle.machine.specs.Effect.{settle}
 use Rattle.machine.specs.Exec.{exec, performs}
 use Rattle.machine.specs.GoodArea.{goodFile, goodHeader, goodKernel, goodLive, goodProcess, goodRegisters, isProgram, otherId}
 use Rattle.machine.specs.Instruction.{find, instructionOf}
-use Rattle.machine.specs.Operations.{commanded, inUse, turnIfRunning, turnsOf}
+use Rattle.machine.specs.Operations.{commanded, inOrder, inUse, shareOfTurns, shared, turnIfRunning}
 use Rattle.machine.specs.Stack.{pop, popNumber, popString, wellFormed}
 use Rattle.machine.specs.Start.{starting}
 use Rattle.machine.specs.Ended.{ended}
@@ -33,19 +33,19 @@ use Rattle.machine.specs.NewFile.{Executes, NoneInterferes, NewFileReadsEmpty, 
 use Rattle.machine.specs.Observation.{placeIn}
 use Rattle.machine.specs.Refusals.{Passes}
 use Rattle.machine.specs.Suppositions.{writeLands}
-use Rattle.machine.specs.Trace.{Event, events, turnEvents}
+use Rattle.machine.specs.Trace.{Event, events, lastStorage, shareEvents, total, turnEvents}
 use Rattle.machine.proofs.NewFiles.Turns.{new-file-reads-empty}
 use Rattle.literal_rows.specs.Calls.{formatted}
 use Rattle.literal_rows.specs.NewFileExample.{NewFileExample, between, calls, none, opening, reading, trace}
 
-computed : Passes (formatted .disc) (formatted .area) × (ltb 6 (length trace) ≡ true) × (ltb 5 (length (drop 7 trace)) ≡ true)
+computed : Passes (formatted .disc) (formatted .area) × (ltb 6 (length trace) ≡ true) × (ltb 6 (length (drop 7 trace)) ≡ true)
     × OpensNew 1 0 opening × NoneInterferes 1 between × Executes 1 0 59 reading
-unfolding trace events turnEvents placeIn writeLands turnsOf turnIfRunning answer otherAnswer formatAnswer storeAnswer checked
-    isDiscLength lookup index entryAt tab goodDisc goodFiles goodEntry goodField goodName besideEntry all pairs apart begins fits freeFrom
-    greatest least place placeOf admission
-    entered erased writtenAt goodArea goodKernel goodHeader goodProcess goodLive goodRegisters goodFile isProgram otherId goodVariables
-    kernelOf kernelBytes variablesOf flat any keep ended turned carriedOut answered owned exec performs find instructionOf operatorOf
-    lookupOperator includes settle pop popNumber popString wellFormed trimmed same numberOf commanded starting endedSlot slotOf inUse
+unfolding trace events turnEvents shareEvents lastStorage total placeIn writeLands inOrder shareOfTurns turnIfRunning answer
+    otherAnswer formatAnswer storeAnswer checked isDiscLength lookup index entryAt tab goodDisc goodFiles goodEntry goodField
+    goodName besideEntry all pairs apart begins fits freeFrom greatest least place placeOf admission entered erased writtenAt
+    goodArea goodKernel goodHeader goodProcess goodLive goodRegisters goodFile isProgram otherId goodVariables kernelOf kernelBytes
+    variablesOf flat any keep ended turned carriedOut answered owned exec performs find instructionOf operatorOf lookupOperator
+    includes settle pop popNumber popString wellFormed trimmed same numberOf commanded shared starting endedSlot slotOf inUse
 computed = (
   record { sizes = refl; disc-good = refl; area-good = refl },
   refl,
@@ -55,11 +55,11 @@ computed = (
   record { clock = 0; call = refl; done = refl; own = refl; found = refl },
 )
 
-splits : trace ≡ take 6 trace ++ (opening ∷ (between ++ (reading ∷ drop 6 (drop 7 trace))))
+splits : trace ≡ take 6 trace ++ (opening ∷ (between ++ (reading ∷ drop 7 (drop 7 trace))))
 splits =
     split-at trace 6 none (ltb-true 6 (length trace) (computed .1))
     ∙ ap (λ (l : List Event). take 6 trace ++ (opening ∷ l))
-    (split-at (drop 7 trace) 5 none (ltb-true 5 (length (drop 7 trace)) (computed .2)))
+    (split-at (drop 7 trace) 6 none (ltb-true 6 (length (drop 7 trace)) (computed .2)))
 
 pub example-holds : NewFileExample
 unfolding NewFileExample NewFileReadsEmpty trace
@@ -69,6 +69,6 @@ example-holds = (
   computed .3,
   computed .4,
   computed .5,
-  new-file-reads-empty formatted calls 1 0 (take 6 trace) opening between reading (drop 6 (drop 7 trace)) (computed .0) splits
+  new-file-reads-empty formatted calls 1 0 (take 6 trace) opening between reading (drop 7 (drop 7 trace)) (computed .0) splits
       (computed .3) (computed .4) (computed .5),
 )

@@ -28,6 +28,8 @@ areaGood =
     (431, 9) ∷ (436, 18) ∷ (438, 18) ∷ (444, 9) ∷ (446, 32) ∷ (448, 255) ∷ (479, 255) ∷
     -- the other live state; the file start where none is open
     (430, 112) ∷ (494, 114) ∷ (504, 77) ∷
+    -- document 02, Q-9: a live record's share
+    (447, 1) ∷ (447, 8) ∷ (511, 8) ∷
     -- all of an ended record but its state
     (544, 255) ∷ (556, 1) ∷ (559, 13) ∷ (564, 255) ∷ (574, 99) ∷ (575, 9) ∷ (607, 255) ∷ []
 
@@ -37,8 +39,8 @@ areaBad =
     (406, 26) ∷ (406, 3) ∷
     -- "known states"
     (430, 113) ∷ (430, 1) ∷ (622, 1) ∷
-    -- "its seven zeros", "zero spare bytes in live records"
-    (409, 1) ∷ (415, 1) ∷ (447, 1) ∷ (511, 1) ∷
+    -- "its seven zeros"; document 02, Q-9: "1 to 8, with zero as one" in live records
+    (409, 1) ∷ (415, 1) ∷ (447, 9) ∷ (511, 255) ∷
     -- "distinct live IDs from 1 to next ID − 1, next ID 1 to 32768"
     (428, 2) ∷ (428, 0) ∷ (428, 4) ∷ (407, 2) ∷ (407, 0) ∷ (408, 128) ∷
     -- "SP at most 32, PC, loop (unless none) and file offset at most their lengths"

@@ -1,11 +1,11 @@
 -- A run in which all that the law about new files supposes holds, so that the law is not empty: between OPEN and
--- READSTRING the process is suspended, a turn of it is refused, another starts and has its turn in a round, and the
--- process is resumed.
+-- READSTRING the process is suspended, its share is set, a turn of it is refused, another starts and has its turn in a
+-- round, and the process is resumed.
 use mathlib.Core.Path.{_≡_}
 use mathlib.Core.List.{List, [], _∷_, _++_, map}
 use lib.IntN.{negsuc}
 use lib.ListN.{drop, getD, take}
-use Rattle.machine.specs.Answer.{Call, command, erase, files as listing, other, round, run, turn}
+use Rattle.machine.specs.Answer.{Call, command, erase, files as listing, other, round, run, share, turn}
 use Rattle.machine.specs.NewFile.{Executes, NoneInterferes, OpensNew, ReadsEmpty}
 use Rattle.machine.specs.Operations.{resume, suspend}
 use Rattle.machine.specs.Refusals.{Passes}
@@ -22,9 +22,9 @@ calls =
     map lent
     (files
     ++ (other (erase log) ∷ run (112 ∷ []) ∷ turn 0 0 ∷ turn 0 0 ∷ turn 0 0 ∷
-    command suspend 1 ∷ turn 0 0 ∷ run (112 ∷ []) ∷ round 0 ∷ command resume 1 ∷ turn 0 0 ∷ []))
+    command suspend 1 ∷ share 1 5 ∷ turn 0 0 ∷ run (112 ∷ []) ∷ round 0 ∷ command resume 1 ∷ turn 0 0 ∷ []))
 
--- its events: OPEN is the seventh, READSTRING the thirteenth; the round has one turn
+-- its events: OPEN is the seventh, READSTRING the fourteenth; the round has one turn
 unfoldable pub trace : List Event
 trace = events calls formatted
 
@@ -36,15 +36,15 @@ abbrev pub opening : Event
 opening = getD trace 6 none
 
 abbrev pub between : List Event
-between = take 5 (drop 7 trace)
+between = take 6 (drop 7 trace)
 
 abbrev pub reading : Event
-reading = getD (drop 7 trace) 5 none
+reading = getD (drop 7 trace) 6 none
 
 unfoldable pub NewFileExample : Type 0
 NewFileExample =
     Passes (formatted .disc) (formatted .area)
-    × (trace ≡ take 6 trace ++ (opening ∷ (between ++ (reading ∷ drop 6 (drop 7 trace)))))
+    × (trace ≡ take 6 trace ++ (opening ∷ (between ++ (reading ∷ drop 7 (drop 7 trace)))))
     × OpensNew 1 0 opening
     × NoneInterferes 1 between
     × Executes 1 0 59 reading

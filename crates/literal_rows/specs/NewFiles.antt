@@ -22,7 +22,7 @@ files = other (store (112 ∷ []) reader) ∷ other (store log tail) ∷ []
 abbrev reads : List Call
 reads = run (112 ∷ []) ∷ turn 0 0 ∷ turn 0 0 ∷ turn 0 0 ∷ turn 0 0 ∷ []
 
--- the five bytes from 170 on; of the record, open file, SP, spare and the stack's first five bytes
+-- the five bytes from 170 on; of the record, open file, SP, share and the stack's first five bytes
 abbrev seen : Storage → List ℕ
 seen s = part (s .disc) 170 5 ++ part (s .area) 440 13
 

@@ -1,5 +1,5 @@
 -- A run from format to turns, suspend and kill, against bytes written out at their offsets; no two fields of the first
--- record are alike but fault and spare, both 0.
+-- record are alike but fault and share, both 0.
 use Prim.Native.Nat.{ℕ}
 use mathlib.Core.Path.{_≡_}
 use mathlib.Core.List.{List, [], _∷_, _++_}
@@ -68,7 +68,7 @@ areaBytes =
     (262, 115 ∷ 3 ∷ 2 ∷ 3 ∷ 2 ∷ 0 ∷ []) ∷
     (406, 2 ∷ []) ∷
     (407, 4 ∷ 0 ∷ []) ∷
-    -- slot 0: name; ID 1, running, fault 0; code 170, 18; PC 16, loop 13; file 161, 9, offset 2; SP 3, spare; stack
+    -- slot 0: name; ID 1, running, fault 0; code 170, 18; PC 16, loop 13; file 161, 9, offset 2; SP 3, share 0; stack
     (416, lamp ++ replicate 8 0) ∷
     (428, 1 ∷ 0 ∷ 114 ∷ 0 ∷ []) ∷
     (432, 170 ∷ 0 ∷ 18 ∷ 0 ∷ []) ∷
