@@ -153,6 +153,8 @@ def call(op, args, b):
         return "answer (command %s %s) %s" % (op, args[0], b)
     if op == "turn":
         return "answer (turn %s %s) %s" % (args[0], args[1], b)
+    if op == "share":
+        return "answer (share %s %s) %s" % (args[0], args[1], b)
     if op == "round":
         return "answer (round %s) %s" % (args[0], b)
     if op == "boot":
@@ -173,7 +175,7 @@ def main():
     uses, names = opened()
     head = "\n".join(
         ["use Prim.Native.Nat.{ℕ}", "use mathlib.Core.Bool.{true, false}", "use mathlib.Core.List.{List, [], _∷_}", "use mathlib.Core.Path.{_≡_, ap, refl}", "use lib.IntN.{ℤ, pos, negsuc}",
-         "use Rattle.machine.specs.Answer.{Buffers, answer, bootAnswer, formatAnswer, turn, round, command, run, other, store, retrieve, erase, files, freeSpace, list}",
+         "use Rattle.machine.specs.Answer.{Buffers, answer, bootAnswer, formatAnswer, turn, round, command, share, run, other, store, retrieve, erase, files, freeSpace, list}",
          "use Rattle.machine.specs.Operations.{suspend, resume, kill}", "use Rattle.machine_try.proofs.Try.{bytes, free-run, lent, says}", "use native.Mathlib.Nat.{not-suc-le-zero}", "use native.Mathlib.Omega.{arith}",
          "use Rattle.place.specs.Place.{longest}", "use Rattle.disc.specs.Directory.{taken}"] + uses) + "\n"
     mods = ["Try"]

@@ -49,9 +49,9 @@ alone =
     lend (turn 0 2) ∷ lend (turn 0 2) ∷ lend (turn 0 2) ∷ lend (turn 0 2) ∷ lend (turn 0 3) ∷ lend (turn 0 3) ∷
     lend (command kill 1) ∷ []
 
--- ID 5 in slot 4, by rounds, beside neighbours with shares of 3 and 2. In the first round the meddler forks ID 4, in the
--- second the starter ID 5, which has its first turn in that round. Its share is set while it is paused; then a round
--- gives it four turns, and the next two, up to its end.
+-- ID 5 in slot 4, by rounds, beside neighbours with shares of 3 and 2. In the first round the meddler forks ID 4, in
+-- the second the starter ID 5, which has its first turn in that round. Its share is set while it is paused; then a
+-- round gives it four turns, and the next two, up to its end.
 abbrev pub beside : List Invocation
 beside =
     storing (108 ∷ []) lamp ∷ storing (109 ∷ []) meddler ∷ storing (99 ∷ []) hours ∷ storing (115 ∷ []) starter ∷

@@ -10,7 +10,8 @@ use lib.ListN.{length}
 use Rattle.disc.specs.Directory.{DiscLength, goodDisc}
 use Rattle.disc.specs.Layout.{dataStart, maxFiles}
 use Rattle.machine.specs.Answer.{Answer, Buffers, Call, Other, turn, round, command, share, run, other, store}
-use Rattle.machine.specs.Answer.{retrieve, erase, files, freeSpace, list, answer, bootAnswer, formatAnswer, goodArea}
+use Rattle.machine.specs.Answer.{retrieve, erase, files, freeSpace, list, answer, bootAnswer, formatAnswer}
+use Rattle.machine.specs.Answer.{goodArea}
 use Rattle.machine.specs.Fields.{Ended, Free, HasId, IsName, Named, NoFile, Uses, filesOn, filesText, nextId}
 use Rattle.machine.specs.Fields.{processesText, sizeOf, stateByte}
 use Rattle.machine.specs.Limits.{areaLength, idLimit, maxShare, roundRoom, slotCount, turnRoom}

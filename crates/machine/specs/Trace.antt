@@ -83,8 +83,8 @@ atLeastOne (suc n) = suc n
 abbrev pub tenSlots : List ℕ
 tenSlots = 0 ∷ 1 ∷ 2 ∷ 3 ∷ 4 ∷ 5 ∷ 6 ∷ 7 ∷ 8 ∷ 9 ∷ []
 
--- Document 02, Q-9: "*Round* gives a slot that many turns in a row while it stays running": as many as its share is when
--- the slot is reached, or fewer where it stops running
+-- Document 02, Q-9: "*Round* gives a slot that many turns in a row while it stays running": as many as its share is
+-- when the slot is reached, or fewer where it stops running
 unfoldable pub shareEvents : List ℕ → ℕ → Storage → List ℕ → List Event
 shareEvents [] clock s text = []
 shareEvents (slot ∷ slots) clock s text =

@@ -1,5 +1,5 @@
--- What is done for slot after slot: what is printed so far, and what the slots that are left still do. A round goes through the ten slots, a
--- share through the turns of one.
+-- What is done for slot after slot: what is printed so far, and what the slots that are left still do. A round goes through the ten slots,
+-- a share through the turns of one.
 use Prim.Native.Nat.{ℕ, _+_, _*_, _≤_, _<_}
 use mathlib.Core.Path.{_≡_, refl, sym, ap, subst⁻¹, _∙_}
 use mathlib.Core.List.{List, [], _∷_, _++_, append-assoc, append-nil}

@@ -59,8 +59,8 @@ fn turns_due(area: &[u8], slot: usize) -> u8
     bytes[SHARE_AT]
 }
 
-// Document 02, Q-9: "that many turns in a row while it stays running". The share is the one that the slot has when it is
-// reached.
+// Document 02, Q-9: "that many turns in a row while it stays running". The share is the one that the slot has when it
+// is reached.
 fn take_share(disc: &mut [u8], area: &mut [u8], slot: usize, clock: u32, out: &mut [u8]) -> usize
     requires { ⌜ Passes (now disc) (now area) × (slot < slotCount) × (shareRoom ≤ length (now out)) ⌝ }
     ensures { λ r. ⌜ turnLeft r (now (disc .exit)) (now (area .exit)) (now (out .exit))

@@ -105,7 +105,8 @@ in-order-good each keeps (slot ∷ l) k clock disc g =
 
 pub share-of-turns-good : KeepsGood shareOfTurns
 unfolding shareOfTurns
-share-of-turns-good k slot clock disc g = in-order-good turnIfRunning turn-if-running-good (replicate (turnsDue (processAt k slot)) slot) k clock disc g
+share-of-turns-good k slot clock disc g =
+    in-order-good turnIfRunning turn-if-running-good (replicate (turnsDue (processAt k slot)) slot) k clock disc g
 
 pub round-good : (k : Kernel) (clock : ℕ) (disc : List ℕ) → GoodState k disc
     → GoodState (roundOf k clock disc .kernel) (roundOf k clock disc .disc)

@@ -23,8 +23,8 @@ use Rattle.store.specs.declared.Refusal.the-variants.{ShortOutput}
 use Rattle.store.proofs.Calls.{store-cases}
 use Rattle.store.proofs.Checks.{by-checks}
 use Rattle.machine.specs.Answer.{Answer, Buffers, Other, store, retrieve, erase, files, freeSpace, list, Call, turn, round}
-use Rattle.machine.specs.Answer.{command, share, run, other, answer, bootAnswer, booted, commandAnswer, done, eraseAt, formatAnswer, onDisc}
-use Rattle.machine.specs.Answer.{onGood, otherAnswer, refused, runAt}
+use Rattle.machine.specs.Answer.{command, share, run, other, answer, bootAnswer, booted, commandAnswer, done, eraseAt, formatAnswer}
+use Rattle.machine.specs.Answer.{onDisc, onGood, otherAnswer, refused, runAt}
 use Rattle.machine.specs.Area.{AreBytes, isAreaLength, kernelOf}
 use Rattle.machine.specs.Demands.{StaysBytes, given, givenOther}
 use Rattle.machine.specs.Limits.{areaLength, maxShare, nextAt, roundRoom, slotCount, turnRoom}

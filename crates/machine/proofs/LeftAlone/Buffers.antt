@@ -21,8 +21,8 @@ use Rattle.store.specs.declared.Refusal.the-variants.{ShortOutput}
 use Rattle.store.proofs.Checks.{by-checks}
 use Rattle.variable.proofs.Views.{take-bound}
 use Rattle.machine.specs.Answer.{Answer, Buffers, Other, store, retrieve, erase, files, freeSpace, list, Call, turn, round}
-use Rattle.machine.specs.Answer.{command, share, run, other, answer, bootAnswer, commandAnswer, eraseAt, formatAnswer, onGood, otherAnswer}
-use Rattle.machine.specs.Answer.{refused, runAt}
+use Rattle.machine.specs.Answer.{command, share, run, other, answer, bootAnswer, commandAnswer, eraseAt, formatAnswer, onGood}
+use Rattle.machine.specs.Answer.{otherAnswer, refused, runAt}
 use Rattle.machine.specs.Area.{isAreaLength, kernelOf}
 use Rattle.machine.specs.LeftAlone.{Keeps, SameArea, SameDisc, SameOut}
 use Rattle.machine.specs.Limits.{roundRoom, slotCount, turnRoom}

@@ -1,5 +1,5 @@
--- Whatever comes between leaves the process as OPEN left it, but for its state and its share, and the bytes of its open file; or the process
--- ends.
+-- Whatever comes between leaves the process as OPEN left it, but for its state and its share, and the bytes of its open file; or the
+-- process ends.
 use Prim.Native.Nat.{ℕ, _≤_, _<_}
 use mathlib.Core.Path.{_≡_, refl, sym, ap, subst, subst⁻¹, _∙_}
 use mathlib.Core.Bool.{Bool, true, false, _||_, cond, not}
@@ -21,8 +21,8 @@ use Rattle.machine.specs.Ended.{ended}
 use Rattle.machine.specs.Limits.{slotCount, turnRoom}
 use Rattle.machine.specs.NewFile.{NoneInterferes, interferes, turnInterferes}
 use Rattle.machine.specs.Observation.{placeIn}
-use Rattle.machine.specs.Operations.{Command, Commanded, becomes, refused as denied, suspend, resume, kill, changed, commandAt, commanded}
-use Rattle.machine.specs.Operations.{shared}
+use Rattle.machine.specs.Operations.{Command, Commanded, becomes, refused as denied, suspend, resume, kill, changed, commandAt}
+use Rattle.machine.specs.Operations.{commanded, shared}
 use Rattle.machine.specs.Refusals.{Passes}
 use Rattle.machine.specs.State.{isLive, isRunning, paused, processAt, running, slotOf, withProcess, withShare, withState}
 use Rattle.machine.specs.Suppositions.{isDoneBy, writeLands}

@@ -88,13 +88,9 @@ pub record Parts (s : Storage) (es : List Event) (u : Turned) : Type 0 where
   pub disc : lastStorage s es .disc ≡ u .disc
   pub area : Whole (s .area) → lastStorage s es .area ≡ kernelBytes (u .kernel)
 
--- text is what these turns print, joined, and what is printed behind them
-turn-parts : (l : List ℕ) (clock : ℕ) (s : Storage) (text more : List ℕ) → all (λ slot. ltb slot slotCount) l ≡ true
-    → Passes (s .disc) (s .area)
-    → text ≡ inOrder turnIfRunning l (kernelOf (s .area)) clock (s .disc) .out ++ more
-    → Parts s (turnEvents l clock s text) (inOrder turnIfRunning l (kernelOf (s .area)) clock (s .disc))
-unfolding turnEvents inOrder Leads all flat total lastStorage PrintsItsPart
-turn-parts [] clock s text more low passes e =
+no-parts : (s : Storage) → Passes (s .disc) (s .area) → Parts s [] (record { kernel = kernelOf (s .area); disc = s .disc; out = [] })
+unfolding Leads flat total lastStorage PrintsItsPart
+no-parts s passes =
     record {
       leads = (refl, refl);
       texts = refl;
@@ -105,6 +101,14 @@ turn-parts [] clock s text more low passes e =
       disc = refl;
       area = λ whole. sym whole;
     }
+
+-- text is what these turns print, joined, and what is printed behind them
+turn-parts : (l : List ℕ) (clock : ℕ) (s : Storage) (text more : List ℕ) → all (λ slot. ltb slot slotCount) l ≡ true
+    → Passes (s .disc) (s .area)
+    → text ≡ inOrder turnIfRunning l (kernelOf (s .area)) clock (s .disc) .out ++ more
+    → Parts s (turnEvents l clock s text) (inOrder turnIfRunning l (kernelOf (s .area)) clock (s .disc))
+unfolding turnEvents inOrder Leads all flat total lastStorage PrintsItsPart
+turn-parts [] clock s text more low passes e = no-parts s passes
 turn-parts (slot ∷ l) clock s text more low passes e =
     go (isRunning (processAt k slot)) refl
     (turn-parts l clock (storageOf a) (drop (counts (a .number)) text) more (and-right (ltb slot slotCount) _ low)
@@ -252,17 +256,7 @@ shares-behind : (l : List ℕ) (clock : ℕ) (s : Storage) (text more : List ℕ
     → text ≡ inOrder shareOfTurns l (kernelOf (s .area)) clock (s .disc) .out ++ more
     → Parts s (shareEvents l clock s text) (inOrder shareOfTurns l (kernelOf (s .area)) clock (s .disc))
 unfolding shareEvents inOrder Leads all flat total lastStorage PrintsItsPart
-shares-behind [] clock s text more low passes e =
-    record {
-      leads = (refl, refl);
-      texts = refl;
-      sum = refl;
-      parts = tt;
-      passes = passes;
-      kernel = refl;
-      disc = refl;
-      area = λ whole. sym whole;
-    }
+shares-behind [] clock s text more low passes e = no-parts s passes
 shares-behind (slot ∷ l) clock s text more low passes e =
     joined-parts s es later t rest own
     (subst (λ (u : Turned). Parts (lastStorage s es) later u) onward

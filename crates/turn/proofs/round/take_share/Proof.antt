@@ -82,7 +82,8 @@ add-printed c =
     let slot = start (l .before) .args .slot in
     let n = l .before .turns-due .result in
     let h = t .loop-test .taken in
-    let short = next-short g turn-steady slot (low l h) (getD-replicate n (l .loop .taken) slot 0 h) _ _ _ _ _ (turned .turn-if-running .ensures) in
+    let here = getD-replicate n (l .loop .taken) slot 0 h in
+    let short = next-short g turn-steady slot (low l h) here _ _ _ _ _ (turned .turn-if-running .ensures) in
     omega (arith, g .little, few (l .before))
 
 loop-again : tie.Need-loop-again Inv-loop μ-loop

@@ -80,7 +80,8 @@ loop-again c =
     let part = turned .take-share .last .1 .1 .1 .1 .0 in
     let low = t .loop-test .taken in
     let h = roomy l low in
-    going-next (l .loop .inv) share-steady (l .loop .slot) low (slot-is (l .loop .slot) low) (turned .take-share .result) (turned .take-share .last .0)
+    going-next (l .loop .inv) share-steady (l .loop .slot) low (slot-is (l .loop .slot) low) (turned .take-share .result)
+    (turned .take-share .last .0)
     (turned .take-share .last .1 .0) part _ _ (turned .take-share .ensures)
     (take-all (length out - printed) (drop printed out) (simp length-drop (omega arith)))
     (ap (λ (r : List ℕ). take printed out ++ (part ++ r))
