@@ -20,7 +20,7 @@ last = int(sys.argv[4]) if len(sys.argv) > 4 else 10 ** 9
 per_file = int(sys.argv[5]) if len(sys.argv) > 5 else 50
 
 CRATES = "buffer decimal place integer root float number operator scaling disc store variable machine".split()
-SKIP = set("Trace Observation Single Suppositions Isolation Refusals Ending NoPlace Demands Cases Bench Fields Tests AtPc Changed Faults Reaching Done LeftAlone DiscLengths Waiting NewFile Rows Meaning".split())
+SKIP = set("Trace Observation Single Suppositions Isolation Refusals Ending NoPlace Demands Fields Tests AtPc Changed Faults Reaching Done LeftAlone DiscLengths Waiting NewFile Rows Meaning".split())
 LOGIC = {"lib.Ieee": "span climb size odd units round neg sum add sub mul div lt eq le ne ofInt whole fits isNan ofFields ofBits nanBits toBits toUnsigned toSigned inUnsigned inSigned inFloat",
          "lib.IntN": "one pow",
          "lib.Count": "trailingZeros leadingZeros"}

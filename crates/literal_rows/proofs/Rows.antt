@@ -24,7 +24,6 @@ use Rattle.variable.specs.Good.{beside as besideVariable, goodSize, goodVariabl
 use Rattle.variable.specs.Table.{freed, owned}
 use Rattle.machine.specs.Answer.{answer, formatAnswer, goodArea, otherAnswer}
 use Rattle.machine.specs.Area.{kernelBytes, kernelOf, variablesOf}
-use Rattle.machine.specs.Bench.{turns}
 use Rattle.machine.specs.Beyond.{answered}
 use Rattle.machine.specs.Effect.{operates, settle}
 use Rattle.machine.specs.Exec.{exec, performs}
@@ -36,6 +35,7 @@ use Rattle.machine.specs.Start.{starting}
 use Rattle.machine.specs.Ended.{ended}
 use Rattle.machine.specs.State.{endedSlot, slotOf}
 use Rattle.machine.specs.Turn.{carriedOut, turned}
+use Rattle.rows.specs.Bench.{turns}
 use Rattle.literal_rows.specs.Calls.{laid, leftBy, numbers}
 use Rattle.literal_rows.specs.Goodness.{AreaRows, DiscRows, LongDiscRows}
 use Rattle.literal_rows.specs.NewFiles.{NewFilesOnBytes}

@@ -7,10 +7,10 @@ use lib.IntN.{ℤ, pos, negsuc}
 use lib.ListN.{getD, replicate, take}
 use Rattle.buffer.specs.Buffer.{part}
 use Rattle.machine.specs.Answer.{Answer, answer, other, run, store, turn}
-use Rattle.machine.specs.Bench.{Progress, Result, Row, reached, refused, runsAt, runsInKernel, shows, stopped, stores}
-use Rattle.machine.specs.Bench.{turns}
-use Rattle.machine.specs.Cases.{cases, waits}
 use Rattle.machine.specs.Trace.{Storage, lending, storageOf}
+use Rattle.rows.specs.Bench.{Progress, Result, Row, reached, refused, runsAt, runsInKernel, shows, stopped, stores}
+use Rattle.rows.specs.Bench.{turns}
+use Rattle.rows.specs.Cases.{cases, waits}
 use Rattle.literal_rows.specs.Calls.{formatted, leftBy, room}
 
 abbrev loaded : List ℕ → Storage

@@ -28,7 +28,3 @@ pub mod LeftAlone
 pub mod Waiting
 -- a file that OPEN creates reads empty
 pub mod NewFiles
--- the bench cases, the misreadings and the rows of DELAYUNTIL
-pub mod BenchCases
--- the rows of rounds with shares hold
-pub mod ShareCases

@@ -42,8 +42,3 @@ pub mod DiscLengths
 pub mod Waiting
 -- a file that OPEN creates reads empty
 pub mod NewFile
--- the bench cases, the misreadings, the rows of DELAYUNTIL and of scaling
-pub mod Bench
-pub mod Cases
--- the rows of rounds with shares
-pub mod ShareRows

@@ -9,7 +9,6 @@ use limits::STACK_SIZE;
 use limits::ZEROS_SIZE;
 use place::Run;
 use variable::Variables;
-ghost use Rattle.machine.specs.Cases.{Bench, Delays, Misreadings, Scalings};
 ghost use Rattle.machine.specs.Demands.{BytesKept, EventsAreCalls, FaultTouchesOwn, GoodKept, LengthsKept};
 ghost use Rattle.machine.specs.Demands.{PlacesRefusedOnly, RoundIsTurns, TurnOutputBound};
 ghost use Rattle.machine.specs.DiscLengths.{EitherLength};
@@ -18,7 +17,6 @@ ghost use Rattle.machine.specs.Isolation.{Isolation};
 ghost use Rattle.machine.specs.LeftAlone.{LeavesAlone};
 ghost use Rattle.machine.specs.NewFile.{NewFileReadsEmpty};
 ghost use Rattle.machine.specs.Reaching.{ReachesExactly};
-ghost use Rattle.machine.specs.ShareRows.{Shares};
 ghost use Rattle.machine.specs.Tests.{RefusedExactly};
 ghost use Rattle.machine.specs.Waiting.{WaitsKeepTime};
 
@@ -51,31 +49,6 @@ pub struct Kernel {
     pub zeros: [u8; ZEROS_SIZE],
     pub processes: [Process; SLOT_COUNT],
 }
-
-// Document 01: the bench cases K1 to K12, "Proved together, in one table with one statement".
-pub fn bench()
-    ensures { λ _. ⌜ Bench ⌝ }
-{}
-
-// Document 01: the 'Misreadings of the guide', each ruled out by a program that shows it.
-pub fn misreadings()
-    ensures { λ _. ⌜ Misreadings ⌝ }
-{}
-
-// Document 02, Q-4: the request's own wait across 32,767, and the edges of the rule.
-pub fn delays()
-    ensures { λ _. ⌜ Delays ⌝ }
-{}
-
-// Document 02, Q-3: the order of the operands of CONSTRAIN, MAP and POW, and of their faults.
-pub fn scalings()
-    ensures { λ _. ⌜ Scalings ⌝ }
-{}
-
-// Document 02, Q-9: what rounds print and leave where processes have shares.
-pub fn shares()
-    ensures { λ _. ⌜ Shares ⌝ }
-{}
 
 // Document 02, Q-4: MILLIS, INT d, PLUS, DELAYUNTIL waits d milliseconds, from every time on.
 pub fn waits_keep_time()

@@ -12,16 +12,16 @@ use Rattle.number.specs.Value.{numberOf}
 use Rattle.place.specs.Place.{apart, begins, fits, freeFrom, greatest, least, place}
 use Rattle.variable.specs.Assign.{added, assigned, placeFor, placing}
 use Rattle.variable.specs.Table.{freed, owned}
 use Rattle.machine.specs.Area.{kernelOf}
 use Rattle.machine.specs.Effect.{operates, settle}
 use Rattle.machine.specs.Exec.{exec}
 use Rattle.machine.specs.Instruction.{instructionOf}
 use Rattle.machine.specs.Stack.{pop, wellFormed}
 use Rattle.machine.specs.Ended.{ended}
 use Rattle.machine.specs.Turn.{turned}
 use Rattle.machine.specs.Operations.{inOrder, shareOfTurns, shared, turnIfRunning}
-use Rattle.machine.specs.ShareRows.{Every, Shares, loading, rounds, shareRows}
 use Rattle.machine.specs.State.{slotOf}
+use Rattle.rows.specs.ShareRows.{Every, Shares, loading, rounds, shareRows}
 
 rows-hold : Every shareRows
 unfolding loading rounds inOrder shareOfTurns shared slotOf turnIfRunning exec instructionOf operatorOf lookupOperator includes

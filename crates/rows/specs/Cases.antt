@@ -4,8 +4,8 @@ use Prim.Native.Nat.{ℕ}
 use mathlib.Core.List.{List, [], _∷_, _++_}
 use lib.ListN.{replicate}
 use Rattle.buffer.specs.Lists.{flat, tab}
 use Rattle.machine.specs.Answer.{Call, other, erase}
-use Rattle.machine.specs.Bench.{Every, Row, runs, runsAt, runsInKernel, shows, stores, storing}
+use Rattle.rows.specs.Bench.{Every, Row, runs, runsAt, runsInKernel, shows, stores, storing}
 
 abbrev pub letters : ℕ → List ℕ
 letters n = replicate n 97

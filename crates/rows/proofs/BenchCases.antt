@@ -26,19 +26,19 @@ use Rattle.store.specs.File.{admission, entered, erased, placeOf, writtenAt}
 use Rattle.variable.specs.Assign.{assignedCells, added, assigned, placeFor, placing}
 use Rattle.variable.specs.Good.{goodVariables}
 use Rattle.variable.specs.Table.{freed, owned}
 use Rattle.machine.specs.Answer.{answer, formatAnswer, goodArea, otherAnswer}
 use Rattle.machine.specs.Area.{kernelOf}
-use Rattle.machine.specs.Bench.{Every, after, turns}
-use Rattle.machine.specs.Cases.{Bench, Delays, Misreadings, Scalings, cases, delays, misreadings, scalings, waits}
 use Rattle.machine.specs.Effect.{operates, settle}
 use Rattle.machine.specs.Exec.{exec}
 use Rattle.machine.specs.GoodArea.{goodHeader, goodKernel, goodProcess, otherId}
 use Rattle.machine.specs.Instruction.{instructionOf}
 use Rattle.machine.specs.Operations.{inUse}
 use Rattle.machine.specs.Single.{single}
 use Rattle.machine.specs.Stack.{pop, wellFormed}
 use Rattle.machine.specs.Ended.{ended}
 use Rattle.machine.specs.Turn.{turned}
+use Rattle.rows.specs.Bench.{Every, after, turns}
+use Rattle.rows.specs.Cases.{Bench, Delays, Misreadings, Scalings, cases, delays, misreadings, scalings, waits}
 
 rows-hold : Every cases × Every misreadings × Every waits × Every delays × Every scalings
 unfolding turns after single exec instructionOf operatorOf lookupOperator includes operates settle pop wellFormed trimmed same unary binary

@@ -7,15 +7,15 @@ use Rattle.buffer.specs.Lists.{flat}
 use Rattle.disc.specs.Layout.{dataStart}
 use Rattle.disc.specs.Name.{padded}
 use Rattle.disc.specs.declared.Entry.{Entry}
 use Rattle.machine.specs.Answer.{booted}
 use Rattle.machine.specs.Area.{kernelOf}
-use Rattle.machine.specs.Cases.{down}
 use Rattle.machine.specs.Operations.{Commanded, becomes, refused, roundOf, shared}
 use Rattle.machine.specs.Start.{started}
 use Rattle.machine.specs.State.{running}
 use Rattle.machine.specs.Turn.{Turned}
 use Rattle.machine.specs.declared.Kernel.{Kernel}
 use Rattle.machine.specs.declared.Process.{Process}
+use Rattle.rows.specs.Cases.{down}
 
 -- a program, and the share that is set for its process; 0 leaves it as *run* made it
 pub record Sharer : Type 0 where
