@@ -27,7 +27,7 @@
 static uint8_t disc[BOX_DISC_SIZE];
 static uint8_t area[ARDUINOS_AREA_SIZE];
 
-/* Counts down from 3: the program of document 01. */
+/* Counts down from 3: the program of document 01. As the box's counter it gets more turns than the lamps. */
 static const uint8_t down[] = {
     2, 0, 3,   /* INT 3 */
     5, 'n',    /* SET n */
@@ -132,6 +132,7 @@ static const char *refusal_name(int32_t number)
     case ARDUINOS_NO_SUCH_PROCESS: return "no such process";
     case ARDUINOS_ALREADY_IN_STATE: return "already in that state";
     case ARDUINOS_NOT_RUNNING: return "not running";
+    case ARDUINOS_BAD_SHARE: return "a share that is not 1 to 8";
     default: return "not a number of this kernel";
     }
 }
@@ -220,13 +221,23 @@ static void store(const char *name, const uint8_t *data, size_t length)
         save_disc();
 }
 
-static void run(const char *name)
+/* The new process's ID, or a refusal. */
+static int32_t run(const char *name)
 {
     int32_t id = arduinos_run(disc, sizeof disc, area, sizeof area, bytes_of(name), strlen(name));
     if (done("run", id))
         printf("box: %s is process %ld\n", name, (long)id);
     else if (id == ARDUINOS_NO_SUCH_FILE)
         printf("box: going on without %s\n", name);
+    return id;
+}
+
+/* A share is kept until the process ends: set it after each start. */
+static void run_with_share(const char *name, uint32_t turns)
+{
+    int32_t id = run(name);
+    if (id >= 0 && done("share", arduinos_share(disc, sizeof disc, area, sizeof area, (uint32_t)id, turns)))
+        printf("box: %s has %lu turns a round\n", name, (unsigned long)turns);
 }
 
 static void erase(const char *name)
@@ -316,7 +327,7 @@ int main(int argc, char **argv)
     store("lamp", lamp, sizeof lamp);
     store("load", load, sizeof load);
     print_files();
-    run("down");
+    run_with_share("down", 4);
     run("lamp");
     run("horn");
     run("load");

@@ -49,8 +49,8 @@ extern "C" {
 #define ARDUINOS_AREA_SIZE 1056
 /* "Turn, one instruction of one slot, with a 32-bit clock and at least 32 output bytes" */
 #define ARDUINOS_TURN_OUTPUT 32
-/* "Round: a turn for slots 0 to 9, [..] outputs joined; needs 320 bytes." */
-#define ARDUINOS_ROUND_OUTPUT 320
+/* By document 02, Q-9, a round "needs 2,560 output bytes": 32 for each of its turns, 80 at most. */
+#define ARDUINOS_ROUND_OUTPUT 2560
 /* "Ten directory entries"; "8 ten files already" */
 #define ARDUINOS_MAX_FILES 10
 /* "A name is 1 to 11 bytes of 33 to 126, zero-filled." Lend its bytes alone, without a zero behind them. */
@@ -65,6 +65,8 @@ extern "C" {
 #define ARDUINOS_LIST_OUTPUT 200
 /* "ten process records": so many processes live at most; slots are numbered 0 to 9. */
 #define ARDUINOS_MAX_PROCESSES 10
+/* "22 a share outside 1 to 8" (document 02, Q-9): so many turns has a process in a round at most; it begins with 1. */
+#define ARDUINOS_MAX_SHARE 8
 /* "A good area has at most 25 variables", those of all processes together. */
 #define ARDUINOS_MAX_VARIABLES 25
 /* "variable memory, 256", for the values of all processes together */
@@ -83,11 +85,13 @@ extern "C" {
 
 /* "416: ten process records of 64 bytes": where the record of slot 0 to 9 begins. */
 #define ARDUINOS_RECORD(slot) (416 + 64 * (slot))
-/* "name 12, ID 2, state 1 [..], fault 1": offsets in a record. */
+/* "name 12, ID 2, state 1 [..], fault 1, [..] spare 1": offsets in a record. Document 02, Q-9: "The spare byte holds 1
+ * to 8, with zero as one". Run and FORK write 0. A live record with more than 8 there makes the work area not good. */
 #define ARDUINOS_RECORD_NAME 0   /* 12 bytes: the name and zeros */
 #define ARDUINOS_RECORD_ID 12    /* 2 bytes, low byte first */
 #define ARDUINOS_RECORD_STATE 14 /* 1 byte, one of the three below */
 #define ARDUINOS_RECORD_FAULT 15 /* 1 byte, an enum arduinos_fault or 0; has a meaning once the process has ended */
+#define ARDUINOS_RECORD_SHARE 31 /* 1 byte, turns a round, 0 counting as 1; has a meaning while the process lives */
 /* "state 1 ('r' running, 'p' paused, 0 ended)". Live means running or paused. */
 #define ARDUINOS_STATE_RUNNING 'r'
 #define ARDUINOS_STATE_PAUSED 'p'
@@ -121,6 +125,9 @@ extern "C" {
  * -15  already in that state            suspend or resume given twice            take it as done
  * -16  slot above 9, or its process     turn of a slot that is paused or ended   pass it over
  *      is not running
+ * -22  share outside 1 to 8             0 to take a share away; nine turns       lend 1 to 8: 1 takes it away
+ *
+ * No function returns -17 to -21.
  */
 enum arduinos_refusal {
     ARDUINOS_WRONG_LENGTH = -1,
@@ -138,7 +145,8 @@ enum arduinos_refusal {
     ARDUINOS_NO_ID = -13,
     ARDUINOS_NO_SUCH_PROCESS = -14,
     ARDUINOS_ALREADY_IN_STATE = -15,
-    ARDUINOS_NOT_RUNNING = -16
+    ARDUINOS_NOT_RUNNING = -16,
+    ARDUINOS_BAD_SHARE = -22
 };
 
 /*
@@ -231,7 +239,8 @@ int32_t arduinos_files(const uint8_t *disc, size_t disc_len, uint8_t *out, size_
    Refused: WRONG_LENGTH, BAD_DISC. */
 int32_t arduinos_free_space(const uint8_t *disc, size_t disc_len);
 
-/* Starts a file as a program, in the lowest ended slot. Returns the new process's ID, from 1.
+/* Starts a file as a program, in the lowest ended slot, with a share of one turn a round. Returns the new process's ID,
+   from 1.
    Refused: WRONG_LENGTH, BAD_DISC, BAD_AREA, NO_SLOT, NO_SUCH_FILE, NO_ID. */
 int32_t arduinos_run(const uint8_t *disc, size_t disc_len, uint8_t *area, size_t area_len, const uint8_t *name,
                      size_t name_len);
@@ -248,14 +257,21 @@ int32_t arduinos_resume(const uint8_t *disc, size_t disc_len, uint8_t *area, siz
    Refused: WRONG_LENGTH, BAD_DISC, BAD_AREA, NO_SUCH_PROCESS. */
 int32_t arduinos_kill(const uint8_t *disc, size_t disc_len, uint8_t *area, size_t area_len, uint32_t id);
 
+/* Sets the share of a live process, running or paused: how many turns in a row a round gives it, 1 to 8. It is kept
+   until the process ends; a program that is started again begins with 1. A share changes when a process has its turns,
+   not what they do: it behaves by its own turns, counted singly. Writes one byte of its record. Returns 0.
+   Refused: WRONG_LENGTH, BAD_DISC, BAD_AREA, NO_SUCH_PROCESS, BAD_SHARE. */
+int32_t arduinos_share(const uint8_t *disc, size_t disc_len, uint8_t *area, size_t area_len, uint32_t id,
+                       uint32_t share);
+
 /* Writes a line for each live process to out, by slot: ID, space, r or p, space, name, newline. Needs no more than this
    text, at most ARDUINOS_LIST_OUTPUT bytes. Returns the bytes written, so 0 if no process lives.
    Refused: WRONG_LENGTH, BAD_DISC, BAD_AREA, SHORT_OUTPUT. */
 int32_t arduinos_list(const uint8_t *disc, size_t disc_len, const uint8_t *area, size_t area_len, uint8_t *out,
                       size_t out_len);
 
-/* Executes one instruction of the process in a slot, 0 to 9. Needs ARDUINOS_TURN_OUTPUT bytes of out, whatever is
-   printed. Returns the bytes it printed to out, 0 if it ended.
+/* Executes one instruction of the process in a slot, 0 to 9, whatever its share. Needs ARDUINOS_TURN_OUTPUT bytes of
+   out, whatever is printed. Returns the bytes it printed to out, 0 if it ended.
    The clock counts milliseconds from any beginning. Programs see its low 16 bits as a signed number, -32,768 to 32,767.
    A wait (DELAYUNTIL) lasts 1 to 32,767 ms, across the end of these bits too; a turn must come within 32,768 ms after
    its end (docs/GUIDE.md, part 5).
@@ -263,9 +279,9 @@ int32_t arduinos_list(const uint8_t *disc, size_t disc_len, const uint8_t *area,
 int32_t arduinos_turn(uint8_t *disc, size_t disc_len, uint8_t *area, size_t area_len, uint32_t slot, uint32_t clock,
                       uint8_t *out, size_t out_len);
 
-/* A turn for each slot from 0 to 9 that runs when it is reached, all under one clock; what they print is joined in out.
-   Needs ARDUINOS_ROUND_OUTPUT bytes of out, whatever is printed. Returns the bytes printed by all of them, so 0 also if
-   nothing runs.
+/* Turns for each slot from 0 to 9 that runs when it is reached: as many in a row as its share is then, while it stays
+   running. All are under one clock; what they print is joined in out. Needs ARDUINOS_ROUND_OUTPUT bytes of out,
+   whatever is printed and whatever the shares are. Returns the bytes printed by all of them, so 0 also if nothing runs.
    Refused: WRONG_LENGTH, BAD_DISC, BAD_AREA, SHORT_OUTPUT. */
 int32_t arduinos_round(uint8_t *disc, size_t disc_len, uint8_t *area, size_t area_len, uint32_t clock, uint8_t *out,
                        size_t out_len);

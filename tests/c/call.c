@@ -28,6 +28,7 @@ const struct operation_facts operations[OPERATION_COUNT] = {
     [SUSPEND] = { "suspend", DISC | AREA, AREA, BY_BOTH | BY(NO_SUCH_PROCESS) | BY(ALREADY_IN_STATE) },
     [RESUME] = { "resume", DISC | AREA, AREA, BY_BOTH | BY(NO_SUCH_PROCESS) | BY(ALREADY_IN_STATE) },
     [KILL] = { "kill", DISC | AREA, AREA, BY_BOTH | BY(NO_SUCH_PROCESS) },
+    [SHARE] = { "share", DISC | AREA, AREA, BY_BOTH | BY(NO_SUCH_PROCESS) | BY(BAD_SHARE) },
     [LIST] = { "list", DISC | AREA | OUT, OUT, BY_BOTH | BY(SHORT_OUTPUT) },
     [TURN] = { "turn", DISC | AREA | OUT, DISC | AREA | OUT, BY_BOTH | BY(SHORT_OUTPUT) | BY(NOT_RUNNING) },
     [ROUND] = { "round", DISC | AREA | OUT, DISC | AREA | OUT, BY_BOTH | BY(SHORT_OUTPUT) },
@@ -109,6 +110,7 @@ static int32_t make(const struct call *call)
     case SUSPEND: return arduinos_suspend(LENT(disc), LENT(area), call->id);
     case RESUME: return arduinos_resume(LENT(disc), LENT(area), call->id);
     case KILL: return arduinos_kill(LENT(disc), LENT(area), call->id);
+    case SHARE: return arduinos_share(LENT(disc), LENT(area), call->id, call->share);
     case LIST: return arduinos_list(LENT(disc), LENT(area), LENT(out));
     case TURN: return arduinos_turn(LENT(disc), LENT(area), call->slot, call->clock, LENT(out));
     case ROUND: return arduinos_round(LENT(disc), LENT(area), call->clock, LENT(out));
@@ -188,7 +190,7 @@ int32_t call_guarded(const struct call *call, struct state *state)
         fail("other bytes than on the other side");
     if (number < 0 && one_pass(call, state, REFUSED_AGAIN) != number)
         fail("another number when nothing may be written");
-    if (number < ARDUINOS_NOT_RUNNING)
+    if (number < ARDUINOS_BAD_SHARE)
         fail("a number that is no refusal");
     else
         reached[call->operation] |= 1u << (number < 0 ? -number : 0);

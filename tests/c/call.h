@@ -8,7 +8,7 @@
 #include <stdint.h>
 
 enum operation {
-    FORMAT, BOOT, STORE, RETRIEVE, ERASE, FILES, FREE_SPACE, RUN, SUSPEND, RESUME, KILL, LIST, TURN, ROUND,
+    FORMAT, BOOT, STORE, RETRIEVE, ERASE, FILES, FREE_SPACE, RUN, SUSPEND, RESUME, KILL, SHARE, LIST, TURN, ROUND,
     OPERATION_COUNT
 };
 
@@ -45,7 +45,7 @@ struct call {
     size_t name_length;
     const uint8_t *data;
     size_t data_length;
-    uint32_t id, slot, clock;
+    uint32_t id, share, slot, clock;
 };
 
 /* A call with buffers of the right lengths, and as much output as the operation can ever need. */

@@ -59,6 +59,14 @@ static void command(enum operation operation, uint32_t id, int32_t number)
     expect(&call, number);
 }
 
+static void share(uint32_t id, uint32_t turns, int32_t number)
+{
+    struct call call = call_of(SHARE);
+    call.id = id;
+    call.share = turns;
+    expect(&call, number);
+}
+
 static void turn(uint32_t slot, int32_t number)
 {
     struct call call = call_of(TURN);
@@ -85,6 +93,22 @@ static void output_of(enum operation operation, const char *name, size_t needed,
 static const uint8_t *record(uint32_t slot)
 {
     return state.area + ARDUINOS_RECORD(slot);
+}
+
+/* A share that is set, of the process in a slot: its byte is written and no other. */
+static void set_share(uint32_t slot, uint32_t id, uint32_t turns)
+{
+    struct state wanted = state;
+    wanted.area[ARDUINOS_RECORD(slot) + ARDUINOS_RECORD_SHARE] = (uint8_t)turns;
+    share(id, turns, 0);
+    if (memcmp(state.area, wanted.area, ARDUINOS_AREA_SIZE) != 0)
+        fail("share wrote something else than the share");
+}
+
+static void has_share(uint32_t slot, uint8_t turns)
+{
+    if (record(slot)[ARDUINOS_RECORD_SHARE] != turns)
+        fail("a process has another share");
 }
 
 static void set_next_id(unsigned id)
@@ -204,7 +228,7 @@ static void processes(void)
     turn(10, ARDUINOS_NOT_RUNNING);
     turn(UINT32_MAX, ARDUINOS_NOT_RUNNING);
     command(KILL, 20009, 0);
-    for (int i = SUSPEND; i <= KILL; i++) {
+    for (int i = SUSPEND; i <= SHARE; i++) { /* a share of 0 too: 14 comes before 22 */
         command((enum operation)i, 20009, ARDUINOS_NO_SUCH_PROCESS);
         command((enum operation)i, 20000 + 65536, ARDUINOS_NO_SUCH_PROCESS);
         command((enum operation)i, UINT32_MAX, ARDUINOS_NO_SUCH_PROCESS);
@@ -217,6 +241,49 @@ static void processes(void)
     named(RUN, "namediffer9", ARDUINOS_NO_ID);
     plain(BOOT, 0);
     named(ERASE, "namediffer9", 0);
+}
+
+/* Every share, and what is none. */
+static void shares(void)
+{
+    static const uint32_t outside[] = { 0, ARDUINOS_MAX_SHARE + 1, 255, 256, 256 + 1, 65536 + 1, UINT32_MAX };
+    plain(FORMAT, 0);
+    store("p", spelling.bytes, spelling.length, 0);
+    named(RUN, "p", 1);
+    named(RUN, "p", 2);
+    has_share(1, 0);
+    for (uint32_t i = 1; i <= ARDUINOS_MAX_SHARE; i++)
+        set_share(1, 2, i);
+    for (size_t i = 0; i < sizeof outside / sizeof outside[0]; i++) {
+        share(2, outside[i], ARDUINOS_BAD_SHARE);
+        share(3, outside[i], ARDUINOS_NO_SUCH_PROCESS);
+    }
+    share(65536 + 2, 1, ARDUINOS_NO_SUCH_PROCESS);
+    command(SUSPEND, 2, 0);
+    has_share(1, ARDUINOS_MAX_SHARE);
+    set_share(1, 2, 3);
+    command(RESUME, 2, 0);
+    has_share(1, 3);
+    command(KILL, 2, 0);
+    has_share(1, 0);
+    share(2, 1, ARDUINOS_NO_SUCH_PROCESS);
+}
+
+/* A share above 8 is a bad area in a live record, and nothing in an ended one. */
+static void shares_as_bytes(void)
+{
+    uint8_t *first = state.area + ARDUINOS_RECORD(0) + ARDUINOS_RECORD_SHARE;
+    uint8_t *second = state.area + ARDUINOS_RECORD(1) + ARDUINOS_RECORD_SHARE;
+    *second = UINT8_MAX;
+    *first = ARDUINOS_MAX_SHARE;
+    plain(LIST, (int32_t)strlen("1 r p\n"));
+    *first = ARDUINOS_MAX_SHARE + 1;
+    for (int i = RUN; i < OPERATION_COUNT; i++)
+        plain((enum operation)i, ARDUINOS_BAD_AREA);
+    named(ERASE, "p", ARDUINOS_BAD_AREA);
+    *first = 0;
+    named(RUN, "p", 3);
+    has_share(1, 0);
 }
 
 /* ---- Programs ---- */
@@ -264,10 +331,8 @@ static void turns(uint32_t slot, int most, char *text, size_t room)
     text[length] = 0;
 }
 
-static void run_program(const struct program *program, uint32_t slot)
+static void test_end(const struct program *program, uint32_t slot, const char *text)
 {
-    char text[200];
-    turns(slot, 200, text, sizeof text);
     if (record(slot)[ARDUINOS_RECORD_STATE] == ARDUINOS_STATE_ENDED &&
         record(slot)[ARDUINOS_RECORD_FAULT] == program->fault && strcmp(text, program->prints) == 0)
         return;
@@ -277,11 +342,48 @@ static void run_program(const struct program *program, uint32_t slot)
            program->fault, text);
 }
 
+static void run_program(const struct program *program, uint32_t slot)
+{
+    char text[200];
+    turns(slot, 200, text, sizeof text);
+    test_end(program, slot, text);
+}
+
+/* Rounds until nothing lives, the clock 10 ms on at each; returns what was printed as a text. */
+static const char *rounds(int most)
+{
+    static char text[ARDUINOS_ROUND_OUTPUT + 1];
+    size_t length = 0;
+    struct call call = call_of(LIST);
+    for (int i = 0; i < most && call_guarded(&call, &state) > 0; i++) {
+        struct call round = call_of(ROUND);
+        round.clock = (uint32_t)i * 10;
+        int32_t printed = call_guarded(&round, &state);
+        if (printed > 0 && length + (size_t)printed < sizeof text) {
+            memcpy(text + length, state.out, (size_t)printed);
+            length += (size_t)printed;
+        }
+    }
+    text[length] = 0;
+    return text;
+}
+
+/* By rounds with a share it prints and ends as it does turn by turn. */
+static void run_shared(const struct program *program, uint32_t due)
+{
+    uint32_t slot = at_first_place(program);
+    set_share(slot, 1, due);
+    test_end(program, slot, rounds(200));
+    has_share(slot, 0);
+}
+
 static void all_programs(void)
 {
     for (size_t i = 0; i < program_count; i++) {
         run_program(&programs[i], at_first_place(&programs[i]));
         run_program(&programs[i], at_last_place(programs[i].bytes, programs[i].length));
+        run_shared(&programs[i], 3);
+        run_shared(&programs[i], ARDUINOS_MAX_SHARE);
     }
 }
 
@@ -307,24 +409,6 @@ static void every_instruction(void)
     }
 }
 
-/* Rounds until nothing lives; returns what was printed as a text. */
-static const char *rounds(int most)
-{
-    static char text[ARDUINOS_ROUND_OUTPUT + 1];
-    size_t length = 0;
-    struct call call = call_of(LIST);
-    for (int i = 0; i < most && call_guarded(&call, &state) > 0; i++) {
-        struct call round = call_of(ROUND);
-        int32_t printed = call_guarded(&round, &state);
-        if (printed > 0 && length + (size_t)printed < sizeof text) {
-            memcpy(text + length, state.out, (size_t)printed);
-            length += (size_t)printed;
-        }
-    }
-    text[length] = 0;
-    return text;
-}
-
 static void several_processes(void)
 {
     plain(FORMAT, 0);
@@ -344,6 +428,70 @@ static void several_processes(void)
         fail("the parent and its child printed something else");
 }
 
+/* What a round prints, exactly the output lent that it needs, and then less. */
+static void round_prints(const char *text)
+{
+    output_of(ROUND, "", ARDUINOS_ROUND_OUTPUT, (int32_t)strlen(text));
+    if (memcmp(state.out, text, strlen(text)) != 0)
+        fail("a round printed something else");
+}
+
+/* Four turns in a row, two, and one: the first is over in its third round, the next in its fifth. */
+static void unequal_shares(void)
+{
+    plain(FORMAT, 0);
+    store("p", spelling.bytes, spelling.length, 0);
+    for (int i = 1; i <= 3; i++)
+        named(RUN, "p", i);
+    set_share(0, 1, 4);
+    set_share(1, 2, 2);
+    round_prints("aba");
+    round_prints("cdba");
+    has_share(0, 4);
+    round_prints("c");
+    has_share(0, 0);
+    round_prints("db");
+    if (strcmp(rounds(50), "cd") != 0)
+        fail("the slowest printed something else");
+}
+
+/* Ten shares of 8, each with the most that it prints. */
+static void whole_shares(void)
+{
+    char text[ARDUINOS_MAX_PROCESSES * CHATTER_BYTES + 1] = "";
+    plain(FORMAT, 0);
+    store("p", chatter.bytes, chatter.length, 0);
+    for (int i = 0; i < ARDUINOS_MAX_PROCESSES; i++) {
+        named(RUN, "p", i + 1);
+        set_share((uint32_t)i, (uint32_t)i + 1, 2);
+        strcat(text, chatter.prints);
+    }
+    round_prints("");
+    for (int i = 0; i < ARDUINOS_MAX_PROCESSES; i++)
+        set_share((uint32_t)i, (uint32_t)i + 1, ARDUINOS_MAX_SHARE);
+    round_prints(text);
+    round_prints("");
+    plain(LIST, 0);
+}
+
+/* The parent waits through its share; the child begins in the same round, with no share set. */
+static void forked_shares(void)
+{
+    plain(FORMAT, 0);
+    store("parent", parent.bytes, parent.length, 0);
+    store("child", child.bytes, child.length, 0);
+    named(RUN, "parent", 1);
+    set_share(0, 1, ARDUINOS_MAX_SHARE);
+    state.area[ARDUINOS_RECORD(1) + ARDUINOS_RECORD_SHARE] = UINT8_MAX; /* an ended record's is not read */
+    round_prints("");
+    has_share(0, ARDUINOS_MAX_SHARE);
+    has_share(1, 0);
+    round_prints("c");
+    round_prints("");
+    round_prints("p");
+    plain(LIST, 0);
+}
+
 /* ---- Damaged buffers ---- */
 
 /* Always the same numbers. */
@@ -354,7 +502,7 @@ static uint32_t chosen(uint32_t below)
     return (seed >> 8) % below;
 }
 
-/* Ten files, ten live processes, 25 variables, some open files. */
+/* Ten files, ten live processes with shares of 0 to 8, 25 variables, some open files. */
 static void full_state(void)
 {
     static const uint8_t code[] = {
@@ -371,6 +519,8 @@ static void full_state(void)
         *digit = (char)('0' + i);
         named(RUN, name, i + 1);
         turns((uint32_t)i, i < 5 ? 9 + i : 4, text, sizeof text);
+        if (0 < i && i <= ARDUINOS_MAX_SHARE)
+            set_share((uint32_t)i, (uint32_t)i + 1, (uint32_t)i);
     }
     if (state.area[VARIABLE_COUNT] != ARDUINOS_MAX_VARIABLES)
         fail("the state is not full");
@@ -384,6 +534,7 @@ static struct call any_call(void)
     call.data = filler;
     call.data_length = chosen(100);
     call.id = chosen(12);
+    call.share = chosen(10);
     call.slot = chosen(11);
     return call;
 }
@@ -424,9 +575,14 @@ static void all_calls(void)
     names_and_sizes();
     ten_files();
     processes();
+    shares();
+    shares_as_bytes();
     all_programs();
     every_instruction();
     several_processes();
+    unequal_shares();
+    whole_shares();
+    forked_shares();
     damage();
     test_reached();
 }

@@ -41,6 +41,7 @@ bool all_linked()
            linked(exactly<Const, Size, Bytes, Size, Count>(arduinos_suspend)) &&
            linked(exactly<Const, Size, Bytes, Size, Count>(arduinos_resume)) &&
            linked(exactly<Const, Size, Bytes, Size, Count>(arduinos_kill)) &&
+           linked(exactly<Const, Size, Bytes, Size, Count, Count>(arduinos_share)) &&
            linked(exactly<Const, Size, Const, Size, Bytes, Size>(arduinos_list)) &&
            linked(exactly<Bytes, Size, Bytes, Size, Count, Count, Bytes, Size>(arduinos_turn)) &&
            linked(exactly<Bytes, Size, Bytes, Size, Count, Bytes, Size>(arduinos_round));

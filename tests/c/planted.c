@@ -10,10 +10,14 @@
 
 int32_t __real_arduinos_list(const uint8_t *, size_t, const uint8_t *, size_t, uint8_t *, size_t);
 int32_t __real_arduinos_run(const uint8_t *, size_t, uint8_t *, size_t, const uint8_t *, size_t);
+int32_t __real_arduinos_share(const uint8_t *, size_t, uint8_t *, size_t, uint32_t, uint32_t);
 int32_t __real_arduinos_turn(uint8_t *, size_t, uint8_t *, size_t, uint32_t, uint32_t, uint8_t *, size_t);
+int32_t __real_arduinos_round(uint8_t *, size_t, uint8_t *, size_t, uint32_t, uint8_t *, size_t);
 int32_t __wrap_arduinos_list(const uint8_t *, size_t, const uint8_t *, size_t, uint8_t *, size_t);
 int32_t __wrap_arduinos_run(const uint8_t *, size_t, uint8_t *, size_t, const uint8_t *, size_t);
+int32_t __wrap_arduinos_share(const uint8_t *, size_t, uint8_t *, size_t, uint32_t, uint32_t);
 int32_t __wrap_arduinos_turn(uint8_t *, size_t, uint8_t *, size_t, uint32_t, uint32_t, uint8_t *, size_t);
+int32_t __wrap_arduinos_round(uint8_t *, size_t, uint8_t *, size_t, uint32_t, uint8_t *, size_t);
 
 static bool planted(const char *word)
 {
@@ -54,6 +58,17 @@ int32_t __wrap_arduinos_run(const uint8_t *disc, size_t disc_len, uint8_t *area,
     return number;
 }
 
+int32_t __wrap_arduinos_share(const uint8_t *disc, size_t disc_len, uint8_t *area, size_t area_len, uint32_t id,
+                              uint32_t share)
+{
+    int32_t number = __real_arduinos_share(disc, disc_len, area, area_len, id, share);
+    if (number == 0 && planted("share-beside"))
+        area[ARDUINOS_RECORD(ARDUINOS_MAX_PROCESSES - 1) + ARDUINOS_RECORD_SHARE] ^= 1;
+    if (number == ARDUINOS_BAD_SHARE && planted("share-refused"))
+        write_same(area + ARDUINOS_RECORD(0) + ARDUINOS_RECORD_SHARE);
+    return number;
+}
+
 int32_t __wrap_arduinos_turn(uint8_t *disc, size_t disc_len, uint8_t *area, size_t area_len, uint32_t slot,
                              uint32_t clock, uint8_t *out, size_t out_len)
 {
@@ -64,5 +79,19 @@ int32_t __wrap_arduinos_turn(uint8_t *disc, size_t disc_len, uint8_t *area, size
         read_byte(disc - 1);
     if (number >= 0 && planted("end-written"))
         write_same(out + out_len);
+    return number;
+}
+
+/* round-less: a byte less than it needs is enough. */
+int32_t __wrap_arduinos_round(uint8_t *disc, size_t disc_len, uint8_t *area, size_t area_len, uint32_t clock,
+                              uint8_t *out, size_t out_len)
+{
+    uint8_t enough[ARDUINOS_ROUND_OUTPUT];
+
+    if (out_len != sizeof enough - 1 || !planted("round-less"))
+        return __real_arduinos_round(disc, disc_len, area, area_len, clock, out, out_len);
+    int32_t number = __real_arduinos_round(disc, disc_len, area, area_len, clock, enough, sizeof enough);
+    if (number > 0)
+        memcpy(out, enough, (size_t)number);
     return number;
 }

@@ -13,7 +13,8 @@ enum {
 
 #define ABC10 'a', 'b', 'c', 'd', 'e', 'f', 'g', 'h', 'i', 'j'
 #define ABC18 ABC10, 'k', 'l', 'm', 'n', 'o', 'p', 'q', 'r'
-#define ABC29 ABC18, 's', ABC10
+#define ABC24 ABC18, 's', 'a', 'b', 'c', 'd', 'e'
+#define ABC29 ABC24, 'f', 'g', 'h', 'i', 'j'
 #define OPEN_LOG STRING, 'l', 'o', 'g', 0, INT, 0, LOG_SIZE, OPEN
 /* A CHAR 0 or 1 as a digit. */
 #define DIGIT CHAR, '0', PLUS, PRINT
@@ -149,6 +150,13 @@ static const uint8_t no_zero_left[] = {
 static const uint8_t bad_file_name[] = { STRING, 0, INT, 0, 1, OPEN };
 static const uint8_t no_run[] = { STRING, 'l', 'o', 'g', 0, INT, 0, LOG_SIZE + 1, OPEN };
 
+/* A FLOAT of the most letters and a string above it fill the stack; emptied, it takes 29 letters at a time. */
+static const uint8_t chatters[] = {
+    FLOAT, 207, 127, 255, 255, STRING, ABC24, 0,
+    PRINTLN, PRINTLN, STRING, ABC29, 0, PRINTLN, STRING, ABC29, 0, PRINTLN, STRING, ABC29, 0, PRINTLN, STOP
+};
+static const uint8_t spells[] = { CHAR, 'a', PRINT, CHAR, 'b', PRINT, CHAR, 'c', PRINT, CHAR, 'd', PRINT, STOP };
+
 static const uint8_t forks[] = { STRING, 'c', 'h', 'i', 'l', 'd', 0, FORK, WAITUNTILDONE, CHAR, 'p', PRINT, STOP };
 static const uint8_t forked[] = { CHAR, 'c', PRINT, STOP };
 
@@ -210,6 +218,11 @@ const struct program programs[] = {
 const size_t program_count = sizeof programs / sizeof programs[0];
 
 const struct program letters = PROGRAM(most_letters, "abcdefghijklmnopqrsabcdefghij\n", 0);
+const struct program chatter = PROGRAM(chatters, "abcdefghijklmnopqrsabcde\n-4294967040.00\n"
+                                                 "abcdefghijklmnopqrsabcdefghij\n"
+                                                 "abcdefghijklmnopqrsabcdefghij\n"
+                                                 "abcdefghijklmnopqrsabcdefghij\n", 0);
+const struct program spelling = PROGRAM(spells, "abcd", 0);
 const struct program parent = PROGRAM(forks, "cp", 0);
 const struct program child = PROGRAM(forked, "c", 0);
 

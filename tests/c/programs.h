@@ -35,6 +35,13 @@ extern const size_t prefix_count;
 /* Prints 29 letters and a newline, the most that an instruction prints. */
 extern const struct program letters;
 
+/* Prints four letters, one in two turns, and ends with the ninth. */
+extern const struct program spelling;
+
+/* Pushes twice, then prints 130 bytes in eight turns, the most of a share. */
+extern const struct program chatter;
+#define CHATTER_BYTES 130
+
 /* Starts the file child and waits for its end. */
 extern const struct program parent, child;
 

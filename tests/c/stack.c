@@ -24,13 +24,13 @@
 #define RETURN_ADDRESS sizeof(void *)
 
 enum operation {
-    FORMAT, BOOT, STORE, RETRIEVE, ERASE, FILES, FREE_SPACE, RUN, SUSPEND, RESUME, KILL, LIST, TURN, ROUND, COUNT,
-    NOTHING = COUNT
+    FORMAT, BOOT, STORE, RETRIEVE, ERASE, FILES, FREE_SPACE, RUN, SUSPEND, RESUME, KILL, SHARE, LIST, TURN, ROUND,
+    COUNT, NOTHING = COUNT
 };
 
 static const char *const names[COUNT] = {
     "format", "boot", "store", "retrieve", "erase", "files", "free_space",
-    "run", "suspend", "resume", "kill", "list", "turn", "round"
+    "run", "suspend", "resume", "kill", "share", "list", "turn", "round"
 };
 
 static uint8_t disc[ARDUINOS_LONG_DISC_SIZE], area[ARDUINOS_AREA_SIZE], out[ARDUINOS_LONG_MAX_DATA];
@@ -40,7 +40,7 @@ static size_t disc_length, area_length = sizeof area, out_length = sizeof out;
 static enum operation operation;
 static const uint8_t *name, *data;
 static size_t name_length, data_length;
-static uint32_t number, clock_ms;
+static uint32_t number, turns, clock_ms;
 static int32_t answer;
 
 static unsigned char painted[STACK_SIZE];
@@ -71,6 +71,7 @@ static void make_call(void)
     case SUSPEND: answer = arduinos_suspend(disc, disc_length, area, area_length, number); break;
     case RESUME: answer = arduinos_resume(disc, disc_length, area, area_length, number); break;
     case KILL: answer = arduinos_kill(disc, disc_length, area, area_length, number); break;
+    case SHARE: answer = arduinos_share(disc, disc_length, area, area_length, number, turns); break;
     case LIST: answer = arduinos_list(disc, disc_length, area, area_length, out, out_length); break;
     case TURN:
         answer = arduinos_turn(disc, disc_length, area, area_length, number, clock_ms, out, out_length);
@@ -171,10 +172,14 @@ static void listings(void)
     call_also_refused(LIST);
 }
 
-/* Each command, done and refused, to the process of an ID. */
+/* Each command, done and refused, to the process of an ID; it is left with the most turns. */
 static void commands(uint32_t id)
 {
     number = id;
+    turns = ARDUINOS_MAX_SHARE + 1;
+    call_also_refused(SHARE);
+    turns = ARDUINOS_MAX_SHARE;
+    call_also_refused(SHARE);
     call_also_refused(RESUME);
     call_also_refused(SUSPEND);
     call_also_refused(SUSPEND);
@@ -221,6 +226,7 @@ static void run_program(const struct program *program)
         number = 5;
         call_also_refused(KILL);
     }
+    call_also_refused(SHARE);
     for (int i = 0; i < 20; i++) {
         clock_ms += 10;
         number = 0;

@@ -39,6 +39,12 @@ fn start_shared(title: &[u8], code: Code, disc: &mut [u8], area: &mut [u8; AREA_
     export::arduinos_share(disc, area, FIRST_ID, MAX_SHARE as u32);
 }
 
+// Beside it, in the next slot, the same program with one turn a round.
+fn start_beside(title: &[u8], code: Code, disc: &mut [u8], area: &mut [u8; AREA_LENGTH]) {
+    start_shared(title, code, disc, area);
+    export::arduinos_run(disc, area, b"guide");
+}
+
 fn finish(disc: &mut [u8], area: &mut [u8; AREA_LENGTH], most: u16) {
     let rounds = running::rounds(disc, area, STEP, most);
     running::print_end(rounds, area);
@@ -60,12 +66,11 @@ pub fn run_shared(title: &[u8], code: Code, most: u16) {
     finish(&mut disc, &mut area, most);
 }
 
-// The same, and in the next slot the same program with one turn a round.
+// The same beside one with one turn a round.
 pub fn run_beside(title: &[u8], code: Code, most: u16) {
     let mut disc = [0u8; SHORT_DISC];
     let mut area = [0u8; AREA_LENGTH];
-    start_shared(title, code, &mut disc, &mut area);
-    export::arduinos_run(&disc, &mut area, b"guide");
+    start_beside(title, code, &mut disc, &mut area);
     finish(&mut disc, &mut area, most);
 }
 
