@@ -129,7 +129,10 @@ share-short k slot clock disc g = go (isRunning (processAt k slot)) refl
 
 -- Document 02, Q-9: *Round* "needs 2,560 output bytes", eight turns of at most 32 for each of ten slots
 round-short : (k : Kernel) (clock : ℕ) (disc : List ℕ) → GoodState k disc → length (roundOf k clock disc .out) ≤ roundRoom
-round-short k clock disc g = in-order-short shareOfTurns shareRoom share-of-turns-good share-short slots k clock disc g
+round-short k clock disc g =
+    let all : length (roundOf k clock disc .out) ≤ slotCount * shareRoom =
+    in-order-short shareOfTurns shareRoom share-of-turns-good share-short slots k clock disc g in
+    omega arith
 
 -- ---- what turns leave of the disc's length
 pub turn-if-running-length : (k : Kernel) (slot clock : ℕ) (disc : List ℕ) → GoodState k disc
