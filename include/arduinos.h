@@ -3,7 +3,7 @@
  *
  * Link with libexport.a (x86-64 code that needs the C library alone):   cc -I. main.c libexport.a
  * examples/box.c is a small firmware. Document 01 is the scope paper; words in double quotes are its own.
- * Every function is proved to do what document 01 says for every length and every content of the lent buffers, to stay
+ * Every function is proved to do what documents 01 and 02 say for every length and every content of the lent buffers, to stay
  * inside them and to return; what the caller owes is this:
  *
  * - A buffer is lent as a pointer and its length in bytes. They belong together: that many bytes are there.

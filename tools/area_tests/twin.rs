@@ -61,13 +61,13 @@ fn live(record: &[u8]) -> bool {
     record[14] == b'r' || record[14] == b'p'
 }
 
-// "zero spare bytes in live records, [..] live IDs from 1 to next ID − 1, [..] SP at most 32, PC, loop (unless none)
+// Document 02, Q-9: a live record's spare byte is at most 8; "live IDs from 1 to next ID − 1, [..] SP at most 32, PC, loop (unless none)
 // and file offset at most their lengths, code equal to the directory's file of that name, an open file equal to some
 // directory file"
 fn good_live(disc: &[u8], next: usize, r: &[u8]) -> bool {
     let count = disc[COUNT_AT] as usize;
     let (id, len, pc, lp) = (word(r, 12), word(r, 18), word(r, 20), word(r, 22));
-    if id < 1 || id >= next || r[31] != 0 || r[30] > 32 || pc > len || (lp != 0xFFFF && lp > len) {
+    if id < 1 || id >= next || r[31] > 8 || r[30] > 32 || pc > len || (lp != 0xFFFF && lp > len) {
         return false;
     }
     if !(0..count).any(|i| entry(disc, i)[..12] == r[..12] && entry(disc, i)[12..16] == r[16..20]) {

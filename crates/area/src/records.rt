@@ -1,6 +1,7 @@
 // One process record in the bytes of the work area, and next ID.
 // Document 01: "ten process records of 64 bytes: name 12, ID 2, state 1 [..], fault 1, code start 2, code length 2,
 // PC 2, loop 2 [..], file start 2, file length 2 [..], file offset 2, SP 1, spare 1 (zero), stack 32."
+// Document 02, Q-9: the spare byte is the share.
 use disc::layout::NAME_SIZE;
 use machine::OpenFile;
 use machine::Process;

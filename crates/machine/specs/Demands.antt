@@ -16,8 +16,8 @@ use Rattle.machine.specs.Answer.{retrieve, erase, files, freeSpace, list
 use Rattle.machine.specs.Area.{AreBytes, Whole, isAreaLength, kernelOf}
 use Rattle.machine.specs.Beyond.{newFileSize}
 use Rattle.machine.specs.Effect.{asks, assigns, opens}
-use Rattle.machine.specs.Ending.{Ends, Touched}
-use Rattle.machine.specs.Limits.{areaLength, turnRoom}
+use Rattle.machine.specs.Ending.{Ends, RunsOn, Touched}
+use Rattle.machine.specs.Limits.{areaLength, roundRoom, turnRoom}
 use Rattle.machine.specs.Turn.{effectAt}
 use Rattle.machine.specs.NoPlace.{Lacking, NewFileRefused}
 use Rattle.machine.specs.Refusals.{stateOf, MayTurn, Passes}
@@ -36,13 +36,13 @@ EndedOnly b slot n a = (a .number ≡ pos 0) × (a .disc ≡ b .disc) × (a .out
     × Touched (stateOf b) slot n (kernelOf (a .area))
 
 -- Document 01: "A faulting instruction changes nothing but the ending." A turn that does not end its process leaves it
--- running.
+-- running, with its share.
 unfoldable pub FaultTouchesOwn : Type 0
 FaultTouchesOwn =
     (b : Buffers) (slot clock : ℕ) → MayTurn b slot
     → ((n : ℕ) → Ends (stateOf b) slot clock (b .disc) n → EndedOnly b slot n (answer (turn slot clock) b))
     × (((n : ℕ) × Ends (stateOf b) slot clock (b .disc) n)
-    ⊎ (isRunning (processAt (turnedState b slot clock) slot) ≡ true))
+    ⊎ RunsOn (processAt (stateOf b) slot) (processAt (turnedState b slot clock) slot))
 
 -- ---- places
 -- after its turn the process runs no more, and its record has that fault
@@ -142,6 +142,10 @@ RoundIsTurns =
 unfoldable pub EventsAreCalls : Type 0
 EventsAreCalls = (calls : List Invocation) (s : Storage) → AreBytes (s .area)
     → lastStorage s (events calls s) ≡ afterCalls calls s
+
+-- Document 02, Q-9: *Round* "needs 2,560 output bytes", and they are enough
+unfoldable pub RoundOutputBound : Type 0
+RoundOutputBound = (b : Buffers) (clock n : ℕ) → answer (round clock) b .number ≡ pos n → n ≤ roundRoom
 
 -- Document 01, Turn: "at least 32 output bytes" are enough. "Returns the bytes printed"
 unfoldable pub TurnOutputBound : Type 0

@@ -1,7 +1,7 @@
 -- What ends a process in its turn, and what its ending touches.
 use Prim.Native.Nat.{ℕ, _≤_}
 use mathlib.Core.Path.{_≡_}
-use mathlib.Core.Bool.{not}
+use mathlib.Core.Bool.{true, not}
 use mathlib.Core.List.{List, []}
 use mathlib.Core.Logic.{_⊎_}
 use lib.ListN.{replicate}
@@ -15,9 +15,10 @@ use Rattle.variable.specs.declared.Placing.the-variants.{NoEntry, NoRun}
 use Rattle.machine.specs.Beyond.{breaks, answered}
 use Rattle.machine.specs.Effect.{assigns, stops, faults, asks, Request}
 use Rattle.machine.specs.Limits.{stackSize}
-use Rattle.machine.specs.State.{Local, processAt}
+use Rattle.machine.specs.State.{Local, isRunning, processAt}
 use Rattle.machine.specs.Turn.{effectAt}
 use Rattle.machine.specs.declared.Kernel.{Kernel}
+use Rattle.machine.specs.declared.Process.{Process}
 
 -- the place that a SET finds
 abbrev pub placed : Kernel → ℕ → (name kind : ℕ) → List ℕ → Assigned
@@ -33,6 +34,11 @@ pub data Ends (k : Kernel) (slot clock : ℕ) (disc : List ℕ) (n : ℕ) : Type
       → Ends k slot clock disc n
   broken : (r : Request) → effectAt k slot clock disc ≡ asks r → answered k slot disc r ≡ breaks n
       → Ends k slot clock disc n
+
+-- the process p goes on as q: it runs, with the share that it had. Document 02, Q-9: "kept until the process ends"
+pub record RunsOn (p q : Process) : Type 0 where
+  pub running : isRunning q ≡ true
+  pub share : q .share ≡ p .share
 
 -- the entries that are not of that process, in table order, addresses included
 abbrev pub entriesOfOthers : ℕ → Variables → List Variable

@@ -86,11 +86,11 @@ inOrder each (slot ∷ slots) k clock disc =
 abbrev pub turnsDue : Process → ℕ
 turnsDue p = cond (eqb (p .share) 0) 1 (p .share)
 
--- Document 02, Q-9: "*Round* gives a slot that many turns in a row while it stays running"; the share is the one that
--- the slot has when it is reached
+-- Document 02, Q-9: "that many turns in a row while it stays running"
 abbrev pub turnsInRow : ℕ → Kernel → ℕ → ℕ → List ℕ → Turned
 turnsInRow n k slot clock disc = inOrder turnIfRunning (replicate n slot) k clock disc
 
+-- "*Round* gives a slot that many": as its share is when the slot is reached
 unfoldable pub shareOfTurns : Kernel → ℕ → ℕ → List ℕ → Turned
 shareOfTurns k slot clock disc = turnsInRow (turnsDue (processAt k slot)) k slot clock disc
 

@@ -10,7 +10,7 @@ use limits::ZEROS_SIZE;
 use place::Run;
 use variable::Variables;
 ghost use Rattle.machine.specs.Demands.{BytesKept, EventsAreCalls, FaultTouchesOwn, GoodKept, LengthsKept};
-ghost use Rattle.machine.specs.Demands.{PlacesRefusedOnly, RoundIsTurns, TurnOutputBound};
+ghost use Rattle.machine.specs.Demands.{PlacesRefusedOnly, RoundIsTurns, RoundOutputBound, TurnOutputBound};
 ghost use Rattle.machine.specs.DiscLengths.{EitherLength};
 ghost use Rattle.machine.specs.Done.{DoneExactly};
 ghost use Rattle.machine.specs.Isolation.{Isolation};
@@ -127,6 +127,11 @@ pub fn round_is_turns()
 // The events of a run, which demand 3 speaks of, lead to the same disc and work area as its calls.
 pub fn events_are_calls()
     ensures { λ _. ⌜ EventsAreCalls ⌝ }
+{}
+
+// Document 02, Q-9: a round prints at most 2,560 bytes, the output that it needs.
+pub fn round_output_bound()
+    ensures { λ _. ⌜ RoundOutputBound ⌝ }
 {}
 
 // A done turn returns at most 32: the 32 bytes of output that it asks for are enough.

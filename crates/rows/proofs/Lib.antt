@@ -1,4 +1,4 @@
--- the bench cases, the misreadings and the rows of DELAYUNTIL
+-- the bench cases, the misreadings, the rows of DELAYUNTIL and of scaling
 pub mod BenchCases
 -- the rows of rounds with shares hold
 pub mod ShareCases

@@ -97,7 +97,7 @@ shareRows =
     -- setting 1 writes 1; "22 a share outside 1 to 8": 9 changes nothing
     row (sharer (printing (97 ∷ [])) 1 ∷ sharer (printing (120 ∷ [])) 9 ∷ []) 1 [] (runs 1 ∷ runs 0 ∷ []) ∷
     -- "while it stays running", "when it is cleared like the rest": STOP, and a PRINT that faults, in the midst of it;
-    -- a turn more would meet fault 1
+    -- a turn more would meet fault 2
     row (sharer (printing (97 ∷ []) ++ (67 ∷ [])) 8 ∷ sharer (printing (98 ∷ []) ++ (51 ∷ [])) 8 ∷ []) 1 (97 ∷ 98 ∷ [])
     (over 0 ∷ over 5 ∷ []) ∷
     -- `down`: 29 turns, so with a share of 8 it is live after three rounds and has ended after four

@@ -15,7 +15,7 @@ use Rattle.machine.specs.Beyond.{newFileSize}
 use Rattle.machine.specs.Answer.{Buffers}
 use Rattle.machine.specs.Demands.{EndsWith, turnedState}
 use Rattle.machine.specs.Effect.{asks, assigns, opens}
-use Rattle.machine.specs.Ending.{Ends, stopped, faulted, unplaced, broken}
+use Rattle.machine.specs.Ending.{Ends, RunsOn, stopped, faulted, unplaced, broken}
 use Rattle.machine.specs.NoPlace.{Lacking, NewFileRefused}
 use Rattle.machine.specs.Refusals.{stateOf, MayTurn}
 use Rattle.machine.specs.Ended.{endedProcess}
@@ -36,12 +36,12 @@ module _ (b : Buffers) (slot clock : ℕ) (may : MayTurn b slot) where
   pub ended-by : (n : ℕ) → EndsWith b slot clock n → EndsBy n
   ended-by n h = go (ends-or-runs b slot clock may)
     where
-      go : ((m : ℕ) × EndsBy m) ⊎ (isRunning (processAt (turnedState b slot clock) slot) ≡ true) → EndsBy n
+      go : ((m : ℕ) × EndsBy m) ⊎ RunsOn (processAt (stateOf b) slot) (processAt (turnedState b slot clock) slot) → EndsBy n
       go (inl e) =
           let own : processAt (turnedState b slot clock) slot ≡ endedProcess (processAt (stateOf b) slot) (e .0) =
           ended-only b slot clock may (e .0) (e .1) .3 .own in
           subst EndsBy (sym (ap (λ (p : Process). p .fault) own) ∙ h .1) (e .1)
-      go (inr r) = absurd (true-not-false r (h .0))
+      go (inr r) = absurd (true-not-false (r .running) (h .0))
 
   stopped-then : (n : ℕ) → EndsWith b slot clock n → isRunning (processAt (turned (stateOf b) slot clock (b .disc) .kernel) slot) ≡ false
   stopped-then n h = subst (λ (j : Kernel). isRunning (processAt j slot) ≡ false) (state-after b slot clock may) (h .0)

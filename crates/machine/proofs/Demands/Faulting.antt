@@ -18,7 +18,7 @@ use Rattle.variable.specs.declared.Variables.{Variables}
 use Rattle.variable.proofs.Freeing.{freed-counted, freed-memory, owned-freed-all, owned-freed-all-other}
 use Rattle.machine.specs.Beyond.{Answered, carriesOn, breaks, answered}
 use Rattle.machine.specs.Effect.{Effect, goes, assigns, stops, faults, asks, Request}
-use Rattle.machine.specs.Ending.{Ends, stopped, faulted, unplaced, broken, Touched, entriesOfOthers, placed}
+use Rattle.machine.specs.Ending.{Ends, RunsOn, Touched, broken, entriesOfOthers, faulted, placed, stopped, unplaced}
 use Rattle.machine.specs.Ended.{ended, endedProcess}
 use Rattle.machine.specs.State.{Local, isRunning, localOf, noProcess, processAt}
 use Rattle.machine.specs.Turn.{effectAt, Turned, answering, carriedOut, finished, programOf, setting, turned}
@@ -43,28 +43,28 @@ turn-ends {k} {slot} {clock} {disc} {n} (unplaced name kind bytes l e p z) = ap 
     none (inr q) = ap (λ (x : Placing). setting k slot disc x (a .variables) l) q
 turn-ends {k} {slot} {clock} {disc} {n} (broken r e q) = ap (carriedOut k slot disc) e ∙ ap (answering k slot disc) q
 
--- ---- what does not end it leaves it running
+-- ---- what does not end it leaves it running, with its share
 pub ends-or-goes : (k : Kernel) (slot clock : ℕ) (disc : List ℕ) → isRunning (processAt k slot) ≡ true → slot < length (k .processes)
     → SoundAt k slot clock disc
-    → ((n : ℕ) × Ends k slot clock disc n) ⊎ (isRunning (processAt (turned k slot clock disc .kernel) slot) ≡ true)
+    → ((n : ℕ) × Ends k slot clock disc n) ⊎ RunsOn (processAt k slot) (processAt (turned k slot clock disc .kernel) slot)
 unfolding turned carriedOut Sound
 ends-or-goes k slot clock disc running low sound = go (effectAt k slot clock disc) refl sound
   where
     set-left : (name kind : ℕ) (bytes : List ℕ) (l : Local) → effectAt k slot clock disc ≡ assigns name kind bytes l → (q : Placing)
         → placed k slot name kind bytes .placing ≡ q
         → ((n : ℕ) × Ends k slot clock disc n)
-        ⊎ (isRunning (processAt (setting k slot disc q (placed k slot name kind bytes .variables) l .kernel) slot) ≡ true)
+        ⊎ RunsOn (processAt k slot) (processAt (setting k slot disc q (placed k slot name kind bytes .variables) l .kernel) slot)
     set-left name kind bytes l e (Address a) h = inr (moved-running k slot running low l)
     set-left name kind bytes l e NoEntry h = inl (10, unplaced name kind bytes l e (inl h) refl)
     set-left name kind bytes l e NoRun h = inl (10, unplaced name kind bytes l e (inr h) refl)
 
-    asked : (r : Request) → effectAt k slot clock disc ≡ asks r → (a : Answered) → answered k slot disc r ≡ a → LeftRunning slot a
-        → ((n : ℕ) × Ends k slot clock disc n) ⊎ (isRunning (processAt (answering k slot disc a .kernel) slot) ≡ true)
+    asked : (r : Request) → effectAt k slot clock disc ≡ asks r → (a : Answered) → answered k slot disc r ≡ a → LeftRunning (processAt k slot) slot a
+        → ((n : ℕ) × Ends k slot clock disc n) ⊎ RunsOn (processAt k slot) (processAt (answering k slot disc a .kernel) slot)
     asked r e (carriesOn j after) h left = inr left
     asked r e (breaks n) h left = inl (n, broken r e h)
 
     go : (e : Effect) → effectAt k slot clock disc ≡ e → Sound (programOf disc (processAt k slot)) (localOf (processAt k slot)) e
-        → ((n : ℕ) × Ends k slot clock disc n) ⊎ (isRunning (processAt (carriedOut k slot disc e .kernel) slot) ≡ true)
+        → ((n : ℕ) × Ends k slot clock disc n) ⊎ RunsOn (processAt k slot) (processAt (carriedOut k slot disc e .kernel) slot)
     go (goes l out) e h = inr (moved-running k slot running low l)
     go (assigns name kind bytes l) e h = set-left name kind bytes l e (placed k slot name kind bytes .placing) refl
     go stops e h = inl (0, stopped e refl)

@@ -1,6 +1,6 @@
--- What the world beyond answers ends the process, or leaves it running in its slot.
+-- What the world beyond answers ends the process, or leaves it running in its slot, with its share.
 use Prim.Native.Nat.{ℕ, _+_, _<_}
-use mathlib.Core.Path.{_≡_, refl, ap, subst⁻¹, _∙_}
+use mathlib.Core.Path.{_≡_, refl, subst⁻¹}
 use mathlib.Core.Bool.{Bool, true, false, cond}
 use mathlib.Core.List.{List}
 use lib.Dec.{eqb, leb}
@@ -21,6 +21,7 @@ use Rattle.machine.specs.Beyond.{advanced, Answered, answered, breaks, c
 use Rattle.machine.specs.Beyond.{newFileSize}
 use Rattle.machine.specs.Beyond.{isAwaited, opened, openedAt, pushId, pushed, received, unlessBreaks, withOpenFile}
 use Rattle.machine.specs.Effect.{Request, opens, closes, writes, reads, readsString, forks, awaits}
+use Rattle.machine.specs.Ending.{RunsOn}
 use Rattle.machine.specs.Limits.{stackSize}
 use Rattle.machine.specs.Start.{Starting, starts, refuses, startedProcess, starting}
 use Rattle.machine.specs.State.{Local, isRunning, noProcess, processAt, withFile, withLocal, withProcess}
@@ -29,27 +30,26 @@ use Rattle.machine.specs.declared.OpenFile.{OpenFile}
 use Rattle.machine.specs.declared.Process.{Process}
 use Rattle.machine.proofs.Operations.FileAnswers.{numberRead, textAhead, textRead}
 
-abbrev pub LeftRunning : ℕ → Answered → Type 0
-LeftRunning slot (carriesOn j after) = isRunning (processAt j slot) ≡ true
-LeftRunning slot (breaks n) = Unit {0}
+abbrev pub LeftRunning : Process → ℕ → Answered → Type 0
+LeftRunning p slot (carriesOn j after) = RunsOn p (processAt j slot)
+LeftRunning p slot (breaks n) = Unit {0}
 
 module _ (k : Kernel) (slot : ℕ) (running : isRunning (processAt k slot) ≡ true) (low : slot < length (k .processes)) where
   abbrev p : Process
   p = processAt k slot
 
-  still : (ps : List Process) (q : Process) → length ps ≡ length (k .processes) → isRunning q ≡ true
-      → isRunning (getD (set ps slot q) slot noProcess) ≡ true
-  still ps q e r = ap isRunning (getD-set-same ps slot q noProcess (subst⁻¹ (λ (n : ℕ). slot < n) e low)) ∙ r
+  still : (ps : List Process) (q : Process) → length ps ≡ length (k .processes) → RunsOn p q → RunsOn p (getD (set ps slot q) slot noProcess)
+  still ps q e r = subst⁻¹ (RunsOn p) (getD-set-same ps slot q noProcess (subst⁻¹ (λ (n : ℕ). slot < n) e low)) r
 
-  pub moved-running : (l : Local) → isRunning (processAt (withProcess k slot (withLocal p l)) slot) ≡ true
-  moved-running l = still (k .processes) (withLocal p l) refl running
+  pub moved-running : (l : Local) → RunsOn p (processAt (withProcess k slot (withLocal p l)) slot)
+  moved-running l = still (k .processes) (withLocal p l) refl (record { running = running; share = refl })
 
-  continued-running : (l : Local) (f : OpenFile) → isRunning (processAt (withProcess k slot (withFile (withLocal p l) f)) slot) ≡ true
-  continued-running l f = still (k .processes) (withFile (withLocal p l) f) refl running
+  continued-running : (l : Local) (f : OpenFile) → RunsOn p (processAt (withProcess k slot (withFile (withLocal p l) f)) slot)
+  continued-running l f = still (k .processes) (withFile (withLocal p l) f) refl (record { running = running; share = refl })
 
   module _ (disc : List ℕ) where
     abbrev Left : Answered → Type 0
-    Left = LeftRunning slot
+    Left = LeftRunning p slot
 
     open-left : (f : Found) (name : List ℕ) (size : Number) (l : Local) → Left (openedAt k slot disc f name size l)
     open-left (At i) name size l = continued-running l _
@@ -82,7 +82,7 @@ module _ (k : Kernel) (slot : ℕ) (running : isRunning (processAt k slot) ≡ t
     fork-left (refuses r) l = moved-running (pushId l 0)
     fork-left (starts child e) l =
         still (set (k .processes) child (startedProcess e (k .next))) (withLocal p (pushId l (k .next)))
-        (length-set (k .processes) child (startedProcess e (k .next))) running
+        (length-set (k .processes) child (startedProcess e (k .next))) (record { running = running; share = refl })
 
     pub answer-left : (r : Request) → Left (answered k slot disc r)
     unfolding answered

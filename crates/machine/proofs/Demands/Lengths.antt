@@ -128,7 +128,7 @@ share-short k slot clock disc g = go (isRunning (processAt k slot)) refl
         omega (arith, few-turns k slot disc g h, length-replicate n slot)
 
 -- Document 02, Q-9: *Round* "needs 2,560 output bytes", eight turns of at most 32 for each of ten slots
-round-short : (k : Kernel) (clock : ℕ) (disc : List ℕ) → GoodState k disc → length (roundOf k clock disc .out) ≤ roundRoom
+pub round-short : (k : Kernel) (clock : ℕ) (disc : List ℕ) → GoodState k disc → length (roundOf k clock disc .out) ≤ roundRoom
 round-short k clock disc g =
     let all : length (roundOf k clock disc .out) ≤ slotCount * shareRoom =
     in-order-short shareOfTurns shareRoom share-of-turns-good share-short slots k clock disc g in

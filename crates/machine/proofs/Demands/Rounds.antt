@@ -1,6 +1,6 @@
 -- A turn and a round on good buffers: when they are done, when refused, and by what.
 use Prim.Native.Nat.{ℕ}
-use mathlib.Core.Path.{_≡_}
+use mathlib.Core.Path.{_≡_, sym, ap, _∙_}
 use mathlib.Core.Bool.{true, false}
 use lib.Dec.{leb, ltb}
 use lib.IntN.{pos}
@@ -39,3 +39,12 @@ unfolding answer
 round-passed b clock n =
     let May : Answer → Type 0 = λ a. Passes (b .disc) (b .area) × (leb roundRoom (length (b .out)) ≡ true) in
     done-tests May b n _ λ passes. done-test May b n (leb roundRoom (length (b .out))) 3 _ λ room h. (passes, room)
+
+-- what it returns is what its turns print
+pub round-returns : (b : Buffers) (clock n : ℕ) → answer (round clock) b .number ≡ pos n
+    → n ≡ length (roundOf (kernelOf (b .area)) clock (b .disc) .out)
+round-returns b clock n done =
+    let p = round-passed b clock n done in
+    let same : pos (length (roundOf (kernelOf (b .area)) clock (b .disc) .out)) ≡ pos n =
+    sym (ap (λ (a : Answer). a .number) (round-done b clock (p .0) (p .1))) ∙ done in
+    cc

@@ -10,7 +10,7 @@ use Rattle.buffer.proofs.Bools.{and-left, and-right}
 use Rattle.machine.specs.Answer.{Answer, Buffers, answer, turn, turnedAnswer}
 use Rattle.machine.specs.Area.{kernelOf}
 use Rattle.machine.specs.Demands.{EndedOnly, turnedState}
-use Rattle.machine.specs.Ending.{Ends, Touched}
+use Rattle.machine.specs.Ending.{Ends, RunsOn, Touched}
 use Rattle.machine.specs.Limits.{slotCount, turnRoom}
 use Rattle.machine.specs.Refusals.{stateOf, MayTurn}
 use Rattle.machine.specs.State.{isRunning, processAt}
@@ -29,9 +29,6 @@ use Rattle.machine.proofs.Operations.Turning.{SoundAt, turn-prints}
 module _ (b : Buffers) (slot clock : ℕ) (may : MayTurn b slot) where
   abbrev step : Turned
   step = turned (stateOf b) slot clock (b .disc)
-
-  abbrev Running : Kernel → Bool → Type 0
-  Running j t = isRunning (processAt j slot) ≡ t
 
   good : GoodState (stateOf b) (b .disc)
   good = passes-good (b .disc) (b .area) (may .passes)
@@ -60,9 +57,11 @@ module _ (b : Buffers) (slot clock : ℕ) (may : MayTurn b slot) where
         subst⁻¹ (λ (j : Kernel). Touched (stateOf b) slot n j) state-after (turn-touches ends inside),
       )
 
-  pub ends-or-runs : ((n : ℕ) × Ends (stateOf b) slot clock (b .disc) n) ⊎ Running (turnedState b slot clock) true
-  ends-or-runs = subst⁻¹ (λ (j : Kernel). ((n : ℕ) × Ends (stateOf b) slot clock (b .disc) n)
-      ⊎ Running j true) state-after (ends-or-goes (stateOf b) slot clock (b .disc) (may .running) inside sound)
+  pub ends-or-runs : ((n : ℕ) × Ends (stateOf b) slot clock (b .disc) n)
+      ⊎ RunsOn (processAt (stateOf b) slot) (processAt (turnedState b slot clock) slot)
+  ends-or-runs =
+      subst⁻¹ (λ (j : Kernel). ((n : ℕ) × Ends (stateOf b) slot clock (b .disc) n) ⊎ RunsOn (processAt (stateOf b) slot) (processAt j slot))
+      state-after (ends-or-goes (stateOf b) slot clock (b .disc) (may .running) inside sound)
 
   -- ---- output
   pub prints-little : length (step .out) ≤ turnRoom
