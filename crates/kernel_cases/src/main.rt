@@ -1,5 +1,6 @@
 // Runs document 01's 'Run and compared' and shares through the functions that the firmware calls, on a long disc too,
-// and erase on discs that are not good; prints what was asked and what came out. The gate compares that with the file stdout.
+// and erase on discs that are not good; prints what was asked and what came out. The gate compares that with the file
+// stdout.
 mod discs;
 mod long_discs;
 mod shares;

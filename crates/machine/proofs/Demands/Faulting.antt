@@ -58,7 +58,8 @@ ends-or-goes k slot clock disc running low sound = go (effectAt k slot clock dis
     set-left name kind bytes l e NoEntry h = inl (10, unplaced name kind bytes l e (inl h) refl)
     set-left name kind bytes l e NoRun h = inl (10, unplaced name kind bytes l e (inr h) refl)
 
-    asked : (r : Request) → effectAt k slot clock disc ≡ asks r → (a : Answered) → answered k slot disc r ≡ a → LeftRunning (processAt k slot) slot a
+    asked : (r : Request) → effectAt k slot clock disc ≡ asks r → (a : Answered) → answered k slot disc r ≡ a
+        → LeftRunning (processAt k slot) slot a
         → ((n : ℕ) × Ends k slot clock disc n) ⊎ RunsOn (processAt k slot) (processAt (answering k slot disc a .kernel) slot)
     asked r e (carriesOn j after) h left = inr left
     asked r e (breaks n) h left = inl (n, broken r e h)

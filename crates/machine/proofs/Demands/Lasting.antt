@@ -38,7 +38,8 @@ module _ (k : Kernel) (slot : ℕ) (running : isRunning (processAt k slot) ≡ t
   abbrev p : Process
   p = processAt k slot
 
-  still : (ps : List Process) (q : Process) → length ps ≡ length (k .processes) → RunsOn p q → RunsOn p (getD (set ps slot q) slot noProcess)
+  still : (ps : List Process) (q : Process) → length ps ≡ length (k .processes) → RunsOn p q
+      → RunsOn p (getD (set ps slot q) slot noProcess)
   still ps q e r = subst⁻¹ (RunsOn p) (getD-set-same ps slot q noProcess (subst⁻¹ (λ (n : ℕ). slot < n) e low)) r
 
   pub moved-running : (l : Local) → RunsOn p (processAt (withProcess k slot (withLocal p l)) slot)
