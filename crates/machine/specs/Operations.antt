@@ -97,5 +97,6 @@ shareOfTurns k slot clock disc = turnsInRow (turnsDue (processAt k slot)) k slot
 abbrev pub slots : List ℕ
 slots = 0 ∷ 1 ∷ 2 ∷ 3 ∷ 4 ∷ 5 ∷ 6 ∷ 7 ∷ 8 ∷ 9 ∷ []
 
+-- Document 01: "for slots 0 to 9, [..] under one clock reading, outputs joined"
 abbrev pub roundOf : Kernel → ℕ → List ℕ → Turned
 roundOf = inOrder shareOfTurns slots

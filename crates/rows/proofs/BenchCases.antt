@@ -37,10 +37,10 @@ use Rattle.machine.specs.Single.{single}
 use Rattle.machine.specs.Stack.{pop, wellFormed}
 use Rattle.machine.specs.Ended.{ended}
 use Rattle.machine.specs.Turn.{turned}
-use Rattle.rows.specs.Bench.{Every, after, turns}
+use Rattle.rows.specs.Bench.{Every, RowHolds, after, turns}
 use Rattle.rows.specs.Cases.{Bench, Delays, Misreadings, Scalings, cases, delays, misreadings, scalings, waits}
 
-rows-hold : Every cases × Every misreadings × Every waits × Every delays × Every scalings
+rows-hold : Every RowHolds cases × Every RowHolds misreadings × Every RowHolds waits × Every RowHolds delays × Every RowHolds scalings
 unfolding turns after single exec instructionOf operatorOf lookupOperator includes operates settle pop wellFormed trimmed same unary binary
     constrained ordered mapped mapExact power pow one
     whole wrapped wholeBits convertedFloat numberOf textOf printedOf wholeOf lastDigits ofBits ofFields trailingZeros answer otherAnswer

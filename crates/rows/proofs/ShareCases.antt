@@ -21,9 +21,10 @@ use Rattle.machine.specs.Ended.{ended}
 use Rattle.machine.specs.Turn.{turned}
 use Rattle.machine.specs.Operations.{inOrder, shareOfTurns, shared, turnIfRunning}
 use Rattle.machine.specs.State.{slotOf}
-use Rattle.rows.specs.ShareRows.{Every, Shares, loading, rounds, shareRows}
+use Rattle.rows.specs.Bench.{Every}
+use Rattle.rows.specs.ShareRows.{ShareRowHolds, Shares, loading, rounds, shareRows}
 
-rows-hold : Every shareRows
+rows-hold : Every ShareRowHolds shareRows
 unfolding loading rounds inOrder shareOfTurns shared slotOf turnIfRunning exec instructionOf operatorOf lookupOperator includes
     operates settle pop wellFormed unary binary whole wrapped numberOf textOf lastDigits index tab flat all apart begins fits
     freeFrom greatest least place kernelOf any keep ended turned owned freed assigned placeFor placing added

@@ -126,6 +126,6 @@ RowHolds (runsAt program clocks seen) = (alone program clocks ≡ seen) × (inKe
 RowHolds (runsInKernel program n seen) = inKernel program (replicate n 0) ≡ seen
 RowHolds (stores calls n start) = goesTo shortDisc calls n start × goesTo longDisc calls n start
 
-abbrev pub Every : List Row → Type 0
-Every [] = Unit
-Every (row ∷ rows) = RowHolds row × Every rows
+abbrev pub Every : {R : Type 0} → (R → Type 0) → List R → Type 0
+Every holds [] = Unit
+Every holds (row ∷ rows) = holds row × Every holds rows

@@ -5,7 +5,7 @@ use mathlib.Core.List.{List, [], _∷_, _++_}
 use lib.ListN.{replicate}
 use Rattle.buffer.specs.Lists.{flat, tab}
 use Rattle.machine.specs.Answer.{Call, other, erase}
-use Rattle.rows.specs.Bench.{Every, Row, runs, runsAt, runsInKernel, shows, stores, storing}
+use Rattle.rows.specs.Bench.{Every, Row, RowHolds, runs, runsAt, runsInKernel, shows, stores, storing}
 
 abbrev pub letters : ℕ → List ℕ
 letters n = replicate n 97
@@ -136,13 +136,13 @@ scalings =
 
 -- every row holds of the definitions
 unfoldable pub Bench : Type 0
-Bench = Every cases
+Bench = Every RowHolds cases
 
 unfoldable pub Misreadings : Type 0
-Misreadings = Every misreadings
+Misreadings = Every RowHolds misreadings
 
 unfoldable pub Delays : Type 0
-Delays = Every waits × Every delays
+Delays = Every RowHolds waits × Every RowHolds delays
 
 unfoldable pub Scalings : Type 0
-Scalings = Every scalings
+Scalings = Every RowHolds scalings

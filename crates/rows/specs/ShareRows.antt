@@ -15,6 +15,7 @@ use Rattle.machine.specs.State.{running}
 use Rattle.machine.specs.Turn.{Turned}
 use Rattle.machine.specs.declared.Kernel.{Kernel}
 use Rattle.machine.specs.declared.Process.{Process}
+use Rattle.rows.specs.Bench.{Every}
 use Rattle.rows.specs.Cases.{down}
 
 -- a program, and the share that is set for its process; 0 leaves it as *run* made it
@@ -40,8 +41,8 @@ loading (x ∷ xs) t =
     let k = started (t .kernel) (id - 1) file in
     loading xs (record { kernel = orAsItWas (shared id (x .share) k) k; disc = t .disc ++ x .program; out = t .out })
 
-abbrev pub loaded : List Sharer → Turned
-loaded l = loading l (record { kernel = kernelOf booted; disc = replicate dataStart 0; out = [] })
+abbrev pub startedAll : List Sharer → Turned
+startedAll l = loading l (record { kernel = kernelOf booted; disc = replicate dataStart 0; out = [] })
 
 unfoldable pub rounds : ℕ → Turned → Turned
 rounds zero t = t
@@ -59,11 +60,11 @@ abbrev pub slotSeen : Process → SlotSeen
 slotSeen p = record { state = p .state; share = p .share; fault = p .fault }
 
 -- running with that share, or ended by that fault
-abbrev pub runs : ℕ → SlotSeen
-runs share = record { state = running; share = share; fault = 0 }
+abbrev pub live : ℕ → SlotSeen
+live share = record { state = running; share = share; fault = 0 }
 
-abbrev pub over : ℕ → SlotSeen
-over fault = record { state = 0; share = 0; fault = fault }
+abbrev pub gone : ℕ → SlotSeen
+gone fault = record { state = 0; share = 0; fault = fault }
 
 -- so many rounds print this text, and leave the slots like this
 pub record ShareRow : Type 0 where
@@ -75,14 +76,10 @@ pub record ShareRow : Type 0 where
 abbrev pub row : List Sharer → ℕ → List ℕ → List SlotSeen → ShareRow
 row sharers count text seen = record { sharers = sharers; count = count; text = text; seen = seen }
 
-abbrev pub RowHolds : ShareRow → Type 0
-RowHolds r =
-    let t = rounds (r .count) (loaded (r .sharers)) in
+abbrev pub ShareRowHolds : ShareRow → Type 0
+ShareRowHolds r =
+    let t = rounds (r .count) (startedAll (r .sharers)) in
     (t .out ≡ r .text) × (map slotSeen (take (length (r .sharers)) (t .kernel .processes)) ≡ r .seen)
-
-abbrev pub Every : List ShareRow → Type 0
-Every [] = Unit
-Every (r ∷ rs) = RowHolds r × Every rs
 
 -- CHAR and PRINT of each of these letters, a turn each
 abbrev pub printing : List ℕ → List ℕ
@@ -93,17 +90,17 @@ abbrev pub shareRows : List ShareRow
 shareRows =
     -- "that many turns in a row", "with zero as one": in each round four turns of the first, then one of the second
     row (sharer (printing (97 ∷ 98 ∷ 99 ∷ 100 ∷ [])) 4 ∷ sharer (printing (120 ∷ [])) 0 ∷ []) 2
-    (97 ∷ 98 ∷ 99 ∷ 100 ∷ 120 ∷ []) (runs 4 ∷ runs 0 ∷ []) ∷
+    (97 ∷ 98 ∷ 99 ∷ 100 ∷ 120 ∷ []) (live 4 ∷ live 0 ∷ []) ∷
     -- setting 1 writes 1; "22 a share outside 1 to 8": 9 changes nothing
-    row (sharer (printing (97 ∷ [])) 1 ∷ sharer (printing (120 ∷ [])) 9 ∷ []) 1 [] (runs 1 ∷ runs 0 ∷ []) ∷
+    row (sharer (printing (97 ∷ [])) 1 ∷ sharer (printing (120 ∷ [])) 9 ∷ []) 1 [] (live 1 ∷ live 0 ∷ []) ∷
     -- "while it stays running", "when it is cleared like the rest": STOP, and a PRINT that faults, in the midst of it;
     -- a turn more would meet fault 2
     row (sharer (printing (97 ∷ []) ++ (67 ∷ [])) 8 ∷ sharer (printing (98 ∷ []) ++ (51 ∷ [])) 8 ∷ []) 1 (97 ∷ 98 ∷ [])
-    (over 0 ∷ over 5 ∷ []) ∷
+    (gone 0 ∷ gone 5 ∷ []) ∷
     -- `down`: 29 turns, so with a share of 8 it is live after three rounds and has ended after four
-    row (sharer down 8 ∷ []) 3 (51 ∷ 10 ∷ 50 ∷ 10 ∷ 49 ∷ 10 ∷ []) (runs 8 ∷ []) ∷
-    row (sharer down 8 ∷ []) 4 (51 ∷ 10 ∷ 50 ∷ 10 ∷ 49 ∷ 10 ∷ []) (over 0 ∷ []) ∷ []
+    row (sharer down 8 ∷ []) 3 (51 ∷ 10 ∷ 50 ∷ 10 ∷ 49 ∷ 10 ∷ []) (live 8 ∷ []) ∷
+    row (sharer down 8 ∷ []) 4 (51 ∷ 10 ∷ 50 ∷ 10 ∷ 49 ∷ 10 ∷ []) (gone 0 ∷ []) ∷ []
 
 -- every row holds of the definitions
 unfoldable pub Shares : Type 0
-Shares = Every shareRows
+Shares = Every ShareRowHolds shareRows
