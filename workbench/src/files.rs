@@ -1,6 +1,6 @@
 //! Files of the host, '-' being standard input and output.
 
-use crate::failure::{refused, Outcome};
+use crate::failure::{refused, Failure, Outcome};
 use crate::good;
 use crate::kernel;
 use crate::layout::{AREA_LEN, LONG_DISC, SHORT_DISC};
@@ -17,6 +17,12 @@ pub fn shown(path: &str) -> &str {
     }
 }
 
+/// Whether two paths are one file that is there; '-' is none.
+pub fn is_same(a: &str, b: &str) -> bool {
+    let real = |path: &str| if path == "-" { None } else { fs::canonicalize(path).ok() };
+    real(a).is_some_and(|a| Some(a) == real(b))
+}
+
 pub fn read(path: &str) -> Outcome<Vec<u8>> {
     let read = if path == "-" {
         let mut bytes = Vec::new();
@@ -29,14 +35,20 @@ pub fn read(path: &str) -> Outcome<Vec<u8>> {
 
 /// Writes a whole file: a new one beside it first, so that no write is left half done.
 pub fn write(path: &str, bytes: &[u8]) -> Outcome {
-    let written = if path == "-" { write_output(bytes) } else { replace(Path::new(path), bytes) };
-    written.or_else(|error| refused(format!("{}: {error}", if path == "-" { "standard output" } else { path })))
+    if path == "-" {
+        return write_output(bytes);
+    }
+    replace(Path::new(path), bytes).or_else(|error| refused(format!("{path}: {error}")))
 }
 
-fn write_output(bytes: &[u8]) -> io::Result<()> {
+/// Writes to standard output. A reader that wants no more, such as `head`, needs no message.
+pub fn write_output(bytes: &[u8]) -> Outcome {
     let mut out = io::stdout().lock();
-    out.write_all(bytes)?;
-    out.flush()
+    match out.write_all(bytes).and_then(|()| out.flush()) {
+        Ok(()) => Ok(()),
+        Err(error) if error.kind() == io::ErrorKind::BrokenPipe => Err(Failure::Told),
+        Err(error) => refused(format!("standard output: {error}")),
+    }
 }
 
 fn replace(path: &Path, bytes: &[u8]) -> io::Result<()> {
@@ -45,7 +57,7 @@ fn replace(path: &Path, bytes: &[u8]) -> io::Result<()> {
         return fs::write(path, bytes);
     }
     let mut name = path.as_os_str().to_owned();
-    name.push(".new");
+    name.push(format!(".{}.new", std::process::id()));
     let new = PathBuf::from(name);
     let moved = fs::write(&new, bytes).and_then(|()| {
         if let Ok(metadata) = fs::metadata(path) {

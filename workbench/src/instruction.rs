@@ -1,6 +1,9 @@
 //! The 69 instructions of appendix C: number, mnemonic, arguments, what is popped and how many values are pushed.
 //! DELAY and the pins are in the table but not built: executing one is fault 1 (document 01).
 
+/// The most bytes of condition and body together: fault 8 if "c + b above 251" (document 01).
+pub const MAX_WHILE: usize = 251;
+
 /// What stands behind the instruction byte.
 #[derive(Clone, Copy, Debug, PartialEq, Eq)]
 pub enum Arguments {

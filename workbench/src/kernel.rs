@@ -185,3 +185,24 @@ pub fn refusal(number: i32) -> &'static str {
         _ => "an unknown refusal",
     }
 }
+
+/// What a fault means: the number in an ended record, in words (include/arduinos.h).
+pub fn fault(number: u8) -> &'static str {
+    match number {
+        0 => "no fault",
+        1 => "no such instruction",
+        2 => "the code ended",
+        3 => "a jump outside the program, or ENDLOOP with no LOOP",
+        4 => "a stack above 32 bytes",
+        5 => "too few bytes on the stack",
+        6 => "a type that is not taken here, or a malformed string",
+        7 => "a whole divisor of zero",
+        8 => "out of range: a conversion, a negative whole root, POW's y, or WHILE",
+        9 => "no such variable",
+        10 => "no variable entry, or no free memory in a row for the value",
+        11 => "no open file",
+        12 => "past the file's end",
+        13 => "OPEN's new file was refused",
+        _ => "an unknown fault",
+    }
+}

@@ -5,7 +5,9 @@
 //! hold these explanations against the kernel.
 
 pub mod asm;
+pub mod call;
 pub mod cause;
+pub mod checksum;
 pub mod commands;
 pub mod dis;
 pub mod failure;
@@ -15,4 +17,9 @@ pub mod instruction;
 pub mod kernel;
 pub mod layout;
 pub mod literal;
+pub mod picture;
+pub mod readout;
+pub mod record;
+pub mod replay;
+pub mod run;
 pub mod value;

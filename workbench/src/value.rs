@@ -9,6 +9,17 @@ pub const INT: u8 = 2;
 pub const STRING: u8 = 3;
 pub const FLOAT: u8 = 4;
 
+/// A type's name; "?" for a number that is no type.
+pub fn type_name(kind: u8) -> &'static str {
+    match kind {
+        CHAR => "CHAR",
+        INT => "INT",
+        STRING => "STRING",
+        FLOAT => "FLOAT",
+        _ => "?",
+    }
+}
+
 #[derive(Clone, Debug, PartialEq, Eq)]
 pub enum Value {
     Char(i8),
@@ -94,6 +105,6 @@ mod tests {
         assert_eq!(stack(&[7, 2]), [Value::Byte(7), Value::Byte(2)]);
         assert_eq!(stack(&[3]), [Value::Byte(3)]);
         assert_eq!(stack(&[72, 1, 3]), [Value::Char(72), Value::Byte(3)]);
-        assert_eq!(stack(&[0, 0, 2, 3]), [Value::Byte(0), Value::Byte(0), Value::Byte(2), Value::Byte(3)]);
+        assert_eq!(stack(&[0, 0, 2, 3]), [Value::Int(0), Value::Byte(3)]);
     }
 }

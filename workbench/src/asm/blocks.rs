@@ -1,0 +1,203 @@
+//! The lengths behind IF, ELSE and WHILE, counted from where their blocks end.
+//!
+//! Blocks whose lengths are all given may have any shape, since a program may jump as it likes. A block with a length
+//! to be counted must have its end, and no end of another block may cross it.
+
+use super::message::{Message, Problem};
+use super::operands::Operands;
+use super::{Labels, Placed};
+use crate::instruction::MAX_WHILE;
+use std::collections::HashMap;
+
+/// A length is one byte.
+const MAX_BODY: usize = 255;
+
+#[derive(Clone, Copy, Debug, PartialEq, Eq)]
+enum Kind {
+    If,
+    Else,
+    While,
+}
+
+impl Kind {
+    fn end(self) -> &'static str {
+        match self {
+            Kind::If | Kind::Else => "ENDIF",
+            Kind::While => "ENDWHILE",
+        }
+    }
+}
+
+/// An IF, ELSE or WHILE whose end has not come.
+#[derive(Clone, Copy, Debug)]
+struct Opener {
+    index: usize,
+    kind: Kind,
+    is_counted: bool,
+}
+
+/// The argument bytes of each statement that has its lengths counted, by its index.
+pub type Lengths = HashMap<usize, Vec<u8>>;
+
+struct Blocks<'s, 'a> {
+    statements: &'s [Placed<'a>],
+    labels: &'s Labels<'a>,
+    open: Vec<Opener>,
+    lengths: Lengths,
+    problems: Vec<(usize, Problem)>,
+}
+
+pub fn count<'a>(statements: &[Placed<'a>], labels: &Labels<'a>, problems: &mut Vec<(usize, Problem)>) -> Lengths {
+    let mut blocks =
+        Blocks { statements, labels, open: vec![], lengths: Lengths::new(), problems: std::mem::take(problems) };
+    for index in 0..statements.len() {
+        blocks.meet(index);
+    }
+    for opener in blocks.open.clone().iter().filter(|opener| opener.is_counted) {
+        let (name, end) = (blocks.name(opener.index), opener.kind.end().to_string());
+        blocks.tell(opener.index, Message::NoEnd { opener: name, end });
+    }
+    *problems = blocks.problems;
+    blocks.lengths
+}
+
+impl Blocks<'_, '_> {
+    fn meet(&mut self, index: usize) {
+        let is_counted = self.statements[index].statement.is_counted();
+        match self.statements[index].statement.name() {
+            "IF" => self.open.push(Opener { index, kind: Kind::If, is_counted }),
+            "WHILE" => self.open.push(Opener { index, kind: Kind::While, is_counted }),
+            "ELSE" => self.meet_else(index, is_counted),
+            "ENDIF" => {
+                let opener = self.close(index, |kind| kind != Kind::While).unwrap_or(None);
+                self.count_body(opener, index);
+            }
+            "ENDWHILE" => {
+                let opener = self.close(index, |kind| kind == Kind::While).unwrap_or(None);
+                self.count_while(opener, index);
+            }
+            _ => {}
+        }
+    }
+
+    /// ELSE ends the body of its IF and begins one of its own.
+    fn meet_else(&mut self, index: usize, is_counted: bool) {
+        let mut counts = is_counted;
+        match self.close(index, |kind| kind != Kind::While) {
+            Err(()) => counts = false,
+            Ok(None) if is_counted => {
+                self.tell(index, Message::ElseAlone {});
+                counts = false;
+            }
+            Ok(Some(other)) if other.kind == Kind::Else && (other.is_counted || is_counted) => {
+                let line = self.statements[other.index].line;
+                self.tell(index, Message::SecondElse { line });
+                counts = false;
+            }
+            Ok(opener) => self.count_body(opener, index),
+        }
+        self.open.push(Opener { index, kind: Kind::Else, is_counted: counts });
+    }
+
+    /// Takes the opener that an end belongs to off, and all that are open inside it. None if the end stands alone;
+    /// an error if it would cross a block that is counted.
+    fn close(&mut self, index: usize, belongs: fn(Kind) -> bool) -> Result<Option<Opener>, ()> {
+        let own = self.open.iter().rposition(|opener| belongs(opener.kind));
+        let crossed = self.open.iter().rposition(|opener| opener.is_counted && !belongs(opener.kind));
+        if let Some(crossed) = crossed.filter(|&crossed| own.is_none_or(|own| own < crossed)) {
+            let opener = self.open[crossed];
+            let (end, found) = (opener.kind.end().to_string(), self.name(index));
+            let line = self.statements[opener.index].line;
+            self.tell(index, Message::WrongEnd { end, opener: self.name(opener.index), line, found });
+            // Both count as ended, so that one slip is told once.
+            self.open.truncate(own.unwrap_or(crossed));
+            return Err(());
+        }
+        let opener = own.map(|own| self.open[own]);
+        self.open.truncate(own.unwrap_or(self.open.len()));
+        Ok(opener)
+    }
+
+    /// The length of IF or ELSE, up to the statement that ends its body.
+    fn count_body(&mut self, opener: Option<Opener>, end: usize) {
+        let Some(Opener { index, is_counted: true, .. }) = opener else { return };
+        let length = self.statements[end].offset - self.past(index);
+        if length > MAX_BODY {
+            let message = Message::BodyTooLong { opener: self.name(index), end: self.name(end), length };
+            return self.tell(index, message);
+        }
+        self.lengths.insert(index, vec![length as u8]);
+    }
+
+    /// The lengths of WHILE, up to its ENDWHILE.
+    fn count_while(&mut self, opener: Option<Opener>, end: usize) {
+        let Some(Opener { index, is_counted: true, .. }) = opener else { return };
+        let body = self.statements[end].offset - self.past(index);
+        let condition = match self.condition_start(index) {
+            Ok(start) => self.statements[index].offset - start,
+            Err(message) => return self.tell(index, message),
+        };
+        if condition + body > MAX_WHILE {
+            return self.tell(index, Message::WhileTooLong { length: condition + body });
+        }
+        self.lengths.insert(index, vec![condition as u8, body as u8]);
+    }
+
+    /// Where the condition of a WHILE begins.
+    fn condition_start(&self, index: usize) -> Result<usize, Message> {
+        let placed = &self.statements[index];
+        let Operands::From(label) = &placed.statement.operands else { return self.shortest_condition(index) };
+        match self.labels.get(label.text) {
+            Some(found) if found.line <= placed.line => Ok(found.offset),
+            _ => Err(Message::UnknownLabel { name: label.text.into() }),
+        }
+    }
+
+    /// The shortest run of instructions that leaves one value more than it finds, and takes none that it did not push.
+    fn shortest_condition(&self, index: usize) -> Result<usize, Message> {
+        let mut wanted = 1;
+        for placed in self.statements[..index].iter().rev() {
+            // What is not known yet is told where it stands.
+            if placed.statement.instruction.is_none() && placed.statement.operands == Operands::Unread {
+                return Ok(placed.offset);
+            }
+            let Some((pops, pushes)) = plain_effect(placed) else {
+                let found = placed.statement.name().to_string();
+                return Err(Message::ConditionUnclear { found, line: placed.line });
+            };
+            wanted = wanted + pops - pushes;
+            if wanted == 0 {
+                return Ok(placed.offset);
+            }
+        }
+        Err(Message::ConditionMissing {})
+    }
+
+    /// Where a jump of IF, ELSE or WHILE counts from: "past its arguments".
+    fn past(&self, index: usize) -> usize {
+        let placed = &self.statements[index];
+        placed.offset + placed.statement.length()
+    }
+
+    fn name(&self, index: usize) -> String {
+        self.statements[index].statement.name().to_string()
+    }
+
+    fn tell(&mut self, index: usize, message: Message) {
+        let placed = &self.statements[index];
+        let problem = match (&message, &placed.statement.operands) {
+            (Message::UnknownLabel { .. }, Operands::From(label)) => label.problem(message),
+            _ => placed.statement.problem(message),
+        };
+        self.problems.push((placed.line, problem));
+    }
+}
+
+/// How many values an instruction pops and pushes, if the next one follows it and the stack shows it.
+fn plain_effect(placed: &Placed) -> Option<(usize, usize)> {
+    let instruction = placed.statement.instruction.filter(|instruction| instruction.built)?;
+    match instruction.mnemonic {
+        "IF" | "ELSE" | "ENDIF" | "WHILE" | "ENDWHILE" | "LOOP" | "ENDLOOP" | "STOP" => None,
+        _ => Some((instruction.pops.len(), instruction.pushes)),
+    }
+}

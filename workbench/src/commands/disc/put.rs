@@ -1,0 +1,90 @@
+//! `arduinos disc put`.
+
+use super::booted_area;
+use crate::commands::arguments::{Given, Options};
+use crate::failure::{misused, refused, Outcome};
+use crate::files;
+use crate::kernel;
+use crate::layout::DATA_START;
+use crate::literal;
+use std::path::Path;
+
+pub const HELP: &str = "\
+usage: arduinos disc put IMAGE FILE .. [--as NAME] [--replace]
+
+Stores files, each under the last part of its path: all that are given, or none if one is refused.
+A name has 1 to 11 characters from '!' to '~', no space.
+
+  --as NAME  the name on the disc, of a single FILE; needed where FILE is -
+  --replace  erase files of these names first
+";
+
+const OPTIONS: Options = Options { flags: &["--replace"], valued: &["--as"] };
+
+/// A file to be stored.
+struct Item<'a> {
+    path: &'a str,
+    name: String,
+    data: Vec<u8>,
+}
+
+pub fn main(arguments: &[String]) -> Outcome {
+    let given = Given::read(arguments, &OPTIONS)?;
+    let Some((image, paths)) = given.operands.split_first() else { return misused("IMAGE is missing") };
+    let names = names(paths, given.value("--as")?)?;
+    if image == "-" && paths.iter().any(|path| path == "-") {
+        return misused("standard input cannot be both IMAGE and FILE");
+    }
+    let mut disc = files::read_disc(image)?;
+    let mut items = Vec::new();
+    for (path, name) in paths.iter().zip(names) {
+        items.push(Item { path, name, data: files::read(path)? });
+    }
+    let replace = given.has("--replace");
+    if replace {
+        for item in &items {
+            // Refused where there is no such file: nothing has to go then.
+            kernel::erase(&mut disc, &booted_area(), item.name.as_bytes());
+        }
+    }
+    for item in &items {
+        let number = kernel::store(&mut disc, item.name.as_bytes(), &item.data);
+        if number < 0 {
+            return refused(refusal(number, item, &disc, replace));
+        }
+    }
+    files::write(image, &disc)
+}
+
+/// The names on the disc.
+fn names(paths: &[String], given: Option<&str>) -> Outcome<Vec<String>> {
+    match (paths, given) {
+        ([], _) => misused("FILE is missing"),
+        ([_], Some(name)) => Ok(vec![name.to_string()]),
+        (_, Some(_)) => misused("--as names a single FILE"),
+        _ => paths.iter().map(|path| last_part(path)).collect(),
+    }
+}
+
+fn last_part(path: &str) -> Outcome<String> {
+    if path == "-" {
+        return misused("--as NAME is needed for standard input");
+    }
+    let name = Path::new(path).file_name().map(|name| name.to_string_lossy().into_owned());
+    name.map_or_else(|| misused(format!("{path} has no last part; --as gives a name")), Ok)
+}
+
+/// Why the kernel does not store a file on the disc as it then is, and what helps.
+fn refusal(number: i32, item: &Item, disc: &[u8], replace: bool) -> String {
+    let helps = match -number {
+        5 => "; --as gives another name".to_string(),
+        6 => format!("; this one has {}, and the disc takes {}", item.data.len(), disc.len() - DATA_START),
+        7 if replace => "; the name is given twice".into(),
+        7 => "; --replace erases the old file first".into(),
+        8 => "; 'arduinos disc rm' erases one".into(),
+        9 => format!("; the file has {}, the longest free run {}", item.data.len(), kernel::free_space(disc)),
+        _ => String::new(),
+    };
+    let (path, name, why) = (files::shown(item.path), literal::text(item.name.as_bytes()), kernel::refusal(number));
+    format!("{path}: not stored as {name} (refusal {}): {why}{helps}", -number)
+}

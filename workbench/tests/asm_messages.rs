@@ -1,0 +1,342 @@
+//! Wrong sources: each message of the assembler with its line, its column and the caret.
+
+mod random;
+
+use random::Random;
+use std::collections::BTreeSet;
+use workbench::asm::{assemble, Error, Message};
+
+fn errors(source: &[u8]) -> Vec<Error> {
+    assemble(source).err().unwrap_or_else(|| panic!("{:?} is taken", String::from_utf8_lossy(source)))
+}
+
+fn told(source: &[u8]) -> String {
+    errors(source).iter().map(|error| error.render("f.asm")).collect()
+}
+
+/// A source with one error, the error's line and column, its message, and the caret.
+const WRONG: &[(&str, &str, &str, &str)] = &[
+    // Quotes and numbers.
+    ("\"abc", "1:1", "expected a closing \", found the end of the line", "^~~~"),
+    ("PLUS\n CHAR 'a", "2:7", "expected a closing ', found the end of the line", "      ^~"),
+    ("\"a\\qb\"", "1:3", "expected \\n, \\t, \\r, \\0, \\\\, \\', \\\" or \\xHH, found \\q", "  ^~"),
+    ("'\\x4'", "1:2", "expected \\n, \\t, \\r, \\0, \\\\, \\', \\\" or \\xHH, found \\x4", " ^~~"),
+    ("\"\\", "1:2", "expected \\n, \\t, \\r, \\0, \\\\, \\', \\\" or \\xHH, found the end of the line", " ^"),
+    (
+        "\t\"caf\u{e9}\"",
+        "1:6",
+        "expected a printable ASCII character, found '\u{e9}'; write its bytes as \\xHH",
+        "\t    ^",
+    ),
+    ("\"a\tb\"", "1:3", "expected a printable ASCII character, found U+0009; write its bytes as \\xHH", "  ^"),
+    ("''", "1:1", "expected one character between the quotes, found 0", "^~"),
+    ("CHAR 'abc'", "1:6", "expected one character between the quotes, found 3", "     ^~~~~"),
+    ("12x", "1:1", "expected a number, found '12x'", "^~~"),
+    ("- 7", "1:1", "expected a number, found '-'", "^"),
+    ("+7", "1:1", "expected a number, found '+7'", "^~"),
+    ("INT 0x", "1:5", "expected a number, found '0x'", "    ^~"),
+    ("FLOAT 1.2.3", "1:7", "expected a number, found '1.2.3'", "      ^~~~~"),
+    ("PLUS @", "1:6", "expected a word, a number or quotes, found '@'", "     ^"),
+    ("1e39", "1:1", "expected a number that fits a FLOAT (at most 3.4028235e38), found 1e39", "^~~~"),
+    (
+        "FLOAT 400000000000000000000000000000000000000",
+        "1:7",
+        "expected a number that fits a FLOAT (at most 3.4028235e38), found 400000000000000000000000000000000000000",
+        "      ^~~~~~~~~~~~~~~~~~~~~~~~~~~~~~~~~~~~~~~",
+    ),
+    ("32768", "1:1", "expected a whole number from -32768 to 32767, found 32768; with a point it is a FLOAT", "^~~~~"),
+    (
+        "99999999999999999999",
+        "1:1",
+        "expected a whole number from -32768 to 32767, found 99999999999999999999; with a point it is a FLOAT",
+        "^~~~~~~~~~~~~~~~~~~~",
+    ),
+    // Lines.
+    ("PRINTLM", "1:1", "expected an instruction, a literal or DATA, found 'PRINTLM'; did you mean PRINTLN?", "^~~~~~~"),
+    ("  dta 1", "1:3", "expected an instruction, a literal or DATA, found 'dta'; did you mean DATA?", "  ^~~"),
+    ("lamp", "1:1", "expected an instruction, a literal or DATA, found 'lamp'", "^~~~"),
+    ("something", "1:1", "expected an instruction, a literal or DATA, found 'something'", "^~~~~~~~~"),
+    (": STOP", "1:1", "expected an instruction, a literal or DATA, found ':'", "^"),
+    ("-inf", "1:1", "expected an instruction, a literal or DATA, found '-inf'", "^~~~"),
+    ("PLUS 3", "1:6", "expected the end of the line behind PLUS, found 3", "     ^"),
+    (
+        "INT 300 println",
+        "1:9",
+        "expected the end of the line behind INT, found the instruction PRINTLN",
+        "        ^~~~~~~",
+    ),
+    ("'a' SET a", "1:5", "expected the end of the line behind 'a', found the instruction SET", "    ^~~"),
+    ("INT 1 2 3", "1:9", "expected the end of the line behind INT, found 3", "        ^"),
+    ("SET a b", "1:7", "expected the end of the line behind SET, found 'b'", "      ^"),
+    ("STRING \"a\" 0", "1:12", "expected the end of the line behind STRING, found 0", "           ^"),
+    ("a: b: STOP", "1:4", "expected an instruction, a literal or DATA, found 'b'", "   ^"),
+    ("STOP: PLUS", "1:1", "expected a label in front of ':', found the instruction STOP", "^~~~"),
+    ("a: PLUS\n\na: PLUS", "3:1", "expected a new label, found 'a', the label of line 1", "^"),
+    // Arguments.
+    (
+        "CHAR 256",
+        "1:6",
+        "expected a number from -128 to 255, a 'c' or an instruction behind CHAR, found 256",
+        "     ^~~",
+    ),
+    (
+        "CHAR -129",
+        "1:6",
+        "expected a number from -128 to 255, a 'c' or an instruction behind CHAR, found -129",
+        "     ^~~~",
+    ),
+    (
+        "CHAR",
+        "1:5",
+        "expected a number from -128 to 255, a 'c' or an instruction behind CHAR, found the end of the line",
+        "    ^",
+    ),
+    ("INT 3.5", "1:5", "expected a whole number from -32768 to 32767, or two bytes, behind INT, found 3.5", "    ^~~"),
+    (
+        "INT 0x10000",
+        "1:5",
+        "expected a whole number from -32768 to 32767, or two bytes, behind INT, found 0x10000",
+        "    ^~~~~~~",
+    ),
+    ("INT 1 256", "1:7", "expected a byte from 0 to 255 behind INT, found 256", "      ^~~"),
+    ("FLOAT \"1\"", "1:7", "expected a number, or four bytes, behind FLOAT, found \"1\"", "      ^~~"),
+    (
+        "FLOAT 1 2 3 ; no more",
+        "1:12",
+        "expected a number, or four bytes, behind FLOAT, found the end of the line",
+        "           ^",
+    ),
+    ("FLOAT 1 2 3 -4", "1:13", "expected a byte from 0 to 255 behind FLOAT, found -4", "            ^~"),
+    ("FLOAT 1.5 2", "1:11", "expected the end of the line behind FLOAT, found 2", "          ^"),
+    ("FLOAT 0x10", "1:7", "expected a number, or four bytes, behind FLOAT, found 0x10", "      ^~~~"),
+    ("STRING abc", "1:8", "expected \"text\", or bytes up to a zero, behind STRING, found 'abc'", "       ^~~"),
+    ("STRING 'a' \"b\" 0", "1:12", "expected a byte from 0 to 255 behind STRING, found \"b\"", "           ^~~"),
+    ("STRING \"a\\0\"", "1:8", "expected text without a zero (STRING adds its own), found one", "       ^~~~~"),
+    ("\"\\x00\"", "1:1", "expected text without a zero (STRING adds its own), found one", "^~~~~~"),
+    ("STRING 'a' 0 0", "1:12", "expected a zero only at the end of STRING's bytes, found one before", "           ^"),
+    (
+        "STRING 'a' 'b'",
+        "1:15",
+        "expected a zero at the end of STRING's bytes, found the end of the line",
+        "              ^",
+    ),
+    (
+        "GET 256",
+        "1:5",
+        "expected a variable behind GET (a letter, a 'c', a number from 0 to 255 or a name), found 256",
+        "    ^~~",
+    ),
+    (
+        "SET min",
+        "1:5",
+        "expected a variable behind SET (a letter, a 'c', a number from 0 to 255 or a name), \
+         found the instruction MIN",
+        "    ^~~",
+    ),
+    ("IF a", "1:4", "expected a length from 0 to 255, or the end of the line, behind IF, found 'a'", "   ^"),
+    ("ELSE 256", "1:6", "expected a length from 0 to 255, or the end of the line, behind ELSE, found 256", "     ^~~"),
+    (
+        "WHILE 6",
+        "1:8",
+        "expected two lengths from 0 to 255, a label, or the end of the line behind WHILE, \
+         found the end of the line",
+        "       ^",
+    ),
+    (
+        "GET n\nWHILE later\nlater: ENDWHILE",
+        "2:7",
+        "expected the label of an earlier line behind WHILE, found 'later'",
+        "      ^~~~~",
+    ),
+    (
+        "DATA 1 256",
+        "1:8",
+        "expected bytes behind DATA (0 to 255, a 'c', \"text\" or an instruction), found 256",
+        "       ^~~",
+    ),
+    (
+        "DATA",
+        "1:5",
+        "expected bytes behind DATA (0 to 255, a 'c', \"text\" or an instruction), found the end of the line",
+        "    ^",
+    ),
+    // Blocks.
+    ("GET n\n  IF\nPLUS", "2:3", "expected ENDIF for this IF, found the end of the source", "  ^~"),
+    ("IF\nELSE", "2:1", "expected ENDIF for this ELSE, found the end of the source", "^~~~"),
+    ("GET n\nWHILE", "2:1", "expected ENDWHILE for this WHILE, found the end of the source", "^~~~~"),
+    ("GET n\nWHILE\nENDIF", "3:1", "expected ENDWHILE for the WHILE of line 2, found ENDIF", "^~~~~"),
+    ("GET n\nWHILE\nENDIF\nENDWHILE", "3:1", "expected ENDWHILE for the WHILE of line 2, found ENDIF", "^~~~~"),
+    ("IF\nGET n\nWHILE\nELSE\nENDIF", "4:1", "expected ENDWHILE for the WHILE of line 3, found ELSE", "^~~~"),
+    ("IF\nELSE\nELSE 3\nENDIF", "3:1", "expected ENDIF for the ELSE of line 2, found another ELSE", "^~~~"),
+    ("ELSE\nENDIF", "1:1", "expected an IF before this ELSE, or a length behind it, found neither", "^~~~"),
+    (
+        "WHILE\nENDWHILE",
+        "1:1",
+        "expected a condition before WHILE that leaves one value, found the beginning of the source",
+        "^~~~~",
+    ),
+    (
+        "GET n\nPLUS\nWHILE\nENDWHILE",
+        "3:1",
+        "expected a condition before WHILE that leaves one value, found the beginning of the source",
+        "^~~~~",
+    ),
+];
+
+/// Instructions that a condition is not counted over.
+const UNCLEAR: [&str; 11] =
+    ["IF 0", "ELSE 0", "ENDIF", "WHILE 0 0", "ENDWHILE", "LOOP", "ENDLOOP", "STOP", "DATA 6", "DIGITALREAD", "DELAY"];
+
+#[test]
+fn every_wrong_source_is_told() {
+    for (source, place, message, caret) in WRONG {
+        let line: usize = place.split(':').next().unwrap_or("").parse().unwrap();
+        let text = source.lines().nth(line - 1).unwrap();
+        assert_eq!(told(source.as_bytes()), format!("f.asm:{place}: {message}\n{text}\n{caret}\n"), "{source}");
+    }
+}
+
+#[test]
+fn control_characters_are_not_sent_to_the_terminal() {
+    let expected = "f.asm:1:1: expected a word, a number or quotes, found 'a\\u{7}b'\na\u{fffd}b\n^~~\n";
+    assert_eq!(told(b"a\x07b"), expected);
+}
+
+#[test]
+fn conditions_that_cannot_be_counted() {
+    for instruction in UNCLEAR {
+        let name = instruction.split(' ').next().unwrap_or("");
+        let source = format!("GET n\n{instruction}\nCLOSE\nWHILE\nENDWHILE");
+        let expected = format!(
+            "f.asm:4:1: expected a condition of plain instructions before WHILE, found {name} in line 2; \
+             put a label where the condition begins: WHILE label\nWHILE\n^~~~~\n"
+        );
+        assert_eq!(told(source.as_bytes()), expected);
+    }
+}
+
+/// Sources that are too long, or have too many names, for the table.
+fn long_sources() -> [(String, String); 4] {
+    let data = |count: usize| "DATA 1\n".repeat(count);
+    let numbers: String = (0..=255).map(|byte| format!("SET {byte}\n")).collect();
+    [
+        (
+            format!("IF\n{}ELSE\nENDIF", data(256)),
+            "f.asm:1:1: expected at most 255 bytes between IF and ELSE, found 256\nIF\n^~\n".into(),
+        ),
+        (
+            format!("IF 0\n ELSE\n{}ENDIF", data(300)),
+            "f.asm:2:2: expected at most 255 bytes between ELSE and ENDIF, found 300\n ELSE\n ^~~~\n".into(),
+        ),
+        (
+            format!("GET n\nWHILE\n{}ENDWHILE", data(250)),
+            "f.asm:2:1: expected at most 251 bytes of condition and body together, found 252; \
+             WHILE would end by fault 8\nWHILE\n^~~~~\n"
+                .into(),
+        ),
+        (
+            format!("{numbers}GET more\nSET more\nSET n"),
+            "f.asm:257:5: expected at most 256 variables, found one more: 'more'\nGET more\n    ^~~~\n\
+             f.asm:258:5: expected at most 256 variables, found one more: 'more'\nSET more\n    ^~~~\n"
+                .into(),
+        ),
+    ]
+}
+
+#[test]
+fn what_is_too_much_is_told() {
+    for (source, expected) in long_sources() {
+        assert_eq!(told(source.as_bytes()), expected);
+    }
+}
+
+const NOT_TEXT: [(&[u8], &str); 2] = [
+    (b"\xff\xfeP\0", "f.asm:1:1: expected text in UTF-8, found the byte 255\n\u{fffd}\u{fffd}P\u{fffd}\n^\n"),
+    (
+        b"PLUS\r\n; \xc3\xa9 \xe9!\r\nPLUS",
+        "f.asm:2:5: expected text in UTF-8, found the byte 233\n; \u{e9} \u{fffd}!\n    ^\n",
+    ),
+];
+
+#[test]
+fn what_is_no_text_is_told() {
+    for (source, expected) in NOT_TEXT {
+        assert_eq!(told(source), expected);
+    }
+}
+
+#[test]
+fn all_messages_are_reached() {
+    let mut sources: Vec<Vec<u8>> = WRONG.iter().map(|(source, ..)| source.as_bytes().to_vec()).collect();
+    sources.push(b"GET n\nSTOP\nWHILE\nENDWHILE".to_vec());
+    sources.extend(long_sources().map(|(source, _)| source.into_bytes()));
+    sources.extend(NOT_TEXT.map(|(source, _)| source.to_vec()));
+    let reached: BTreeSet<&str> =
+        sources.iter().flat_map(|source| errors(source)).map(|error| error.problem.message.name()).collect();
+    let all: BTreeSet<&str> = Message::NAMES.iter().copied().collect();
+    assert_eq!(reached, all);
+}
+
+#[test]
+fn every_wrong_line_is_told_once_and_in_order() {
+    let source = "IF\nINT 70000 'a\nSET\nPRINTLM\nENDIFF\na: STOP\na: PLUS 1\nWHILE 1\nfoo\nWHILE\nENDWHILE\nIF\nSTOP";
+    let lines: Vec<(usize, &str)> =
+        errors(source.as_bytes()).iter().map(|error| (error.line, error.problem.message.name())).collect();
+    let expected = [
+        (2, "Unclosed"),
+        (3, "Variable"),
+        (4, "Instruction"),
+        (5, "Instruction"),
+        (7, "EndOfLine"),
+        (8, "Lengths"),
+        (9, "Instruction"),
+        (12, "NoEnd"),
+    ];
+    assert_eq!(lines, expected);
+}
+
+/// Words, halves of words and strange characters.
+#[rustfmt::skip]
+const SOUP: &[&str] = &[
+    "IF", "ELSE", "ENDIF", "WHILE", "ENDWHILE", "GET", "SET", "n", "name", "a:", ":", "INT", "FLOAT", "STRING",
+    "CHAR", "DATA", "1", "-1", "0x", "0xFF", "300", "1.5", "1e99", "nan", "-inf", "\u{2212}", "'a'", "'", "\"",
+    "\"ab\"", "\\", "\\x", ";", "#", "//", "/", "\u{e9}", "\u{1F600}", "\0", "\t", "\r", "\u{a0}", "PLUS", "PLSU",
+    "_", "\n", "\n", "\n",
+];
+
+/// Any of them in any order: it ends with a program, or with places that are there.
+#[test]
+fn places_are_inside_the_source() {
+    let mut random = Random(5);
+    let mut wrong = 0;
+    for _ in 0..20000 {
+        let mut source = String::new();
+        for _ in 0..random.below(12) {
+            source += random.pick(SOUP);
+            source += random.pick(&["", " ", " ", "\n"]);
+        }
+        let Err(errors) = assemble(source.as_bytes()) else { continue };
+        wrong += 1;
+        assert!(errors.windows(2).all(|pair| pair[0].line < pair[1].line), "{source:?}");
+        for error in &errors {
+            let line = source.lines().nth(error.line - 1).unwrap_or_else(|| panic!("{source:?}"));
+            let (first, width) = (error.problem.column, error.problem.width);
+            assert_eq!(error.text, line);
+            assert!(first >= 1 && width >= 1 && first + width <= line.chars().count() + 2, "{source:?}: {error:?}");
+            assert_eq!(error.render("f").lines().count(), 3, "{source:?}");
+        }
+    }
+    assert!(wrong > 5000, "{wrong}");
+}
+
+#[test]
+fn random_bytes_do_no_harm() {
+    let mut random = Random(6);
+    for _ in 0..3000 {
+        let mut source = vec![0; random.below(40)];
+        random.fill(&mut source);
+        if let Err(errors) = assemble(&source) {
+            errors.iter().for_each(|error| assert!(error.render("f").starts_with("f:")));
+        }
+    }
+}

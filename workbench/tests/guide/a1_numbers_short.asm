@@ -1,0 +1,6 @@
+300
+SET a
+GET a
+3
+PLUS
+SET b

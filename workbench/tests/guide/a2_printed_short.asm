@@ -1,0 +1,8 @@
+'a'
+println
+263
+println
+123.45
+println
+"test"
+println

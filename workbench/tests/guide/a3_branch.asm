@@ -1,0 +1,14 @@
+; A.3.2
+INT 0 3
+SET 'a'
+GET 'a'
+INT 0 5
+EQUALS
+IF 7
+STRING 'T' 'r' 'u' 'e' 0
+PRINTLN
+ELSE 8
+STRING 'F' 'a' 'l' 's' 'e' 0
+PRINTLN
+ENDIF
+STOP

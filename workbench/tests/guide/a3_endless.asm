@@ -1,0 +1,10 @@
+; A.3.3
+INT 0 0
+SET 'i'
+LOOP
+GET 'i'
+INCREMENT
+SET 'i'
+GET 'i'
+PRINTLN
+ENDLOOP

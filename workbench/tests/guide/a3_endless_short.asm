@@ -1,0 +1,9 @@
+0
+SET i
+LOOP
+  GET i
+  INCREMENT
+  SET i
+  GET i
+  PRINTLN
+ENDLOOP

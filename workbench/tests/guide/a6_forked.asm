@@ -1,0 +1,19 @@
+STRING 'h' 'e' 'l' 'l' 'o' ',' 0
+PRINTLN
+STRING 'w' 'o' 'r' 'l' 'd' 0
+SET 's'
+GET 's'
+INT 0 10
+OPEN
+GET 's'
+WRITE
+CHAR PRINTLN
+WRITE
+CHAR STOP
+WRITE
+GET 's'
+FORK
+WAITUNTILDONE
+STRING 'b' 'y' 'e' 0
+PRINTLN
+STOP

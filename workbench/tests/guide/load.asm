@@ -1,0 +1,19 @@
+700             ; the reading
+0
+1023
+0
+255
+MAP
+SET level
+GET level
+PRINTLN
+GET level
+50
+150
+CONSTRAIN
+PRINTLN
+1.5
+CHAR 2
+POW
+PRINTLN
+STOP

@@ -1,0 +1,14 @@
+  "down"
+  FORK
+  SET id
+  GET id
+  IF
+    GET id
+    WAITUNTILDONE
+    "ok"
+    PRINTLN
+  ELSE
+    "no"
+    PRINTLN
+  ENDIF
+  STOP

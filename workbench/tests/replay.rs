@@ -1,0 +1,150 @@
+//! `arduinos replay`: a record made again, and told where it was altered.
+
+mod bench;
+
+use bench::{Bench, DOWN, LAMP, WRONG_TYPE};
+use workbench::call::{Buffers, Call};
+use workbench::record::{self, Writer};
+use workbench::replay::replay;
+
+/// A record of a run in which one process ends by a fault.
+fn recorded(bench: &Bench) -> Vec<u8> {
+    let run = ["run", "box.img", "down", "wrong", "--share", "down=3", "--clock", "100", "--record", "r"];
+    assert_eq!(bench.arduinos(&run).status, 1);
+    bench.read("r")
+}
+
+#[test]
+fn a_record_is_made_again() {
+    let bench = Bench::new("again", &[("down", DOWN), ("wrong", WRONG_TYPE)]);
+    recorded(&bench);
+    let ran = bench.arduinos(&["replay", "r"]);
+    assert_eq!((ran.status, ran.err.as_str()), (0, ""));
+    assert_eq!(
+        ran.out,
+        "line 14, round 300: wrong (ID 2) ended by fault 6 at offset 8: PLUS takes numbers; below the INT 5 lay the string \
+         \"abc\"\nr: 14 calls, all as recorded\n"
+    );
+    let traced = bench.arduinos(&["replay", "r", "--trace"]);
+    assert_eq!((traced.status, traced.out.lines().count()), (0, 1 + 29 + 3 + 2));
+    assert_eq!(bench.arduinos_with(&["replay", "-"], &bench.read("r")).status, 0);
+}
+
+#[test]
+fn an_alteration_by_one_byte_is_told() {
+    let bench = Bench::new("altered", &[("down", DOWN), ("wrong", WRONG_TYPE)]);
+    let whole = recorded(&bench);
+    for place in 0..whole.len() {
+        for change in [1, 2, 16, 128] {
+            let mut altered = whole.clone();
+            altered[place] ^= change;
+            assert!(is_told(&altered), "byte {place} changed by {change}");
+        }
+        assert!(is_told(&whole[..place]), "cut off at {place}");
+        assert!(is_told(&[&whole[..place], &whole[place + 1..]].concat()), "byte {place} left out");
+    }
+    assert!(!is_told(&whole));
+}
+
+/// Whether the command would tell a difference.
+fn is_told(bytes: &[u8]) -> bool {
+    record::read(bytes).map_or(true, |record| !replay(record, false).differences.is_empty())
+}
+
+#[test]
+fn messages_name_the_place() {
+    let bench = Bench::new("messages", &[("down", DOWN), ("wrong", WRONG_TYPE)]);
+    let whole = String::from_utf8(recorded(&bench)).unwrap();
+    let lines: Vec<&str> = whole.lines().collect();
+    assert!(lines[12].starts_with("round 200 = 2 \"3\\n\" disc "), "{}", lines[12]);
+    let disc = &lines[12][25..33];
+    for (old, new, message) in [
+        ("= 2 \"3", "= 3 \"3", "r:13:13: round 200: the record has 3, the kernel answers 2"),
+        ("\"3\\n\"", "\"4\\n\"", "r:13:15: round 200: the record has the output \"4\\n\", the kernel writes \"3\\n\""),
+        ("run \"down\"", "run \"dawn\"", "r:9:14: run \"dawn\": the record has 1, the kernel answers -10"),
+        ("round 200 =", "round 2x0 =", "r:13:7: expected a clock reading"),
+        ("round 200 =", "round 200  ", "r:13:11: expected '='"),
+        ("round 200 =", "ground 20 =", "r:13:1: expected a call, 'disc', 'area', 'at' or 'sum'"),
+        ("area 1056", "area 1055", "r:8:8: boot: the record has 0, the kernel answers -1"),
+        ("disc 1024", "disc 9999999", "r:2:6: expected at most 65536 bytes"),
+        ("arduinos record 1", "arduinos record 2", "r:1:1: expected 'arduinos record 1'"),
+    ] {
+        assert_eq!(whole.matches(old).count(), 1, "{old}");
+        bench.write("r", whole.replace(old, new).as_bytes());
+        let ran = bench.arduinos(&["replay", "r"]);
+        assert_eq!((ran.status, ran.first_error()), (1, message));
+    }
+    bench.write("r", whole.replace(disc, "00000000").as_bytes());
+    let message = format!("r:8:10: boot: the record has the checksum 00000000 of the disc, the kernel leaves {disc}");
+    assert_eq!(bench.arduinos(&["replay", "r"]).first_error(), message);
+    bench.write("r", whole.replace("\nsum", "\n\nsum").as_bytes());
+    assert_eq!(bench.arduinos(&["replay", "r"]).status, 1);
+}
+
+#[test]
+fn an_altered_checksum_is_told_behind_the_calls() {
+    let bench = Bench::new("sum", &[("down", DOWN), ("wrong", WRONG_TYPE)]);
+    let mut whole = recorded(&bench);
+    let last = whole.len() - 2;
+    whole[last] = if whole[last] == b'0' { b'1' } else { b'0' };
+    bench.write("r", &whole);
+    let ran = bench.arduinos(&["replay", "r"]);
+    assert_eq!((ran.status, ran.first_error()), (1, "r:22:1: the record was altered: its lines have another checksum"));
+    for text in ["", "\n", "arduinos record 1\n", "arduinos record 1\ndisc 0\narea 0\n", "text"] {
+        bench.write("r", text.as_bytes());
+        assert_eq!(bench.arduinos(&["replay", "r"]).status, 1, "{text}");
+    }
+    assert_eq!(
+        bench.arduinos(&["replay", "none"]).first_error(),
+        "arduinos replay: none: No such file or directory (os error 2)"
+    );
+    assert_eq!(bench.arduinos(&["replay"]).status, 2);
+}
+
+#[test]
+fn every_call_is_written_and_read() {
+    let name = b"lamp".to_vec();
+    let calls = [
+        Call::Format,
+        Call::Store { name: name.clone(), data: LAMP.to_vec() },
+        Call::Store { name: b" \"\\\xff\n".to_vec(), data: vec![] },
+        Call::Files { room: 170 },
+        Call::Files { room: 3 },
+        Call::FreeSpace,
+        Call::Retrieve { name: name.clone(), room: 863 },
+        Call::Retrieve { name: name.clone(), room: 0 },
+        Call::Run { name: name.clone() },
+        Call::Share { id: 1, share: 8 },
+        Call::Share { id: 1, share: 9 },
+        Call::List { room: 200 },
+        Call::turn(0, u32::MAX),
+        Call::Turn { slot: 10, clock: 0, room: 31 },
+        Call::round(5),
+        Call::Round { clock: 5, room: 2559 },
+        Call::Suspend { id: 1 },
+        Call::Resume { id: 1 },
+        Call::Resume { id: 65_537 },
+        Call::Kill { id: 1 },
+        Call::Erase { name },
+        Call::Boot,
+    ];
+    for length in [1024, 4096, 7] {
+        let mut buffers = Buffers { disc: vec![0xA5; length], area: vec![3; 1056] };
+        let mut writer = Writer::begin(Vec::new(), &buffers).unwrap();
+        let mut numbers = Vec::new();
+        for call in &calls {
+            let answer = call.make(&mut buffers);
+            writer.call(call, &answer, &buffers).unwrap();
+            numbers.push(answer.number);
+        }
+        let text = writer.end().unwrap();
+        let record = record::read(&text).unwrap();
+        let read: Vec<&Call> = record.calls.iter().map(|recorded| &recorded.made.call).collect();
+        assert_eq!(read, calls.iter().collect::<Vec<_>>());
+        assert!(!is_told(&text));
+        if length != 7 {
+            assert_eq!(numbers[2..5], [-5, 8, -4]);
+            assert_eq!(numbers[8], 1);
+        }
+    }
+}

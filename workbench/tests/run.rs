@@ -1,0 +1,174 @@
+//! `arduinos run`: output, trace, shares, records, what is saved and what is refused.
+
+mod bench;
+
+use bench::{Bench, DOWN, LAMP, WRONG_TYPE};
+
+#[test]
+fn prints_what_the_box_prints() {
+    let bench = Bench::new("prints", &[("down", DOWN)]);
+    let ran = bench.arduinos(&["run", "box.img", "down", "--clock", "100"]);
+    assert_eq!((ran.status, ran.out.as_str(), ran.err.as_str()), (0, "3\n2\n1\n", "29 rounds, no process runs\n"));
+}
+
+#[test]
+fn rounds_are_limited() {
+    let bench = Bench::new("rounds", &[("lamp", LAMP)]);
+    let ran = bench.arduinos(&["run", "box.img", "lamp", "--clock", "100", "--rounds", "45"]);
+    assert_eq!((ran.status, ran.out.as_str()), (0, "red\ngreen\nred\ngreen\n"));
+    assert_eq!(ran.err, "45 rounds, 1 process runs\n");
+    let none = bench.arduinos(&["run", "box.img", "lamp", "lamp", "--rounds", "0"]);
+    assert_eq!((none.status, none.err.as_str()), (0, "0 rounds, 2 processes run\n"));
+}
+
+#[test]
+fn a_real_clock_lets_a_wait_end() {
+    // MILLIS, INT 30, PLUS, DELAYUNTIL, STRING "ok", PRINTLN, STOP
+    let wait = [45, 2, 0, 30, 9, 44, 3, b'o', b'k', 0, 52, 67];
+    let bench = Bench::new("real", &[("wait", &wait)]);
+    let begun = std::time::Instant::now();
+    let ran = bench.arduinos(&["run", "box.img", "wait", "--clock", "real"]);
+    assert_eq!((ran.status, ran.out.as_str()), (0, "ok\n"));
+    assert!(begun.elapsed().as_millis() >= 30);
+}
+
+#[test]
+fn a_share_gives_turns_in_a_row() {
+    let bench = Bench::new("share", &[("down", DOWN), ("lamp", LAMP)]);
+    let ran = bench.arduinos(&["run", "box.img", "down", "--share", "down=8", "--clock", "100"]);
+    assert_eq!((ran.out.as_str(), ran.err.as_str()), ("3\n2\n1\n", "4 rounds, no process runs\n"));
+    let both =
+        ["run", "box.img", "down", "lamp", "--share", "down=8", "--share=lamp=2", "--rounds", "4", "--clock", "0"];
+    assert_eq!(bench.arduinos(&both).out, "3\n2\nred\n1\n");
+    for (share, status, message) in [
+        ("down=9", 1, "share of 9 for \"down\": a share is 1 to 8 (refusal 22)"),
+        ("down=0", 1, "share of 0 for \"down\": a share is 1 to 8 (refusal 22)"),
+        ("down", 2, "--share wants NAME=N, not 'down'"),
+        ("down=x", 2, "--share wants a number behind '=', not 'x'"),
+        ("lamp=2", 2, "--share names 'lamp', which is not started here"),
+    ] {
+        let ran = bench.arduinos(&["run", "box.img", "down", "--share", share]);
+        assert_eq!((ran.status, ran.first_error()), (status, format!("arduinos run: {message}").as_str()));
+        assert_eq!(ran.out, "");
+    }
+}
+
+#[test]
+fn a_trace_shows_every_turn() {
+    let bench = Bench::new("trace", &[("down", DOWN), ("wrong", WRONG_TYPE)]);
+    let ran = bench.arduinos(&["run", "box.img", "down", "wrong", "--clock", "100", "--trace"]);
+    assert_eq!(ran.status, 1);
+    let lines: Vec<&str> = ran.out.lines().collect();
+    assert_eq!(lines.len(), 1 + 29 + 3);
+    let expected = [
+        " round   clock  slot    ID  offset  instruction           stack behind it, bottom first",
+        "     1     100     0     1       0  INT 3                 [INT 3]",
+        "     1     100     1     2       0  STRING \"abc\"          [STRING \"abc\"]",
+        "     2     200     0     1       3  SET n                 []  n = INT 3",
+        "     2     200     1     2       5  INT 5                 [STRING \"abc\", INT 5]",
+        "     3     300     0     1       5  GET n                 [INT 3]",
+        "     3     300     1     2       8  PLUS                    ended by fault 6",
+        "     4     400     0     1       7  WHILE 2 8             [byte 14]",
+        "     5     500     0     1      10  GET n                 [byte 14, INT 3]",
+        "     6     600     0     1      12  PRINTLN               [byte 14]  printed \"3\\n\"",
+    ];
+    assert_eq!(lines[..10], expected);
+    assert_eq!(lines[32], "    29    2900     0     1      19  STOP                    ended");
+    assert_eq!(
+        ran.err,
+        "wrong (ID 2) ended by fault 6 at offset 8: PLUS takes numbers; below the INT 5 lay the string \"abc\"\n\
+         29 rounds, no process runs\n"
+    );
+}
+
+#[test]
+fn trace_and_output_come_to_the_same_buffers() {
+    let bench = Bench::new("same", &[("down", DOWN), ("lamp", LAMP), ("wrong", WRONG_TYPE)]);
+    let run =
+        ["run", "box.img", "down", "wrong", "lamp", "lamp", "--share", "lamp=3", "--clock", "40", "--rounds", "90"];
+    let plain: Vec<&str> =
+        run.iter().copied().chain(["--save-area", "a", "--save-disc", "d", "--record", "r"]).collect();
+    let traced: Vec<&str> =
+        run.iter().copied().chain(["--save-area", "b", "--save-disc", "e", "--record", "s", "--trace"]).collect();
+    assert_eq!((bench.arduinos(&plain).status, bench.arduinos(&traced).status), (1, 1));
+    assert_eq!(bench.read("a"), bench.read("b"));
+    assert_eq!(bench.read("d"), bench.read("e"));
+    assert_eq!(bench.read("r"), bench.read("s"));
+}
+
+#[test]
+fn the_image_changes_only_if_it_is_saved() {
+    // STRING "n", CHAR 1, OPEN, CHAR 65, WRITE, STOP
+    let writes = [3, b'n', 0, 1, 1, 53, 1, 65, 55, 67];
+    let bench = Bench::new("saved", &[("writes", &writes)]);
+    let before = bench.read("box.img");
+    assert_eq!(bench.arduinos(&["run", "box.img", "writes"]).status, 0);
+    assert_eq!(bench.read("box.img"), before);
+    assert_eq!(bench.arduinos(&["run", "box.img", "writes", "--save-disc", "box.img"]).status, 0);
+    assert_eq!(bench.arduinos(&["disc", "get", "box.img", "n"]).out, "A");
+}
+
+#[test]
+fn an_image_comes_from_standard_input() {
+    let bench = Bench::new("stdin", &[("down", DOWN)]);
+    let ran = bench.arduinos_with(&["run", "-", "down", "--clock", "1"], &bench.read("box.img"));
+    assert_eq!((ran.status, ran.out.as_str()), (0, "3\n2\n1\n"));
+}
+
+#[test]
+fn ends_inside_a_round_are_told() {
+    // STRING "wrong", FORK, STOP: the child takes the next slot, has its turns in the same rounds and faults
+    let forks = [3, b'w', b'r', b'o', b'n', b'g', 0, 68, 67];
+    let bench = Bench::new("ends", &[("forks", &forks), ("wrong", WRONG_TYPE)]);
+    let ran = bench.arduinos(&["run", "box.img", "forks", "--share", "forks=8", "--clock", "1"]);
+    assert_eq!(ran.status, 1);
+    assert!(ran.err.starts_with("wrong (ID 2) ended by fault 6 at offset 8: "), "{}", ran.err);
+    // An empty child ends in the round in which it was started: INT 0, INT 0, DIVIDEDBY takes three turns; no byte 0 one
+    let bench = Bench::new("at_once", &[("forks", &[3, b'z', 0, 68, 67]), ("z", &[0])]);
+    let ran = bench.arduinos(&["run", "box.img", "forks", "--clock", "1"]);
+    assert_eq!(ran.first_error(), "z (ID 2) ended by fault 1 at offset 0: byte 0 is no instruction");
+    assert_eq!(ran.status, 1);
+}
+
+#[test]
+fn what_is_refused_writes_nothing() {
+    let bench = Bench::new("refused", &[("down", DOWN)]);
+    bench.write("short.img", [0; 1000]);
+    bench.write("new.img", [255; 1024]);
+    for (arguments, status, message) in [
+        (vec!["box.img", "up"], 1, "run \"up\": no such file (refusal 10)"),
+        (vec!["box.img", "no name"], 1, "run \"no name\": no such file (refusal 10)"),
+        (vec!["box.img", ""], 1, "run \"\": no such file (refusal 10)"),
+        (vec!["short.img", "down"], 1, "short.img: 1000 bytes; an EEPROM image has 1024 or 4096"),
+        (vec!["new.img", "down"], 1, "new.img: the disc is not good (refusal 2):"),
+        (vec!["no.img", "down"], 1, "no.img: No such file or directory (os error 2)"),
+        (vec!["box.img"], 2, "NAME is missing: which program is to run?"),
+        (vec![], 2, "IMAGE is missing"),
+        (vec!["box.img", "down", "--clock", "soon"], 2, "--clock wants 'real' or milliseconds, not 'soon'"),
+        (
+            vec!["box.img", "down", "--rounds", "-1"],
+            2,
+            "--rounds wants a number from 0 to 18446744073709551615, not '-1'",
+        ),
+        (vec!["box.img", "down", "--fast"], 2, "there is no option --fast"),
+        (vec!["box.img", "down", "--save-area", "box.img"], 2, "--save-area would write over the image"),
+        (
+            vec!["box.img", "down", "--save-area", "-"],
+            2,
+            "--save-area wants a file: standard output has what the programs print",
+        ),
+    ] {
+        let mut all = vec!["run"];
+        all.extend(arguments);
+        all.extend(["--record", "r"]);
+        let ran = bench.arduinos(&all);
+        assert_eq!((ran.status, ran.first_error()), (status, format!("arduinos run: {message}").as_str()));
+        assert_eq!(ran.out, "");
+        assert!(!bench.has("r"), "{all:?} left a record");
+    }
+    let eleven: Vec<&str> = ["run", "box.img"].into_iter().chain(["down"; 11]).collect();
+    let ran = bench.arduinos(&eleven);
+    let message = "arduinos run: run \"down\": ten processes live already (refusal 12)";
+    assert_eq!((ran.status, ran.first_error()), (1, message));
+    assert_eq!(bench.arduinos(&["run", "box.img", "down", "--record", "box.img"]).status, 2);
+}
