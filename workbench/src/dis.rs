@@ -31,7 +31,7 @@ fn piece(code: &[u8], offset: usize) -> Piece<'_> {
     }
 }
 
-/// A whole program, a line for each instruction, with its offset behind it as a comment.
+/// A whole program, a line for each instruction, with its offset after it as a comment.
 pub fn disassemble(code: &[u8]) -> String {
     let mut text = String::new();
     let mut offset = 0;

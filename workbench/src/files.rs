@@ -23,14 +23,48 @@ pub fn is_same(a: &str, b: &str) -> bool {
     real(a).is_some_and(|a| Some(a) == real(b))
 }
 
+/// Writes a message to standard error. There is nobody to tell that it cannot be written.
+pub fn tell(text: &str) {
+    let _ = io::stderr().write_all(text.as_bytes());
+}
+
+/// The most bytes that are read of a file: sources and records are far shorter.
+const MOST: u64 = 1 << 30;
+
+/// A whole file.
 pub fn read(path: &str) -> Outcome<Vec<u8>> {
+    let bytes = read_front(path, MOST)?;
+    if bytes.len() as u64 == MOST {
+        return refused(format!("{}: too long", shown(path)));
+    }
+    Ok(bytes)
+}
+
+/// The first bytes of a file, at most so many: a device may have no end.
+pub fn read_front(path: &str, most: u64) -> Outcome<Vec<u8>> {
+    let mut bytes = Vec::new();
     let read = if path == "-" {
-        let mut bytes = Vec::new();
-        io::stdin().lock().read_to_end(&mut bytes).map(|_| bytes)
+        io::stdin().lock().take(most).read_to_end(&mut bytes)
     } else {
-        fs::read(path)
+        fs::File::open(path).and_then(|file| file.take(most).read_to_end(&mut bytes))
     };
-    read.or_else(|error| refused(format!("{}: {error}", shown(path))))
+    match read {
+        Ok(_) => Ok(bytes),
+        Err(error) => refused(format!("{}: {error}", shown(path))),
+    }
+}
+
+/// Refuses a path that no file can be written to: one in a folder that is not there, or a folder itself.
+pub fn check_place(path: &str) -> Outcome {
+    let folder = match Path::new(path).parent() {
+        Some(parent) if !parent.as_os_str().is_empty() => parent,
+        _ => Path::new("."),
+    };
+    match fs::metadata(folder) {
+        Err(error) => refused(format!("{path}: {error}")),
+        Ok(_) if Path::new(path).is_dir() => refused(format!("{path}: it is a folder")),
+        Ok(_) => Ok(()),
+    }
 }
 
 /// Writes a whole file: a new one beside it first, so that no write is left half done.
@@ -83,18 +117,21 @@ pub fn read_disc(path: &str) -> Outcome<Vec<u8>> {
 
 /// An EEPROM image, good or not.
 pub fn read_image(path: &str) -> Outcome<Vec<u8>> {
-    let disc = read(path)?;
-    match disc.len() {
-        SHORT_DISC | LONG_DISC => Ok(disc),
-        length => refused(format!("{}: {length} bytes; an EEPROM image has 1024 or 4096", shown(path))),
-    }
+    read_buffer(path, &[SHORT_DISC, LONG_DISC], "an EEPROM image has 1024 or 4096")
 }
 
 /// A work area, good or not.
 pub fn read_area(path: &str) -> Outcome<Vec<u8>> {
-    let area = read(path)?;
-    match area.len() {
-        AREA_LEN => Ok(area),
-        length => refused(format!("{}: {length} bytes; a work area has 1056", shown(path))),
+    read_buffer(path, &[AREA_LEN], "a work area has 1056")
+}
+
+/// A file of one of some lengths.
+fn read_buffer(path: &str, lengths: &[usize], expected: &str) -> Outcome<Vec<u8>> {
+    let most = lengths.iter().copied().max().unwrap_or(0);
+    let bytes = read_front(path, most as u64 + 1)?;
+    match bytes.len() {
+        length if lengths.contains(&length) => Ok(bytes),
+        length if length > most => refused(format!("{}: more than {most} bytes; {expected}", shown(path))),
+        length => refused(format!("{}: {length} bytes; {expected}", shown(path))),
     }
 }

@@ -4,7 +4,7 @@
 /// The most bytes of condition and body together: fault 8 if "c + b above 251" (document 01).
 pub const MAX_WHILE: usize = 251;
 
-/// What stands behind the instruction byte.
+/// What stands after the instruction byte.
 #[derive(Clone, Copy, Debug, PartialEq, Eq)]
 pub enum Arguments {
     None,
@@ -22,6 +22,19 @@ pub enum Arguments {
     Length,
     /// Two bytes, the lengths of condition and body (WHILE).
     Lengths,
+}
+
+impl Arguments {
+    /// How many bytes they are; none if that depends on them.
+    pub fn length(self) -> Option<usize> {
+        match self {
+            Arguments::None => Some(0),
+            Arguments::Char | Arguments::Name | Arguments::Length => Some(1),
+            Arguments::Int | Arguments::Lengths => Some(2),
+            Arguments::Float => Some(4),
+            Arguments::Text => None,
+        }
+    }
 }
 
 /// Which values an instruction takes off the stack at one place.
@@ -160,14 +173,12 @@ pub fn named(mnemonic: &str) -> Option<&'static Instruction> {
 }
 
 impl Instruction {
-    /// How many argument bytes stand at the front of `rest`, the code behind the instruction byte; none if it ends before.
+    /// How many argument bytes stand at the front of `rest`, the code after the instruction byte; none if it ends
+    /// before.
     pub fn argument_length(&self, rest: &[u8]) -> Option<usize> {
-        let length = match self.arguments {
-            Arguments::None => 0,
-            Arguments::Char | Arguments::Name | Arguments::Length => 1,
-            Arguments::Int | Arguments::Lengths => 2,
-            Arguments::Float => 4,
-            Arguments::Text => rest.iter().position(|&byte| byte == 0)? + 1,
+        let length = match self.arguments.length() {
+            Some(length) => length,
+            None => rest.iter().position(|&byte| byte == 0)? + 1,
         };
         (length <= rest.len()).then_some(length)
     }
@@ -180,6 +191,27 @@ pub fn at(code: &[u8], offset: usize) -> Option<(&'static Instruction, &[u8])> {
     Some((instruction, &rest[..instruction.argument_length(rest)?]))
 }
 
+/// The instructions of a program read from its beginning, each with its offset and its argument bytes. Bytes that are
+/// no instruction are passed over; one that the program's end cuts off is the end.
+pub fn listed(code: &[u8]) -> impl Iterator<Item = (usize, &'static Instruction, &[u8])> {
+    let mut offset = 0;
+    std::iter::from_fn(move || {
+        offset += code.get(offset..)?.iter().take_while(|&&byte| of_byte(byte).is_none()).count();
+        let start = offset;
+        let (instruction, arguments) = at(code, start)?;
+        offset += 1 + arguments.len();
+        Some((start, instruction, arguments))
+    })
+}
+
+/// The offset of the instruction among whose arguments an offset lies, as the program is listed; none where it lies in
+/// none, as at an instruction's beginning.
+pub fn around(code: &[u8], offset: usize) -> Option<usize> {
+    let (start, ..) =
+        listed(code).find(|(start, _, arguments)| (start + 1..=start + arguments.len()).contains(&offset))?;
+    Some(start)
+}
+
 #[cfg(test)]
 mod tests {
     use super::*;
@@ -190,5 +222,15 @@ mod tests {
             assert_eq!(usize::from(instruction.number), index + 1);
             assert_eq!(named(&instruction.mnemonic.to_lowercase()).map(|found| found.number), Some(instruction.number));
         }
+    }
+
+    #[test]
+    fn offsets_among_arguments_lie_inside_an_instruction() {
+        // INT 0 3, SET n, two bytes that are no instruction, STRING "A", WHILE 2 1, STOP, CHAR without its argument
+        let code = [2, 0, 3, 5, 110, 200, 0, 3, 65, 0, 63, 2, 1, 67, 1];
+        let inside: Vec<(usize, usize)> = (0..20).filter_map(|offset| Some((offset, around(&code, offset)?))).collect();
+        assert_eq!(inside, [(1, 0), (2, 0), (4, 3), (8, 7), (9, 7), (11, 10), (12, 10)]);
+        // a STRING without its zero: what follows it is no instruction of the listing
+        assert_eq!((around(&[54, 3, 2, 2, 2], 3), around(&[], 0)), (None, None));
     }
 }

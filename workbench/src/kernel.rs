@@ -1,5 +1,7 @@
 //! The proved kernel through its C functions (include/arduinos.h). Whatever runs in the workbench runs here.
 
+use crate::layout::{DATA_START, LONG_DISC, NAME_BYTES, NAME_LEN, SHORT_DISC};
+
 mod c {
     extern "C" {
         pub fn arduinos_format(disc: *mut u8, disc_len: usize, area: *mut u8, area_len: usize) -> i32;
@@ -163,14 +165,14 @@ pub fn round(disc: &mut [u8], area: &mut [u8], clock: u32, out: &mut [u8]) -> i3
 }
 
 /// What a refusal means: the kernel's number, which is below 0, in words (include/arduinos.h).
-pub fn refusal(number: i32) -> &'static str {
-    match -number {
+pub fn refusal(number: i32) -> String {
+    let words = match -number {
         1 => "a buffer of the wrong length",
         2 => "the disc is not good",
         3 => "the work area is not good, or not of this disc",
         4 => "the output is shorter than needed",
-        5 => "a bad name: a name has 1 to 11 characters, none of them a space",
-        6 => "a file has at least 1 byte, and at most 863, on a long disc 3935",
+        5 => return bad_name(),
+        6 => return bad_length(),
         7 => "the name exists already",
         8 => "there are ten files already",
         9 => "no run of free bytes is long enough",
@@ -183,7 +185,18 @@ pub fn refusal(number: i32) -> &'static str {
         16 => "the slot does not run",
         22 => "a share is 1 to 8",
         _ => "an unknown refusal",
-    }
+    };
+    words.into()
+}
+
+fn bad_name() -> String {
+    let (first, last) = (char::from(*NAME_BYTES.start()), char::from(*NAME_BYTES.end()));
+    format!("a bad name: a name has 1 to {} characters from '{first}' to '{last}', no space", NAME_LEN - 1)
+}
+
+fn bad_length() -> String {
+    let (short, long) = (SHORT_DISC - DATA_START, LONG_DISC - DATA_START);
+    format!("a file has at least 1 byte, and at most {short}, on a long disc {long}")
 }
 
 /// What a fault means: the number in an ended record, in words (include/arduinos.h).

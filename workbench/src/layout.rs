@@ -1,4 +1,7 @@
-//! Where each field of disc and work area lies (document 01, 'The two buffers'), to be read. Nothing here judges or writes.
+//! Where each field of disc and work area lies (document 01, 'The two buffers'), to be read. Nothing here judges or
+//! writes.
+
+use std::ops::{Range, RangeInclusive};
 
 /// A disc has one of these lengths (document 02, Q-2).
 pub const SHORT_DISC: usize = 1024;
@@ -8,6 +11,8 @@ pub const AREA_LEN: usize = 1056;
 pub const MAX_FILES: usize = 10;
 pub const ENTRY_LEN: usize = 16;
 pub const NAME_LEN: usize = 12;
+/// "A name is 1 to 11 bytes of 33 to 126".
+pub const NAME_BYTES: RangeInclusive<u8> = 33..=126;
 pub const FILE_COUNT: usize = 160;
 pub const DATA_START: usize = 161;
 
@@ -17,7 +22,7 @@ pub const VARIABLE_LEN: usize = 6;
 pub const MAX_VARIABLES: usize = 25;
 pub const VARIABLE_COUNT: usize = 406;
 pub const NEXT_ID: usize = 407;
-pub const ZEROS: std::ops::Range<usize> = 409..416;
+pub const ZEROS: Range<usize> = 409..416;
 pub const MAX_NEXT_ID: usize = 32768;
 
 pub const RECORDS: usize = 416;
@@ -42,15 +47,19 @@ pub fn word(bytes: &[u8], at: usize) -> usize {
     usize::from(u16::from_le_bytes([bytes[at], bytes[at + 1]]))
 }
 
-/// A name without the zeros behind it.
+/// A name without the zeros after it.
 pub fn trimmed(field: &[u8]) -> &[u8] {
     let end = field.iter().position(|&byte| byte == 0).unwrap_or(field.len());
     &field[..end]
 }
 
-/// A name as text, bytes that are no character escaped.
+/// A name as text: printable ASCII as it is, other bytes as \xHH.
 pub fn name_text(field: &[u8]) -> String {
-    trimmed(field).escape_ascii().to_string()
+    let shown = |&byte: &u8| match byte {
+        b' '..=b'~' => char::from(byte).to_string(),
+        _ => format!("\\x{byte:02x}"),
+    };
+    trimmed(field).iter().map(shown).collect()
 }
 
 /// A directory entry.
@@ -69,9 +78,14 @@ impl<'a> Entry<'a> {
         Entry { index, name: &entry[..NAME_LEN], start: word(entry, 12), length: word(entry, 14) }
     }
 
-    /// The place behind the file's last byte.
+    /// The place after the file's last byte.
     pub fn end(&self) -> usize {
         self.start + self.length
+    }
+
+    /// The bytes of the disc that are the file's.
+    pub fn place(&self) -> Range<usize> {
+        self.start..self.end()
     }
 }
 
@@ -84,6 +98,11 @@ pub fn entries(disc: &[u8]) -> Vec<Entry<'_>> {
 /// The entry of a file's name.
 pub fn entry_named<'a>(disc: &'a [u8], name: &[u8]) -> Option<Entry<'a>> {
     entries(disc).into_iter().find(|entry| trimmed(entry.name) == name)
+}
+
+/// The runs of data bytes that no file takes.
+pub fn free_bytes(disc: &[u8]) -> Vec<Range<usize>> {
+    free_runs(DATA_START..disc.len(), entries(disc).iter().map(Entry::place).collect())
 }
 
 /// A process record: one of the ten slots.
@@ -177,6 +196,12 @@ impl<'a> Record<'a> {
     pub fn code<'d>(&self, disc: &'d [u8]) -> Option<&'d [u8]> {
         disc.get(self.code_start()..self.code_start() + self.code_length())
     }
+
+    /// The open file among those of a disc, if one is open and the disc has it.
+    pub fn open_file<'d>(&self, files: &[Entry<'d>]) -> Option<Entry<'d>> {
+        let is_open = |file: &&Entry| (file.start, file.length) == (self.file_start(), self.file_length());
+        files.iter().find(is_open).filter(|file| file.length != 0).copied()
+    }
 }
 
 /// The ten records in slot order.
@@ -213,14 +238,19 @@ impl Variable {
         }
     }
 
-    /// The place behind its last byte of variable memory.
+    /// The place after its last byte of variable memory.
     pub fn end(&self) -> usize {
         self.address + self.size
     }
 
+    /// The bytes of variable memory that are its own.
+    pub fn place(&self) -> Range<usize> {
+        self.address..self.end()
+    }
+
     /// Its bytes in variable memory, if they lie inside it.
     pub fn bytes<'a>(&self, area: &'a [u8]) -> Option<&'a [u8]> {
-        area[..MEMORY_LEN].get(self.address..self.end())
+        area[..MEMORY_LEN].get(self.place())
     }
 }
 
@@ -230,9 +260,13 @@ pub fn variables(area: &[u8]) -> Vec<Variable> {
     (0..count).map(|index| Variable::of(area, index)).collect()
 }
 
+/// The runs of variable memory that none of these variables takes.
+pub fn free_memory(variables: &[Variable]) -> Vec<Range<usize>> {
+    free_runs(0..MEMORY_LEN, variables.iter().map(Variable::place).collect())
+}
+
 /// The free runs between the places that are taken, in order.
-pub fn free_runs(bounds: std::ops::Range<usize>, taken: &[std::ops::Range<usize>]) -> Vec<std::ops::Range<usize>> {
-    let mut taken: Vec<_> = taken.to_vec();
+fn free_runs(bounds: Range<usize>, mut taken: Vec<Range<usize>>) -> Vec<Range<usize>> {
     taken.sort_by_key(|range| range.start);
     let mut runs = Vec::new();
     let mut from = bounds.start;
@@ -246,4 +280,42 @@ pub fn free_runs(bounds: std::ops::Range<usize>, taken: &[std::ops::Range<usize>
         runs.push(from..bounds.end);
     }
     runs
+}
+
+/// The length of the longest of some runs; 0 if there is none.
+pub fn longest(runs: &[Range<usize>]) -> usize {
+    runs.iter().map(Range::len).max().unwrap_or(0)
+}
+
+#[cfg(test)]
+mod tests {
+    use super::*;
+
+    #[test]
+    fn a_name_is_shown_as_it_is() {
+        assert_eq!(name_text(b"it's\"a\\\0\0\0"), "it's\"a\\");
+        assert_eq!(name_text(b"a b\n\x7f\xff\0zzzz"), "a b\\x0a\\x7f\\xff");
+    }
+
+    #[test]
+    fn no_file_is_open_where_the_length_is_zero() {
+        let (mut disc, mut area) = ([0; SHORT_DISC], [0; AREA_LEN]);
+        disc[FILE_COUNT] = 1;
+        let open = |disc: &[u8], area: &[u8]| Record::of(area, 0).open_file(&entries(disc)).map(|file| file.index);
+        assert_eq!(open(&disc, &area), None);
+        (disc[14], area[RECORDS + 26]) = (7, 7);
+        assert_eq!(open(&disc, &area), Some(0));
+        disc[14] = 8;
+        assert_eq!(open(&disc, &area), None);
+    }
+
+    #[test]
+    fn free_runs_lie_between_what_is_taken() {
+        assert_eq!(free_runs(0..9, vec![5..6, 0..2, 3..5]), [2..3, 6..9]);
+        assert_eq!(free_runs(0..9, vec![2..3, 8..9]), [0..2, 3..8]);
+        assert_eq!(free_runs(2..9, vec![0..4, 3..12]), []);
+        assert_eq!(free_bytes(&[0; SHORT_DISC]).len(), 1);
+        assert_eq!(longest(&free_bytes(&[0; SHORT_DISC])), SHORT_DISC - DATA_START);
+        assert_eq!((longest(&[2..3, 6..9]), longest(&[])), (3, 0));
+    }
 }

@@ -33,8 +33,8 @@ pub fn variable(name: u8) -> String {
     }
 }
 
-/// The bytes of a "text" that stands at the front, and its length in characters of the source, all of them ASCII; only as
-/// [`text`] writes it.
+/// The bytes of a "text" that stands at the front, and its length in characters of the source, all of them ASCII; only
+/// as [`text`] writes it.
 pub fn read_text(source: &str) -> Option<(Vec<u8>, usize)> {
     let inside = source.strip_prefix('"')?;
     let mut bytes = Vec::new();
@@ -82,7 +82,7 @@ mod tests {
     fn every_byte_is_read_as_it_was_written() {
         let bytes: Vec<u8> = (0..=255).collect();
         let written = text(&bytes);
-        assert_eq!(read_text(&format!("{written} behind")), Some((bytes, written.len())));
+        assert_eq!(read_text(&format!("{written} after")), Some((bytes, written.len())));
         assert_eq!(read_text("\"no end"), None);
         assert_eq!(read_text("\"\\x4\""), None);
         assert_eq!(read_text("\"\\x41\""), None);

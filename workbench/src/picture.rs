@@ -12,7 +12,7 @@ pub fn letter(index: usize) -> char {
     u8::try_from(index).ok().and_then(|index| b'A'.checked_add(index)).map_or('?', char::from)
 }
 
-/// The picture, addresses in hex, a newline behind each row.
+/// The picture, addresses in hex, a newline after each row.
 pub fn memory(variables: &[Variable]) -> String {
     let mut cells = [FREE; MEMORY_LEN];
     for variable in variables {

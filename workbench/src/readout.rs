@@ -61,8 +61,7 @@ fn instruction(record: Record, disc: &[u8]) -> Option<String> {
 
 /// The open file by its name, or where it lies if the name is not known.
 fn open_file(record: Record, disc: Option<&[u8]>) -> String {
-    let is_open = |entry: &Entry| (entry.start, entry.length) == (record.file_start(), record.file_length());
-    let entry = disc.and_then(|disc| entries(disc).into_iter().find(is_open));
+    let entry = disc.and_then(|disc| record.open_file(&entries(disc)));
     entry.map_or(format!("at {}", record.file_start()), |entry| literal::text(trimmed(entry.name)))
 }
 
@@ -118,10 +117,8 @@ fn first_bytes(bytes: &[u8]) -> String {
 }
 
 fn memory(variables: &[Variable]) -> String {
-    let taken: Vec<_> = variables.iter().map(|variable| variable.address..variable.end()).collect();
-    let runs = free_runs(0..MEMORY_LEN, &taken);
-    let free: usize = runs.iter().map(|run| run.len()).sum();
-    let longest = runs.iter().map(|run| run.len()).max().unwrap_or(0);
+    let runs = free_memory(variables);
+    let (free, longest) = (runs.iter().map(|run| run.len()).sum::<usize>(), longest(&runs));
     let picture = picture::memory(variables);
     format!("\nvariable memory: {free} of {MEMORY_LEN} bytes free, the longest free run {longest}\n{picture}")
 }

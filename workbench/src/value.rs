@@ -61,20 +61,60 @@ impl fmt::Display for Value {
     }
 }
 
+/// Why there is no value on top of a stack.
+#[derive(Clone, Debug, PartialEq, Eq)]
+pub enum Unread {
+    /// The stack is empty.
+    Nothing,
+    /// The topmost byte is no type.
+    NoType(u8),
+    /// A number's type, and how many bytes lie below it.
+    ShortNumber { kind: u8, left: usize },
+    /// The type STRING alone.
+    NoLength,
+    /// The type STRING and a length, and how many bytes lie below them.
+    ShortText { length: u8, left: usize },
+    /// A string of length 0.
+    EmptyText,
+    /// A string whose last byte is not zero.
+    UnendedText(Vec<u8>),
+    /// A string with a zero before its last byte.
+    InnerZero(Vec<u8>),
+}
+
 /// The topmost value of a stack and the bytes below it, read as an instruction that takes any value would.
-/// Where there is none the topmost byte is by itself.
+pub fn read(stack: &[u8]) -> Result<(Value, &[u8]), Unread> {
+    let (&kind, below) = stack.split_last().ok_or(Unread::Nothing)?;
+    match kind {
+        CHAR | INT | FLOAT => read_number(kind, below).ok_or(Unread::ShortNumber { kind, left: below.len() }),
+        STRING => read_text(below),
+        _ => Err(Unread::NoType(kind)),
+    }
+}
+
+/// A number below its type, which is also how many bytes it has; none if there are too few.
+fn read_number(kind: u8, stack: &[u8]) -> Option<(Value, &[u8])> {
+    let (rest, bytes) = stack.split_at(stack.len().checked_sub(usize::from(kind))?);
+    Value::of(kind, bytes).map(|value| (value, rest))
+}
+
+/// A string below its type: "A popped string must have length 1 or more and its only zero last."
+fn read_text(stack: &[u8]) -> Result<(Value, &[u8]), Unread> {
+    let (&length, below) = stack.split_last().ok_or(Unread::NoLength)?;
+    let short = Unread::ShortText { length, left: below.len() };
+    let (rest, bytes) = below.split_at(below.len().checked_sub(usize::from(length)).ok_or(short)?);
+    let value = Value::of(STRING, bytes).ok_or_else(|| match bytes {
+        [] => Unread::EmptyText,
+        [.., 0] => Unread::InnerZero(bytes.to_vec()),
+        _ => Unread::UnendedText(bytes.to_vec()),
+    })?;
+    Ok((value, rest))
+}
+
+/// The topmost value of a stack and the bytes below it. Where there is none the topmost byte is by itself.
 pub fn top(stack: &[u8]) -> Option<(Value, &[u8])> {
-    let (&kind, below) = stack.split_last()?;
-    let (length, below_length) = match kind {
-        CHAR | INT | FLOAT => (usize::from(kind), below),
-        STRING => below.split_last().map_or((usize::MAX, below), |(&length, rest)| (usize::from(length), rest)),
-        _ => (usize::MAX, below),
-    };
-    let value = below_length.len().checked_sub(length).and_then(|start| {
-        let (rest, bytes) = below_length.split_at(start);
-        Value::of(kind, bytes).map(|value| (value, rest))
-    });
-    Some(value.unwrap_or((Value::Byte(kind), below)))
+    let (&byte, below) = stack.split_last()?;
+    Some(read(stack).unwrap_or((Value::Byte(byte), below)))
 }
 
 /// A stack as values, bottom first, read from the top.

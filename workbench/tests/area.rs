@@ -1,13 +1,15 @@
 //! The command `arduinos area`: a worked state read out, damage told, and no bytes that it cannot read.
 
 mod bench;
+mod field;
 mod random;
 mod support;
 
 use bench::Bench;
+use field::{put_word, record_at};
 use random::Random;
 use support::damage;
-use support::state::{self, put_word, record_at, State};
+use support::state::{self, State};
 use workbench::good;
 use workbench::kernel;
 use workbench::layout::*;
@@ -27,20 +29,12 @@ const SHORT: [u8; 5] = [1, 7, 5, 200, 67];
 /// blink in slot 0, 15 turns on, share 8; sum in slot 1, ended by its fault; short in slot 2, paused at its STOP; short
 /// in slot 3, killed.
 fn worked() -> State {
-    let mut state = State { disc: vec![0; SHORT_DISC], area: vec![0; AREA_LEN] };
-    let (disc, area) = (&mut state.disc, &mut state.area);
-    kernel::format(disc, area);
-    for (name, code) in [("blink", &BLINK[..]), ("sum", &SUM), ("short", &SHORT)] {
-        assert_eq!(kernel::store(disc, name.as_bytes(), code), 0);
-    }
-    for (id, name) in (1..).zip(["blink", "sum", "short", "short"]) {
-        assert_eq!(kernel::run(disc, area, name.as_bytes()), id);
-    }
+    let mut state = State::with_files(&[("blink", &BLINK), ("sum", &SUM), ("short", &SHORT)]);
+    state.start(&["blink", "sum", "short", "short"]);
     for (slot, turns) in [(0, 15), (1, 3), (2, 2)] {
-        for _ in 0..turns {
-            assert_eq!(kernel::turn(disc, area, slot, 0, &mut [0; TURN_OUTPUT]), 0);
-        }
+        state.turns(slot, turns);
     }
+    let (disc, area) = (&state.disc, &mut state.area);
     assert_eq!(kernel::share(disc, area, 1, 8), 0);
     assert_eq!(kernel::suspend(disc, area, 3), 0);
     assert_eq!(kernel::kill(disc, area, 4), 0);
@@ -146,8 +140,8 @@ fn damage_is_told_and_shown() {
     assert_eq!(
         wrong(&bench, &state),
         "disc: good; files: 4 of 10, bytes: 109 of 863, longest free run: 754\n\
-         work area: not good\n  slot 0 (blink, ID 1): SP is 200; a stack has 32 bytes\n  variable 1 (x of ID 1): bytes 1 to 4 \
-         overlap those of variable 0 (n of ID 1), 0 to 1\n"
+         work area: not good\n  slot 0 (blink, ID 1): SP is 200; a stack has 32 bytes\n  \
+         variable 1 (x of ID 1): bytes 1 to 4 overlap those of variable 0 (n of ID 1), 0 to 1\n"
     );
     let text = readout::text(&state.area, Some(&state.disc));
     assert!(text.contains("\n  00 A ! B B B . C . "), "{text}");

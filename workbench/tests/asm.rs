@@ -20,9 +20,14 @@ fn bytes(source: &str) -> Vec<u8> {
     assembled(source).bytes
 }
 
+/// The assembler warns of nothing in a text of `dis` but of instructions that are not built.
 fn comes_back(code: &[u8]) {
     let text = disassemble(code);
-    assert_eq!(bytes(&text), code, "{text}");
+    let program = assembled(&text);
+    assert_eq!(program.bytes, code, "{text}");
+    let warned: Vec<usize> = program.warnings.iter().map(|warning| warning.line).collect();
+    let noted = text.lines().enumerate().filter(|(_, line)| line.ends_with("not built: fault 1"));
+    assert_eq!(warned, noted.map(|(index, _)| index + 1).collect::<Vec<_>>(), "{text}");
 }
 
 #[test]
@@ -385,7 +390,7 @@ fn conditions_are_counted_back_to_where_they_begin() {
         ("STOP\nhere: MILLIS\nthere:\nWHILE\nENDWHILE", 1),
         ("GET a\nIF\nGET a\nENDIF\nhere:\nGET b\nWHILE here\nENDWHILE", 2),
         ("here: GET a\nIF\nGET a\nENDIF\nWHILE here\nENDWHILE", 7),
-        ("here: WHILE here\nENDWHILE", 0),
+        ("here:\nWHILE here\nENDWHILE", 0),
     ] {
         let code = bytes(source);
         assert_eq!(code[code.len() - 4..], [63, condition, 0, 64], "{source}");
@@ -409,6 +414,20 @@ fn blocks_with_given_lengths_may_have_any_shape() {
         ("IF\nPLUS\nELSE 7\nMINUS\nENDIF", vec![60, 1, 9, 61, 7, 10, 62]),
         ("IF\nENDIF\nENDIF\nENDWHILE", vec![60, 0, 62, 62, 64]),
         ("WHILE 5 5\nIF\nENDIF", vec![63, 5, 5, 60, 0, 62]),
+    ] {
+        assert_eq!(bytes(source), code, "{source}");
+    }
+}
+
+/// FORK's number is taken off inside the block; ENDIF there would be its end.
+#[test]
+fn data_endif_is_no_end_of_a_block() {
+    for (source, code) in [
+        ("IF\nFORK\nDATA ENDIF\nENDIF", vec![60, 2, 68, 62, 62]),
+        ("IF\nFORK\nENDIF\nENDIF", vec![60, 1, 68, 62, 62]),
+        ("IF\nELSE\nDATA ENDIF\nENDIF", vec![60, 0, 61, 1, 62, 62]),
+        ("GET n\nWHILE\nFORK\ndata endif\nENDWHILE", vec![6, 110, 63, 2, 2, 68, 62, 64]),
+        ("GET n\nWHILE\nDATA ENDWHILE\nENDWHILE", vec![6, 110, 63, 2, 1, 64, 64]),
     ] {
         assert_eq!(bytes(source), code, "{source}");
     }

@@ -75,6 +75,28 @@ fn wrong_sources_write_nothing() {
 }
 
 #[test]
+fn a_doubtful_source_is_assembled_with_a_warning() {
+    let bench = Bench::new("asm-doubtful", &[]);
+    let source = b"GET n\nIF\nDELAY\nENDIF\n\tENDIF\n";
+    bench.write("a.asm", source);
+    let told = |file: &str| {
+        format!(
+            "{file}:3:1: warning: DELAY is not built: the box ends the process by fault 1 here\nDELAY\n^~~~~\n\
+             {file}:5:2: warning: this ENDIF closes no IF (the IF of line 2 ended in line 4); \
+             an ENDIF that only takes a number off the stack is written DATA ENDIF\n\tENDIF\n\t^~~~~\n"
+        )
+    };
+    let ran = bench.arduinos(&["asm", "a.asm"]);
+    assert_eq!((ran.status, ran.out.as_str(), ran.err), (0, "", told("a.asm")));
+    assert_eq!(bench.read("a"), [6, 110, 60, 1, 43, 62, 62]);
+    let ran = bench.arduinos(&["asm", "a.asm", "--list"]);
+    assert_eq!((ran.status, ran.out.lines().count(), ran.err), (0, 5, told("a.asm")));
+    let ran = bench.arduinos_with(&["asm", "-", "-o", "b"], source);
+    assert_eq!((ran.status, ran.out.as_str(), ran.err), (0, "", told("standard input")));
+    assert_eq!(bench.read("b"), bench.read("a"));
+}
+
+#[test]
 fn a_program_that_not_every_disc_takes_is_written_with_a_warning() {
     let bench = Bench::new("asm-long", &[]);
     for (length, message) in [
@@ -117,10 +139,10 @@ fn wrong_use_writes_nothing() {
     bench.write(".asm", SOURCE);
     for (words, message) in [
         (&["asm"][..], "arduinos asm: FILE is missing"),
-        (&["asm", "source"], "arduinos asm: -o OUT is missing: source has no name ending in .asm"),
-        (&["asm", ".asm"], "arduinos asm: -o OUT is missing: .asm has no name ending in .asm"),
-        (&["asm", "./.asm"], "arduinos asm: -o OUT is missing: ./.asm has no name ending in .asm"),
-        (&["asm", "-"], "arduinos asm: -o OUT is missing: standard input has no name ending in .asm"),
+        (&["asm", "source"], "arduinos asm: -o OUT is missing: source does not end in .asm"),
+        (&["asm", ".asm"], "arduinos asm: -o OUT is missing: there is no name before .asm in .asm"),
+        (&["asm", "./.asm"], "arduinos asm: -o OUT is missing: there is no name before .asm in ./.asm"),
+        (&["asm", "-"], "arduinos asm: -o OUT is missing: standard input has no name"),
         (&["asm", "a.asm", "-o", "a.asm"], "arduinos asm: -o a.asm would write over the source"),
         (&["asm", "a.asm", "-o", "./a.asm"], "arduinos asm: -o ./a.asm would write over the source"),
         (&["asm", "a.asm", "-o", "-", "--list"], "arduinos asm: --list and -o - would both write to standard output"),

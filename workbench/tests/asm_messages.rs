@@ -1,13 +1,18 @@
-//! Wrong sources: each message of the assembler with its line, its column and the caret.
+//! Wrong and doubtful sources: each message of the assembler with its line, its column and the caret.
 
 mod random;
 
 use random::Random;
 use std::collections::BTreeSet;
-use workbench::asm::{assemble, Error, Message};
+use workbench::asm::{assemble, Diagnostic, Message};
+use workbench::instruction::{Arguments, Instruction, TABLE};
 
-fn errors(source: &[u8]) -> Vec<Error> {
+fn errors(source: &[u8]) -> Vec<Diagnostic> {
     assemble(source).err().unwrap_or_else(|| panic!("{:?} is taken", String::from_utf8_lossy(source)))
+}
+
+fn warnings(source: &str) -> Vec<Diagnostic> {
+    assemble(source.as_bytes()).unwrap_or_else(|errors| panic!("{source:?}: {errors:?}")).warnings
 }
 
 fn told(source: &[u8]) -> String {
@@ -58,17 +63,17 @@ const WRONG: &[(&str, &str, &str, &str)] = &[
     ("something", "1:1", "expected an instruction, a literal or DATA, found 'something'", "^~~~~~~~~"),
     (": STOP", "1:1", "expected an instruction, a literal or DATA, found ':'", "^"),
     ("-inf", "1:1", "expected an instruction, a literal or DATA, found '-inf'", "^~~~"),
-    ("PLUS 3", "1:6", "expected the end of the line behind PLUS, found 3", "     ^"),
+    ("PLUS 3", "1:6", "expected the end of the line after PLUS, found 3", "     ^"),
     (
         "INT 300 println",
         "1:9",
-        "expected the end of the line behind INT, found the instruction PRINTLN",
+        "expected the end of the line after INT, found the instruction PRINTLN",
         "        ^~~~~~~",
     ),
-    ("'a' SET a", "1:5", "expected the end of the line behind 'a', found the instruction SET", "    ^~~"),
-    ("INT 1 2 3", "1:9", "expected the end of the line behind INT, found 3", "        ^"),
-    ("SET a b", "1:7", "expected the end of the line behind SET, found 'b'", "      ^"),
-    ("STRING \"a\" 0", "1:12", "expected the end of the line behind STRING, found 0", "           ^"),
+    ("'a' SET a", "1:5", "expected the end of the line after 'a', found the instruction SET", "    ^~~"),
+    ("INT 1 2 3", "1:9", "expected the end of the line after INT, found 3", "        ^"),
+    ("SET a b", "1:7", "expected the end of the line after SET, found 'b'", "      ^"),
+    ("STRING \"a\" 0", "1:12", "expected the end of the line after STRING, found 0", "           ^"),
     ("a: b: STOP", "1:4", "expected an instruction, a literal or DATA, found 'b'", "   ^"),
     ("STOP: PLUS", "1:1", "expected a label in front of ':', found the instruction STOP", "^~~~"),
     ("a: PLUS\n\na: PLUS", "3:1", "expected a new label, found 'a', the label of line 1", "^"),
@@ -76,41 +81,41 @@ const WRONG: &[(&str, &str, &str, &str)] = &[
     (
         "CHAR 256",
         "1:6",
-        "expected a number from -128 to 255, a 'c' or an instruction behind CHAR, found 256",
+        "expected a number from -128 to 255, a 'c' or an instruction after CHAR, found 256",
         "     ^~~",
     ),
     (
         "CHAR -129",
         "1:6",
-        "expected a number from -128 to 255, a 'c' or an instruction behind CHAR, found -129",
+        "expected a number from -128 to 255, a 'c' or an instruction after CHAR, found -129",
         "     ^~~~",
     ),
     (
         "CHAR",
         "1:5",
-        "expected a number from -128 to 255, a 'c' or an instruction behind CHAR, found the end of the line",
+        "expected a number from -128 to 255, a 'c' or an instruction after CHAR, found the end of the line",
         "    ^",
     ),
-    ("INT 3.5", "1:5", "expected a whole number from -32768 to 32767, or two bytes, behind INT, found 3.5", "    ^~~"),
+    ("INT 3.5", "1:5", "expected a whole number from -32768 to 32767, or two bytes, after INT, found 3.5", "    ^~~"),
     (
         "INT 0x10000",
         "1:5",
-        "expected a whole number from -32768 to 32767, or two bytes, behind INT, found 0x10000",
+        "expected a whole number from -32768 to 32767, or two bytes, after INT, found 0x10000",
         "    ^~~~~~~",
     ),
-    ("INT 1 256", "1:7", "expected a byte from 0 to 255 behind INT, found 256", "      ^~~"),
-    ("FLOAT \"1\"", "1:7", "expected a number, or four bytes, behind FLOAT, found \"1\"", "      ^~~"),
+    ("INT 1 256", "1:7", "expected a byte from 0 to 255 after INT, found 256", "      ^~~"),
+    ("FLOAT \"1\"", "1:7", "expected a number, or four bytes, after FLOAT, found \"1\"", "      ^~~"),
     (
         "FLOAT 1 2 3 ; no more",
         "1:12",
-        "expected a number, or four bytes, behind FLOAT, found the end of the line",
+        "expected a number, or four bytes, after FLOAT, found the end of the line",
         "           ^",
     ),
-    ("FLOAT 1 2 3 -4", "1:13", "expected a byte from 0 to 255 behind FLOAT, found -4", "            ^~"),
-    ("FLOAT 1.5 2", "1:11", "expected the end of the line behind FLOAT, found 2", "          ^"),
-    ("FLOAT 0x10", "1:7", "expected a number, or four bytes, behind FLOAT, found 0x10", "      ^~~~"),
-    ("STRING abc", "1:8", "expected \"text\", or bytes up to a zero, behind STRING, found 'abc'", "       ^~~"),
-    ("STRING 'a' \"b\" 0", "1:12", "expected a byte from 0 to 255 behind STRING, found \"b\"", "           ^~~"),
+    ("FLOAT 1 2 3 -4", "1:13", "expected a byte from 0 to 255 after FLOAT, found -4", "            ^~"),
+    ("FLOAT 1.5 2", "1:11", "expected the end of the line after FLOAT, found 2", "          ^"),
+    ("FLOAT 0x10", "1:7", "expected a number, or four bytes, after FLOAT, found 0x10", "      ^~~~"),
+    ("STRING abc", "1:8", "expected \"text\", or bytes up to a zero, after STRING, found 'abc'", "       ^~~"),
+    ("STRING 'a' \"b\" 0", "1:12", "expected a byte from 0 to 255 after STRING, found \"b\"", "           ^~~"),
     ("STRING \"a\\0\"", "1:8", "expected text without a zero (STRING adds its own), found one", "       ^~~~~"),
     ("\"\\x00\"", "1:1", "expected text without a zero (STRING adds its own), found one", "^~~~~~"),
     ("STRING 'a' 0 0", "1:12", "expected a zero only at the end of STRING's bytes, found one before", "           ^"),
@@ -123,52 +128,115 @@ const WRONG: &[(&str, &str, &str, &str)] = &[
     (
         "GET 256",
         "1:5",
-        "expected a variable behind GET (a letter, a 'c', a number from 0 to 255 or a name), found 256",
+        "expected a variable after GET (a letter, a 'c', a number from 0 to 255 or a name), found 256",
         "    ^~~",
+    ),
+    (
+        "GET -inf",
+        "1:5",
+        "expected a variable after GET (a letter, a 'c', a number from 0 to 255 or a name), found '-inf'",
+        "    ^~~~",
     ),
     (
         "SET min",
         "1:5",
-        "expected a variable behind SET (a letter, a 'c', a number from 0 to 255 or a name), \
-         found the instruction MIN",
+        "expected a variable after SET, found the instruction MIN: that name cannot be a variable's",
         "    ^~~",
     ),
-    ("IF a", "1:4", "expected a length from 0 to 255, or the end of the line, behind IF, found 'a'", "   ^"),
-    ("ELSE 256", "1:6", "expected a length from 0 to 255, or the end of the line, behind ELSE, found 256", "     ^~~"),
+    ("GET data", "1:5", "expected a variable after GET, found DATA: that name cannot be a variable's", "    ^~~~"),
+    ("IF a", "1:4", "expected a length from 0 to 255, or the end of the line, after IF, found 'a'", "   ^"),
+    ("ELSE 256", "1:6", "expected a length from 0 to 255, or the end of the line, after ELSE, found 256", "     ^~~"),
+    (
+        "WHILE 256 1",
+        "1:7",
+        "expected two lengths from 0 to 255, a label, or the end of the line after WHILE, found 256",
+        "      ^~~",
+    ),
     (
         "WHILE 6",
         "1:8",
-        "expected two lengths from 0 to 255, a label, or the end of the line behind WHILE, \
-         found the end of the line",
+        "expected a second length from 0 to 255 (the body's) after WHILE 6, found the end of the line",
         "       ^",
+    ),
+    (
+        "WHILE 6 here",
+        "1:9",
+        "expected a second length from 0 to 255 (the body's) after WHILE 6, found 'here'",
+        "        ^~~~",
     ),
     (
         "GET n\nWHILE later\nlater: ENDWHILE",
         "2:7",
-        "expected the label of an earlier line behind WHILE, found 'later'",
+        "expected the label of an earlier line after WHILE, found 'later'",
         "      ^~~~~",
+    ),
+    (
+        "GET n\nhere: WHILE here\nENDWHILE",
+        "2:13",
+        "expected the label of an earlier line after WHILE, found 'here'",
+        "            ^~~~",
     ),
     (
         "DATA 1 256",
         "1:8",
-        "expected bytes behind DATA (0 to 255, a 'c', \"text\" or an instruction), found 256",
+        "expected bytes after DATA (0 to 255, a 'c', \"text\" or an instruction), found 256",
         "       ^~~",
     ),
     (
         "DATA",
         "1:5",
-        "expected bytes behind DATA (0 to 255, a 'c', \"text\" or an instruction), found the end of the line",
+        "expected bytes after DATA (0 to 255, a 'c', \"text\" or an instruction), found the end of the line",
         "    ^",
     ),
     // Blocks.
     ("GET n\n  IF\nPLUS", "2:3", "expected ENDIF for this IF, found the end of the source", "  ^~"),
     ("IF\nELSE", "2:1", "expected ENDIF for this ELSE, found the end of the source", "^~~~"),
     ("GET n\nWHILE", "2:1", "expected ENDWHILE for this WHILE, found the end of the source", "^~~~~"),
-    ("GET n\nWHILE\nENDIF", "3:1", "expected ENDWHILE for the WHILE of line 2, found ENDIF", "^~~~~"),
-    ("GET n\nWHILE\nENDIF\nENDWHILE", "3:1", "expected ENDWHILE for the WHILE of line 2, found ENDIF", "^~~~~"),
+    (
+        "GET n\nWHILE\nENDIF",
+        "3:1",
+        "expected ENDWHILE for the WHILE of line 2, found ENDIF; \
+         an ENDIF that only takes a number off the stack is written DATA ENDIF",
+        "^~~~~",
+    ),
+    (
+        "IF\nENDIF\nGET n\nWHILE\nENDIF\nENDWHILE",
+        "5:1",
+        "expected ENDWHILE for the WHILE of line 4, found ENDIF; \
+         an ENDIF that only takes a number off the stack is written DATA ENDIF",
+        "^~~~~",
+    ),
+    (
+        "GET n\nWHILE\nGET n\nIF\nFORK\nENDIF\nENDIF\nENDWHILE",
+        "7:1",
+        "expected ENDWHILE for the WHILE of line 2, found ENDIF (the IF of line 4 ended in line 6); \
+         an ENDIF that only takes a number off the stack is written DATA ENDIF",
+        "^~~~~",
+    ),
+    (
+        "GET n\nIF\nENDWHILE\nENDIF",
+        "3:1",
+        "expected ENDIF for the IF of line 2, found ENDWHILE; \
+         an ENDWHILE that only takes a byte off the stack is written DATA ENDWHILE",
+        "^~~~~~~~",
+    ),
     ("IF\nGET n\nWHILE\nELSE\nENDIF", "4:1", "expected ENDWHILE for the WHILE of line 3, found ELSE", "^~~~"),
+    (
+        "GET n\nWHILE\nGET n\nIF\nFORK\nENDIF\nELSE\nENDIF\nENDWHILE",
+        "7:1",
+        "expected ENDWHILE for the WHILE of line 2, found ELSE (the IF of line 4 ended in line 6); \
+         an ENDIF that only takes a number off the stack is written DATA ENDIF",
+        "^~~~",
+    ),
     ("IF\nELSE\nELSE 3\nENDIF", "3:1", "expected ENDIF for the ELSE of line 2, found another ELSE", "^~~~"),
-    ("ELSE\nENDIF", "1:1", "expected an IF before this ELSE, or a length behind it, found neither", "^~~~"),
+    ("ELSE\nENDIF", "1:1", "expected an open IF before this ELSE, or a length after it, found neither", "^~~~"),
+    (
+        "GET n\nIF\nFORK\nENDIF\nELSE\nENDIF",
+        "5:1",
+        "expected an open IF before this ELSE, or a length after it, found neither (the IF of line 2 ended in line 4); \
+         an ENDIF that only takes a number off the stack is written DATA ENDIF",
+        "^~~~",
+    ),
     (
         "WHILE\nENDWHILE",
         "1:1",
@@ -183,17 +251,109 @@ const WRONG: &[(&str, &str, &str, &str)] = &[
     ),
 ];
 
+/// A source with one warning, as the table above.
+const DOUBTFUL: &[(&str, &str, &str, &str)] = &[
+    (
+        "GET n\nIF\nFORK\nENDIF\nPLUS\n  endif",
+        "6:3",
+        "this ENDIF closes no IF (the IF of line 2 ended in line 4); \
+         an ENDIF that only takes a number off the stack is written DATA ENDIF",
+        "  ^~~~~",
+    ),
+    (
+        "IF\nELSE\nENDIF\nENDIF",
+        "4:1",
+        "this ENDIF closes no IF (the ELSE of line 2 ended in line 3); \
+         an ENDIF that only takes a number off the stack is written DATA ENDIF",
+        "^~~~~",
+    ),
+    (
+        "FORK\nENDIF\nGET n\nWHILE\nENDWHILE",
+        "2:1",
+        "this ENDIF closes no IF; an ENDIF that only takes a number off the stack is written DATA ENDIF",
+        "^~~~~",
+    ),
+    (
+        "GET n\nWHILE\nENDWHILE\nENDWHILE",
+        "4:1",
+        "this ENDWHILE closes no WHILE (the WHILE of line 2 ended in line 3); \
+         an ENDWHILE that only takes a byte off the stack is written DATA ENDWHILE",
+        "^~~~~~~~",
+    ),
+    // Where a given length leads is not told.
+    (
+        "IF 1\nPLUS\nENDIF\nENDIF\nIF\nENDIF",
+        "4:1",
+        "this ENDIF closes no IF; an ENDIF that only takes a number off the stack is written DATA ENDIF",
+        "^~~~~",
+    ),
+    ("ELSE 1\nIF\nENDIF\nENDIF", "1:1", "this ELSE closes no IF", "^~~~"),
+    (
+        "IF\nFORK\nENDIF\nELSE 1\nPLUS\nENDIF",
+        "4:1",
+        "this ELSE closes no IF (the IF of line 1 ended in line 3); \
+         an ENDIF that only takes a number off the stack is written DATA ENDIF",
+        "^~~~",
+    ),
+    ("GET n\n pinmode ; a pin", "2:2", "PINMODE is not built: the box ends the process by fault 1 here", " ^~~~~~~"),
+];
+
 /// Instructions that a condition is not counted over.
 const UNCLEAR: [&str; 11] =
     ["IF 0", "ELSE 0", "ENDIF", "WHILE 0 0", "ENDWHILE", "LOOP", "ENDLOOP", "STOP", "DATA 6", "DIGITALREAD", "DELAY"];
 
+/// The line that a place is in.
+fn line_at<'a>(source: &'a str, place: &str) -> &'a str {
+    let line: usize = place.split(':').next().unwrap_or("").parse().unwrap();
+    source.lines().nth(line - 1).unwrap()
+}
+
 #[test]
 fn every_wrong_source_is_told() {
     for (source, place, message, caret) in WRONG {
-        let line: usize = place.split(':').next().unwrap_or("").parse().unwrap();
-        let text = source.lines().nth(line - 1).unwrap();
+        let text = line_at(source, place);
         assert_eq!(told(source.as_bytes()), format!("f.asm:{place}: {message}\n{text}\n{caret}\n"), "{source}");
     }
+}
+
+#[test]
+fn every_doubtful_source_is_warned_of() {
+    for (source, place, message, caret) in DOUBTFUL {
+        let text = line_at(source, place);
+        let told: String = warnings(source).iter().map(|warning| warning.render("f.asm")).collect();
+        assert_eq!(told, format!("f.asm:{place}: warning: {message}\n{text}\n{caret}\n"), "{source}");
+    }
+}
+
+#[test]
+fn sources_without_warnings() {
+    for source in [
+        // All lengths are given: any shape may be meant.
+        "ENDIF\nENDWHILE\nELSE 3\nIF 9\nENDIF\nENDIF",
+        // What is written as bytes is no end of a block.
+        "GET n\nIF\nFORK\nDATA ENDIF\nELSE\nDATA ENDIF ENDWHILE PINMODE\nENDIF",
+        "GET n\nWHILE\nGET n\nIF 1\nPLUS\nENDIF\nENDWHILE\nCHAR DELAY",
+    ] {
+        assert_eq!(warnings(source), [], "{source}");
+    }
+}
+
+/// Every instruction that is not built, and no other; a source with errors has no warnings.
+#[test]
+fn instructions_that_are_not_built_are_warned_of() {
+    let source: String = TABLE.iter().map(|found| format!("DATA 1 {0}\nCHAR {0}\n", found.mnemonic)).collect();
+    assert_eq!(warnings(&source), []);
+    let given = |found: &Instruction| match found.arguments {
+        Arguments::None => "",
+        Arguments::Text => "\"\"",
+        Arguments::Lengths => "1 1",
+        _ => "1",
+    };
+    let source: String = TABLE.iter().map(|found| format!("{} {}\n", found.mnemonic, given(found))).collect();
+    let warned: Vec<String> = warnings(&source).iter().map(|warning| warning.text.trim().to_string()).collect();
+    assert_eq!(warned, ["DELAY", "PINMODE", "ANALOGREAD", "ANALOGWRITE", "DIGITALREAD", "DIGITALWRITE"]);
+    let names: Vec<&str> = errors(b"DELAY\nDELAY 1\n").iter().map(|error| error.problem.message.name()).collect();
+    assert_eq!(names, ["EndOfLine"]);
 }
 
 #[test]
@@ -271,8 +431,9 @@ fn all_messages_are_reached() {
     sources.push(b"GET n\nSTOP\nWHILE\nENDWHILE".to_vec());
     sources.extend(long_sources().map(|(source, _)| source.into_bytes()));
     sources.extend(NOT_TEXT.map(|(source, _)| source.to_vec()));
-    let reached: BTreeSet<&str> =
-        sources.iter().flat_map(|source| errors(source)).map(|error| error.problem.message.name()).collect();
+    let wrong = sources.iter().flat_map(|source| errors(source));
+    let doubtful = DOUBTFUL.iter().flat_map(|(source, ..)| warnings(source));
+    let reached: BTreeSet<&str> = wrong.chain(doubtful).map(|found| found.problem.message.name()).collect();
     let all: BTreeSet<&str> = Message::NAMES.iter().copied().collect();
     assert_eq!(reached, all);
 }
@@ -288,7 +449,7 @@ fn every_wrong_line_is_told_once_and_in_order() {
         (4, "Instruction"),
         (5, "Instruction"),
         (7, "EndOfLine"),
-        (8, "Lengths"),
+        (8, "SecondLength"),
         (9, "Instruction"),
         (12, "NoEnd"),
     ];

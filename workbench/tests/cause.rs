@@ -1,15 +1,17 @@
 //! Explained faults are the kernel's, and each is explained in the words that stand here.
 
 mod cause_support;
+mod field;
 mod random;
 
 use cause_support::bench::Bench;
 use cause_support::opcode::*;
 use cause_support::routines::*;
 use cause_support::{guide, label, state};
+use field::record_at;
 use random::Random;
 use std::collections::BTreeSet;
-use workbench::layout::{Record, DATA_START, ENDED, LONG_DISC, RECORDS, RECORD_LEN, RUNNING};
+use workbench::layout::{Record, DATA_START, ENDED, LONG_DISC, RECORDS, RUNNING};
 use workbench::layout::{SHORT_DISC, TURN_OUTPUT, VARIABLES};
 use workbench::{cause, instruction, kernel};
 
@@ -18,7 +20,7 @@ fn compare(state: &state::State) -> (Option<u8>, u8, Option<cause::Cause>) {
     let before = Record::of(&state.area, state.slot);
     let code = before.code(&state.disc).expect("a good record");
     let byte = code.get(before.pc()).copied();
-    let explained = cause::of_turn(&state.disc, &state.area, state.slot, state.clock);
+    let explained = cause::of_turn(&state.disc, &state.area, state.slot);
     let (mut disc, mut area) = (state.disc.clone(), state.area.clone());
     let number = kernel::turn(&mut disc, &mut area, state.slot as u32, state.clock, &mut [0; TURN_OUTPUT]);
     assert!(number >= 0, "the state is good: {number}");
@@ -43,26 +45,26 @@ fn explained_faults_are_the_kernels() {
         if let (Some(byte @ 1..=69), 1..) = (byte, fault) {
             pairs.insert((byte, fault));
         }
-        labels.extend(explained.map(|cause| label::of(&cause.reason)));
+        labels.extend(explained.iter().flat_map(label::of));
     }
     assert_eq!(pairs, guide::faults(), "each fault of the guide's table, and no other, was met");
     assert_eq!(labels, BTreeSet::from(label::ALL), "each wording was met");
 }
 
-/// A routine that runs alone on a short disc: its words, and their label.
-fn explained(routine: &Routine) -> &'static str {
+/// A routine that runs alone on a short disc: its words, and their labels.
+fn explained(routine: &Routine) -> Vec<&'static str> {
     let (id, cause) = Bench::new(SHORT_DISC).ended("blink", routine.code);
     let told = cause::sentence("blink", id, &cause);
     let Routine { fault, offset, words, .. } = routine;
     assert_eq!(told, format!("blink (ID 1) ended by fault {fault} at offset {offset}: {words}"));
-    label::of(&cause.reason)
+    label::of(&cause)
 }
 
 /// What a routine's end is explained with in a box that was made ready for it.
-fn explained_in(mut bench: Bench, code: &[u8], sentence: &str) -> &'static str {
+fn explained_in(mut bench: Bench, code: &[u8], sentence: &str) -> Vec<&'static str> {
     let (id, cause) = bench.ended("blink", code);
     assert_eq!(cause::sentence("blink", id, &cause), sentence);
-    label::of(&cause.reason)
+    label::of(&cause)
 }
 
 /// Pushes a value and sets it, `count` times, as variables from A on.
@@ -70,7 +72,7 @@ fn sets(count: u8, push: &[u8]) -> Vec<u8> {
     (0..count).flat_map(|index| [push, &[SET, b'A' + index]].concat()).collect()
 }
 
-fn neighbours() -> Vec<&'static str> {
+fn neighbours() -> Vec<Vec<&'static str>> {
     let set_n = [CHAR, 1, SET, b'n', LOOP, ENDLOOP];
     let lamp = || {
         let mut bench = Bench::new(SHORT_DISC);
@@ -87,7 +89,7 @@ fn neighbours() -> Vec<&'static str> {
     ]
 }
 
-fn memories() -> Vec<&'static str> {
+fn memories() -> Vec<Vec<&'static str>> {
     let mut labels = Vec::new();
     let mut entries = Bench::new(SHORT_DISC);
     entries.neighbour("lamp", &[sets(23, &[INT, 0, 1]), vec![LOOP, ENDLOOP]].concat(), 47);
@@ -122,7 +124,7 @@ fn memories() -> Vec<&'static str> {
     labels
 }
 
-fn discs() -> Vec<&'static str> {
+fn discs() -> Vec<Vec<&'static str>> {
     let mut files = Bench::new(SHORT_DISC);
     (0..9).for_each(|index| files.store(&format!("f{index}"), &[1]));
     let open = [STRING, b'l', 0, CHAR, 6, OPEN, STOP];
@@ -145,11 +147,9 @@ fn discs() -> Vec<&'static str> {
 
 #[test]
 fn each_fault_is_explained() {
-    let routines = [FETCH, OPERAND, SPOILT, NUMBER, STATE, OTHER].concat();
-    let mut labels: BTreeSet<&str> = routines.iter().map(explained).collect();
-    labels.extend(neighbours());
-    labels.extend(memories());
-    labels.extend(discs());
+    let routines = [FETCH, INSIDE, OPERAND, SPOILT, NUMBER, STATE, OTHER].concat();
+    let mut labels: BTreeSet<&str> = routines.iter().flat_map(explained).collect();
+    labels.extend([neighbours(), memories(), discs()].concat().concat());
     assert_eq!(labels, BTreeSet::from(label::ALL), "each wording has its routine");
 }
 
@@ -172,13 +172,13 @@ fn what_is_no_turn_is_not_explained() {
     let mut bench = Bench::new(SHORT_DISC);
     bench.start("blink", &[PLUS]);
     let (disc, area) = (&bench.disc, &mut bench.area);
-    assert!(cause::of_turn(disc, area, 0, 0).is_some());
-    assert!(cause::of_turn(disc, area, 1, 0).is_none(), "the slot is ended");
-    assert!(cause::of_turn(disc, area, 10, 0).is_none(), "there is no such slot");
-    assert!(cause::of_turn(&disc[1..], area, 0, 0).is_none());
-    assert!(cause::of_turn(disc, &area[1..], 0, 0).is_none());
+    assert!(cause::of_turn(disc, area, 0).is_some());
+    assert!(cause::of_turn(disc, area, 1).is_none(), "the slot is ended");
+    assert!(cause::of_turn(disc, area, 10).is_none(), "there is no such slot");
+    assert!(cause::of_turn(&disc[1..], area, 0).is_none());
+    assert!(cause::of_turn(disc, &area[1..], 0).is_none());
     assert_eq!(kernel::suspend(disc, area, 1), 0);
-    assert!(cause::of_turn(disc, area, 0, 0).is_none(), "the process is paused");
+    assert!(cause::of_turn(disc, area, 0).is_none(), "the process is paused");
 }
 
 /// Buffers that are not good have no turn; whatever is said of them, it does not panic.
@@ -187,7 +187,7 @@ fn damaged_buffers_do_no_harm() {
     let mut random = Random(0x5E6F);
     for _ in 0..20_000 {
         let mut state = state::of(&mut random);
-        let record = RECORDS + state.slot * RECORD_LEN;
+        let record = record_at(state.slot);
         for _ in 0..1 + random.below(3) {
             let field = if random.one_in(2) {
                 record + 16 + random.below(16)
@@ -198,7 +198,7 @@ fn damaged_buffers_do_no_harm() {
             state.disc[random.below(DATA_START)] = random.byte();
         }
         state.area[record + 14] = RUNNING;
-        if let Some(cause) = cause::of_turn(&state.disc, &state.area, state.slot, state.clock) {
+        if let Some(cause) = cause::of_turn(&state.disc, &state.area, state.slot) {
             assert!(!cause.words.is_empty());
         }
     }

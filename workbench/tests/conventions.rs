@@ -77,8 +77,64 @@ fn wrong_use_has_status_2_and_a_message() {
 }
 
 #[test]
-fn behind_two_dashes_there_are_no_options() {
+fn after_two_dashes_there_are_no_options() {
     let bench = Bench::new("dashes", &[("--help", DOWN)]);
     let ran = bench.arduinos(&["run", "--clock", "1", "--", "box.img", "--help"]);
     assert_eq!((ran.status, ran.out.as_str()), (0, "3\n2\n1\n"));
+}
+
+#[test]
+fn streams_that_cannot_be_written_end_the_program_in_order() {
+    let bench = Bench::new("streams", &[("down", DOWN)]);
+    assert_eq!(bench.arduinos_to(&["run", "box.img", "nosuch"], "out", "/dev/full"), 1);
+    assert_eq!(bench.arduinos_to(&["walk"], "out", "/dev/full"), 2);
+    assert_eq!(bench.arduinos_to(&["--help"], "/dev/full", "err"), 1);
+    assert_eq!(bench.arduinos_to(&["run", "box.img", "down", "--clock", "1"], "out", "/dev/full"), 0);
+    assert_eq!(bench.read("out"), b"3\n2\n1\n");
+}
+
+#[test]
+fn a_reader_that_has_enough_needs_no_message() {
+    let bench = Bench::new("pipe", &[("down", DOWN)]);
+    let arduinos = env!("CARGO_BIN_EXE_arduinos");
+    for line in [
+        format!("'{arduinos}' run box.img down --clock 1 --trace 2>err | true"),
+        format!("'{arduinos}' dis box.img 2>err | true"),
+        format!("'{arduinos}' run box.img nosuch 2>&1 | true; : >err"),
+    ] {
+        let line = format!("{line}; cat err");
+        let shell = std::process::Command::new("sh").args(["-c", &line]).current_dir(bench.path(".")).output().unwrap();
+        let told = String::from_utf8(shell.stdout).unwrap();
+        assert!(!told.contains("panicked") && !told.contains("pipe"), "{line}: {told}");
+    }
+}
+
+#[cfg(unix)]
+#[test]
+fn arguments_are_text() {
+    use std::os::unix::ffi::OsStrExt;
+    let bench = Bench::new("text", &[]);
+    let output = std::process::Command::new(env!("CARGO_BIN_EXE_arduinos"))
+        .args(["disc", "new"])
+        .arg(std::ffi::OsStr::from_bytes(b"x\xff"))
+        .current_dir(bench.path("."))
+        .output()
+        .unwrap();
+    assert_eq!(output.status.code(), Some(2));
+    let message = "arduinos: \"x\\xFF\" is no text in UTF-8\nSee 'arduinos --help'.\n";
+    assert_eq!(String::from_utf8(output.stderr).unwrap(), message);
+    assert_eq!(bench.names(), ["box.img"]);
+}
+
+#[test]
+fn a_device_without_an_end_is_refused() {
+    let bench = Bench::new("endless", &[]);
+    for (words, message) in [
+        (vec!["disc", "ls", "/dev/zero"], "disc ls: /dev/zero: more than 4096 bytes; an EEPROM image has 1024 or 4096"),
+        (vec!["area", "/dev/zero"], "area: /dev/zero: more than 1056 bytes; a work area has 1056"),
+    ] {
+        bench.arduinos(&words).refused(message);
+    }
+    let put = bench.arduinos(&["disc", "put", "box.img", "/dev/zero", "--as", "z"]);
+    assert_eq!(put.status, 1);
 }

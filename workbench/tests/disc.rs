@@ -65,6 +65,9 @@ fn ls_lists_as_the_box_does() {
     );
     bench.arduinos(&["disc", "new", "empty.img"]).done();
     assert_eq!(bench.arduinos(&["disc", "ls", "empty.img"]).done(), "");
+    bench.arduinos(&["disc", "put", "empty.img", "down", "--as", "it's\"a\\"]).done();
+    let table = bench.arduinos(&["disc", "ls", "-l", "empty.img"]).done();
+    assert_eq!(table.lines().nth(1), Some("    0  it's\"a\\        161    180      20"));
 }
 
 #[test]
@@ -132,8 +135,8 @@ fn put_is_refused_with_what_helps() {
     bench.write("empty", []);
     bench.write("big", [0; 864]);
     bench.write("mid", [0; 794]);
-    let bad_name =
-        "(refusal 5): a bad name: a name has 1 to 11 characters, none of them a space; --as gives another name";
+    let bad_name = "(refusal 5): a bad name: a name has 1 to 11 characters from '!' to '~', no space; --as gives \
+                    another name";
     let bad_size = "(refusal 6): a file has at least 1 byte, and at most 863, on a long disc 3935; this one has";
     let put = |file, message: String| refused(&bench, &["disc", "put", "box.img", file], &message);
     put("twelvebytes!", format!("disc put: twelvebytes!: not stored as \"twelvebytes!\" {bad_name}"));
@@ -161,6 +164,9 @@ fn put_stores_all_files_or_none() {
     refused(&bench, &arguments, &format!("{exists}; --replace erases the old file first"));
     let twice = ["disc", "put", "box.img", "--replace", "log", "one", "log"];
     refused(&bench, &twice, &format!("{exists}; the name is given twice"));
+    let twice_new =
+        "disc put: one: not stored as \"one\" (refusal 7): the name exists already; the name is given twice";
+    refused(&bench, &["disc", "put", "box.img", "one", "one"], twice_new);
     bench.write("log", [8; 60]);
     bench.arduinos(&["disc", "put", "box.img", "one", "log", "--replace"]).done();
     assert_eq!(bench.arduinos(&["disc", "ls", "box.img"]).done(), "down 20\none 1\nlog 60\n");
@@ -205,7 +211,7 @@ fn check_tells_good_from_bad() {
     bench.write("bad.img", &bad);
     let ran = bench.arduinos(&["disc", "check", "bad.img"]);
     let text =
-        "disc: not good\n  entry 1 (\"l\"): byte 2 of its name is 103, behind a zero; all bytes there are zeros\n  \
+        "disc: not good\n  entry 1 (\"l\"): byte 2 of its name is 103, after a zero; all bytes there must be zeros\n  \
                 entry 1 (\"l\"): bytes 180 to 229 overlap those of entry 0 (\"down\"), 161 to 180\n";
     assert_eq!((ran.out.as_str(), ran.status, ran.err.as_str()), (text, 1, ""));
     let ran = bench.arduinos_with(&["disc", "check", "-"], &[255; LONG_DISC]);

@@ -1,10 +1,10 @@
-//! docs/WORKBENCH.md: every source in it is written to a file, every command in it is run, in one folder and in order, and
-//! what it writes is compared with what stands there.
+//! docs/WORKBENCH.md: every source in it is written to a file, every command in it is run, in one folder and in order,
+//! and what it writes is compared with what stands there.
 
 use std::path::{Path, PathBuf};
 use std::process::Command;
 
-/// A fenced block: the words behind its fence, its lines, and the number of its first line.
+/// A fenced block: the words after its fence, its lines, and the number of its first line.
 struct Block {
     words: String,
     lines: Vec<String>,
@@ -36,7 +36,7 @@ fn blocks(text: &str) -> Vec<Block> {
     blocks
 }
 
-/// The commands of a block: lines that begin with "$ ", each with the lines behind it.
+/// The commands of a block: lines that begin with "$ ", each with the lines after it.
 fn shown(block: &Block) -> Vec<Shown> {
     let mut commands: Vec<Shown> = Vec::new();
     for (index, line) in block.lines.iter().enumerate() {

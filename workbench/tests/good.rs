@@ -1,13 +1,15 @@
 //! What is wrong with a disc or a work area, held against the kernel: a broken clause is found exactly where it answers
 //! −2 or −3.
 
+mod field;
 mod random;
 mod support;
 
+use field::{put_word, record_at};
 use random::Random;
 use std::collections::BTreeSet;
 use support::damage;
-use support::state::{self, put_word, record_at, State};
+use support::state::{self, State};
 use workbench::good;
 use workbench::good::area::Clause as AreaClause;
 use workbench::good::disc::Clause as DiscClause;
@@ -253,18 +255,12 @@ fn all_bytes_alike_or_random() {
 /// Two files, "down" of 20 bytes at 161 and "log" of 50 at 181; down (ID 1) running in slot 0 with the log open, and
 /// "log" (ID 2) paused in slot 1; variables n (INT at 0) and x (STRING at 2 to 5) of down.
 fn worked() -> State {
-    let mut state = State { disc: vec![0; SHORT_DISC], area: vec![0; AREA_LEN] };
-    kernel::format(&mut state.disc, &mut state.area);
     let mut code = vec![2, 0, 3, 5, 110, 3, 97, 98, 99, 0, 5, 120, 67];
     code.resize(20, 67);
-    assert_eq!(kernel::store(&mut state.disc, b"down", &code), 0);
-    assert_eq!(kernel::store(&mut state.disc, b"log", &[1; 50]), 0);
-    assert_eq!(kernel::run(&state.disc, &mut state.area, b"down"), 1);
-    assert_eq!(kernel::run(&state.disc, &mut state.area, b"log"), 2);
+    let mut state = State::with_files(&[("down", &code), ("log", &[1; 50])]);
+    state.start(&["down", "log"]);
     assert_eq!(kernel::suspend(&state.disc, &mut state.area, 2), 0);
-    for _ in 0..4 {
-        assert_eq!(kernel::turn(&mut state.disc, &mut state.area, 0, 0, &mut [0; 32]), 0);
-    }
+    state.turns(0, 4);
     put_word(&mut state.area, record_at(0) + 24, 181);
     put_word(&mut state.area, record_at(0) + 26, 50);
     assert_eq!(hold_only(&state), 0);
@@ -311,20 +307,20 @@ fn clauses_of_a_disc_in_words() {
     assert_eq!(
         disc_byte(160, 3),
         "entry 2: its name is empty\nentry 2: its length is 0; a file has at least 1 byte\n\
-         entry 2: its first byte is 0; data begin at 161"
+         entry 2: it begins at byte 0; data begin at 161"
     );
     assert_eq!(disc_byte(17, 32), "entry 1 (\"l g\"): byte 1 of its name is 32; a name has bytes of 33 to 126");
     assert_eq!(
         disc_byte(22, 1),
-        "entry 1 (\"log\"): byte 6 of its name is 1, behind a zero; all bytes there are zeros"
+        "entry 1 (\"log\"): byte 6 of its name is 1, after a zero; all bytes there must be zeros"
     );
     assert_eq!(
         found(|state| state.disc[16..28].fill(b'l')),
         "entry 1 (\"llllllllllll\"): its name has 12 bytes; a name has at most 11"
     );
     assert_eq!(disc_word(16 + 14, 0), "entry 1 (\"log\"): its length is 0; a file has at least 1 byte");
-    assert_eq!(disc_word(12, 141), "entry 0 (\"down\"): its first byte is 141; data begin at 161");
-    assert_eq!(disc_word(16 + 12, 975), "entry 1 (\"log\"): its last byte is 1024; the last of the disc is 1023");
+    assert_eq!(disc_word(12, 141), "entry 0 (\"down\"): it begins at byte 141; data begin at 161");
+    assert_eq!(disc_word(16 + 12, 975), "entry 1 (\"log\"): it ends at byte 1024; the last of the disc is 1023");
     assert_eq!(found(|state| state.disc.copy_within(0..12, 16)), "entry 1 (\"down\") has the name of entry 0");
     assert_eq!(
         disc_word(16 + 12, 180),
@@ -335,11 +331,11 @@ fn clauses_of_a_disc_in_words() {
 #[test]
 fn clauses_of_a_work_area_in_words() {
     assert_eq!(area_byte(406, 26), "the variable count, byte 406, is 26; there are at most 25 variables");
-    assert_eq!(area_word(407, 0), "the next ID, bytes 407 and 408, is 0; it is 1 to 32768");
-    assert_eq!(area_byte(411, 7), "byte 411 is 7; bytes 409 to 415 are zeros");
+    assert_eq!(area_word(407, 0), "the next ID, bytes 407 and 408, is 0; it must be 1 to 32768");
+    assert_eq!(area_byte(411, 7), "byte 411 is 7; bytes 409 to 415 must be zeros");
     assert_eq!(
         area_byte(record_at(3) + 14, 65),
-        "slot 3: its state is 65; it is 114 ('r', running), 112 ('p', paused) or 0 (ended)"
+        "slot 3: its state is 65; it must be 114 ('r', running), 112 ('p', paused) or 0 (ended)"
     );
     assert_eq!(area_word(record_at(1) + 12, 3), "slot 1 (log, ID 3): its ID is not from 1 to below the next ID, 3");
     assert_eq!(area_word(record_at(1) + 12, 1), "slot 1 (log, ID 1): slot 0 has the same ID");
@@ -356,7 +352,7 @@ fn clauses_of_a_process_in_words() {
     assert_eq!(area_word(record_at(1) + 28, 1), "slot 1 (log, ID 2): its file offset is 1, and no file is open");
     assert_eq!(
         area_byte(at + 11, 1),
-        "slot 0 (down, ID 1): byte 11 of its name is 1, behind a zero; all bytes there are zeros"
+        "slot 0 (down, ID 1): byte 11 of its name is 1, after a zero; all bytes there must be zeros"
     );
     assert_eq!(area_byte(at, b't'), "slot 0 (town, ID 1): the disc has no file of its name");
     assert_eq!(
@@ -374,7 +370,7 @@ fn clauses_of_a_variable_in_words() {
     assert_eq!(area_byte(257, 5), "variable 0 (n of ID 1): its type is 5; types are 1 to 4");
     assert_eq!(area_byte(259, 1), "variable 0 (n of ID 1): its size is 1; type 2 (INT) has size 2");
     assert_eq!(area_byte(265, 31), "variable 1 (x of ID 1): its size is 31; a STRING has 1 to 30 bytes");
-    assert_eq!(area_byte(264, 253), "variable 1 (x of ID 1): its last byte is 256; the last of memory is 255");
+    assert_eq!(area_byte(264, 253), "variable 1 (x of ID 1): it ends at byte 256; the last of memory is 255");
     assert_eq!(area_word(266, 9), "variable 1 (x of ID 9): no live process has that ID");
     assert_eq!(area_byte(262, b'n'), "variable 1 (n of ID 1): variable 0 has the same name and ID");
     assert_eq!(

@@ -1,5 +1,5 @@
-//! The example programs of the ArduinOS guide's appendix A and of docs/GUIDE.md, part 5: assembled, stored and run by the
-//! program. What comes out is the guides', not the workbench's.
+//! The example programs of the ArduinOS guide's appendix A and of docs/GUIDE.md, part 5: assembled, stored and run by
+//! the program. What comes out is the guides', not the workbench's.
 
 mod bench;
 
@@ -21,10 +21,12 @@ fn assembled(name: &str) -> Vec<u8> {
 fn ran(name: &str, options: &[&str]) -> Ran {
     let bench = Bench::new(name, &[]);
     bench.write("guide.asm", source(name));
-    for words in [vec!["asm", "guide.asm"], vec!["disc", "put", "box.img", "guide"]] {
-        let done = bench.arduinos(&words);
-        assert_eq!((done.status, done.err.as_str()), (0, ""), "{name}");
-    }
+    let done = bench.arduinos(&["asm", "guide.asm"]);
+    // Only the blinking LED has pins: PINMODE and DIGITALWRITE, a warning of three lines for each.
+    let warnings = if name.starts_with("a4_blink") { 2 } else { 0 };
+    assert_eq!((done.status, done.err.lines().count()), (0, 3 * warnings), "{name}: {}", done.err);
+    assert_eq!(done.err.matches(" is not built: ").count(), warnings, "{name}: {}", done.err);
+    bench.arduinos(&["disc", "put", "box.img", "guide"]).done();
     bench.arduinos(&[&["run", "box.img", "guide", "--clock", "100"], options].concat())
 }
 

@@ -22,8 +22,8 @@ fn a_record_is_made_again() {
     assert_eq!((ran.status, ran.err.as_str()), (0, ""));
     assert_eq!(
         ran.out,
-        "line 14, round 300: wrong (ID 2) ended by fault 6 at offset 8: PLUS takes numbers; below the INT 5 lay the string \
-         \"abc\"\nr: 14 calls, all as recorded\n"
+        "line 14, round 300: wrong (ID 2) ended by fault 6 at offset 8: PLUS takes numbers; below the INT 5 lay the \
+         string \"abc\"\nr: 14 calls, all as recorded\n"
     );
     let traced = bench.arduinos(&["replay", "r", "--trace"]);
     assert_eq!((traced.status, traced.out.lines().count()), (0, 1 + 29 + 3 + 2));
@@ -82,7 +82,7 @@ fn messages_name_the_place() {
 }
 
 #[test]
-fn an_altered_checksum_is_told_behind_the_calls() {
+fn an_altered_checksum_is_told_after_the_calls() {
     let bench = Bench::new("sum", &[("down", DOWN), ("wrong", WRONG_TYPE)]);
     let mut whole = recorded(&bench);
     let last = whole.len() - 2;
@@ -101,10 +101,10 @@ fn an_altered_checksum_is_told_behind_the_calls() {
     assert_eq!(bench.arduinos(&["replay"]).status, 2);
 }
 
-#[test]
-fn every_call_is_written_and_read() {
+/// Every call, done and refused.
+fn every_call() -> Vec<Call> {
     let name = b"lamp".to_vec();
-    let calls = [
+    vec![
         Call::Format,
         Call::Store { name: name.clone(), data: LAMP.to_vec() },
         Call::Store { name: b" \"\\\xff\n".to_vec(), data: vec![] },
@@ -127,20 +127,24 @@ fn every_call_is_written_and_read() {
         Call::Kill { id: 1 },
         Call::Erase { name },
         Call::Boot,
-    ];
+    ]
+}
+
+#[test]
+fn every_call_is_written_and_read() {
     for length in [1024, 4096, 7] {
         let mut buffers = Buffers { disc: vec![0xA5; length], area: vec![3; 1056] };
         let mut writer = Writer::begin(Vec::new(), &buffers).unwrap();
         let mut numbers = Vec::new();
-        for call in &calls {
+        for call in every_call() {
             let answer = call.make(&mut buffers);
-            writer.call(call, &answer, &buffers).unwrap();
+            writer.call(&call, &answer, &buffers).unwrap();
             numbers.push(answer.number);
         }
         let text = writer.end().unwrap();
         let record = record::read(&text).unwrap();
-        let read: Vec<&Call> = record.calls.iter().map(|recorded| &recorded.made.call).collect();
-        assert_eq!(read, calls.iter().collect::<Vec<_>>());
+        let read: Vec<Call> = record.calls.iter().map(|recorded| recorded.made.call.clone()).collect();
+        assert_eq!(read, every_call());
         assert!(!is_told(&text));
         if length != 7 {
             assert_eq!(numbers[2..5], [-5, 8, -4]);

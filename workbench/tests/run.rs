@@ -44,7 +44,7 @@ fn a_share_gives_turns_in_a_row() {
         ("down=9", 1, "share of 9 for \"down\": a share is 1 to 8 (refusal 22)"),
         ("down=0", 1, "share of 0 for \"down\": a share is 1 to 8 (refusal 22)"),
         ("down", 2, "--share wants NAME=N, not 'down'"),
-        ("down=x", 2, "--share wants a number behind '=', not 'x'"),
+        ("down=x", 2, "--share wants a number after '=', not 'x'"),
         ("lamp=2", 2, "--share names 'lamp', which is not started here"),
     ] {
         let ran = bench.arduinos(&["run", "box.img", "down", "--share", share]);
@@ -61,7 +61,7 @@ fn a_trace_shows_every_turn() {
     let lines: Vec<&str> = ran.out.lines().collect();
     assert_eq!(lines.len(), 1 + 29 + 3);
     let expected = [
-        " round   clock  slot    ID  offset  instruction           stack behind it, bottom first",
+        " round   clock  slot    ID  offset  instruction           stack after it, bottom first",
         "     1     100     0     1       0  INT 3                 [INT 3]",
         "     1     100     1     2       0  STRING \"abc\"          [STRING \"abc\"]",
         "     2     200     0     1       3  SET n                 []  n = INT 3",
@@ -117,17 +117,71 @@ fn an_image_comes_from_standard_input() {
 
 #[test]
 fn ends_inside_a_round_are_told() {
-    // STRING "wrong", FORK, STOP: the child takes the next slot, has its turns in the same rounds and faults
+    // STRING "wrong", FORK, STOP: the child takes the next slot and goes on alone
     let forks = [3, b'w', b'r', b'o', b'n', b'g', 0, 68, 67];
     let bench = Bench::new("ends", &[("forks", &forks), ("wrong", WRONG_TYPE)]);
     let ran = bench.arduinos(&["run", "box.img", "forks", "--share", "forks=8", "--clock", "1"]);
     assert_eq!(ran.status, 1);
     assert!(ran.err.starts_with("wrong (ID 2) ended by fault 6 at offset 8: "), "{}", ran.err);
-    // An empty child ends in the round in which it was started: INT 0, INT 0, DIVIDEDBY takes three turns; no byte 0 one
+    // A child that ends in the round in which it was started: no work area between two rounds has it alive.
     let bench = Bench::new("at_once", &[("forks", &[3, b'z', 0, 68, 67]), ("z", &[0])]);
     let ran = bench.arduinos(&["run", "box.img", "forks", "--clock", "1"]);
     assert_eq!(ran.first_error(), "z (ID 2) ended by fault 1 at offset 0: byte 0 is no instruction");
     assert_eq!(ran.status, 1);
+}
+
+#[test]
+fn a_wait_is_shown_as_one() {
+    // MILLIS, INT 40, PLUS, DELAYUNTIL waits in round 4. CHAR 5, ENDWHILE goes back by 1, to itself: that is no wait
+    let wait = [45, 2, 0, 40, 9, 44, 1, 5, 64];
+    let bench = Bench::new("wait", &[("wait", &wait)]);
+    let ran = bench.arduinos(&["run", "box.img", "wait", "--clock", "10", "--rounds", "7", "--trace"]);
+    let waits: Vec<&str> = ran.out.lines().filter(|line| line.ends_with("  stays")).collect();
+    assert_eq!(waits, ["     4      40     0     1       5  DELAYUNTIL            [INT 50]  stays"]);
+    assert!(ran.out.ends_with("8  ENDWHILE              [byte 5]\n"), "{}", ran.out);
+}
+
+#[test]
+fn the_code_ends_in_a_trace_too() {
+    let bench = Bench::new("code-end", &[("short", &[65])]);
+    let ran = bench.arduinos(&["run", "box.img", "short", "--clock", "1", "--trace"]);
+    assert_eq!(
+        ran.out.lines().last(),
+        Some("     2       2     0     1       1  (the code's end)        ended by fault 2")
+    );
+}
+
+#[test]
+fn what_a_run_writes_is_checked_before_it_runs() {
+    let bench = Bench::new("outputs", &[("down", DOWN)]);
+    let before = bench.read("box.img");
+    for (options, status, message) in [
+        (vec!["--save-area", "box.img"], 2, "--save-area would write over the image"),
+        (vec!["--record", "./box.img"], 2, "--record would write over the image"),
+        (vec!["--record", "x", "--save-disc", "x"], 2, "--save-disc would write over the file of --record"),
+        (vec!["--save-disc", "x", "--save-area", "x"], 2, "--save-area would write over the file of --save-disc"),
+        (vec!["--save-disc", "-"], 2, "--save-disc wants a file: standard output has what the programs print"),
+        (vec!["--record", "-"], 2, "--record wants a file: standard output has what the programs print"),
+        (vec!["--record", "r", "--save-area", "no/x"], 1, "no/x: No such file or directory (os error 2)"),
+        (vec!["--record", "r", "--save-disc", "."], 1, ".: it is a folder"),
+    ] {
+        let ran = bench.arduinos(&[&["run", "box.img", "down"], options.as_slice()].concat());
+        assert_eq!((ran.status, ran.first_error()), (status, format!("arduinos run: {message}").as_str()));
+        assert_eq!((ran.out.as_str(), bench.names()), ("", vec!["box.img".to_string()]), "{options:?}");
+    }
+    assert_eq!(bench.read("box.img"), before);
+}
+
+#[test]
+fn a_record_is_whole_where_the_output_fails() {
+    let bench = Bench::new("full", &[("down", DOWN)]);
+    let words = ["run", "box.img", "down", "--clock", "1", "--record", "r", "--save-area", "a"];
+    let ran = bench.arduinos_to(&words, "/dev/full", "errors");
+    assert_eq!(ran, 1);
+    let message = "arduinos run: standard output: No space left on device (os error 28)\n";
+    assert_eq!(String::from_utf8(bench.read("errors")).unwrap(), message);
+    assert_eq!(bench.arduinos(&["replay", "r"]).status, 0);
+    assert!(bench.has("a"));
 }
 
 #[test]
@@ -144,7 +198,11 @@ fn what_is_refused_writes_nothing() {
         (vec!["no.img", "down"], 1, "no.img: No such file or directory (os error 2)"),
         (vec!["box.img"], 2, "NAME is missing: which program is to run?"),
         (vec![], 2, "IMAGE is missing"),
-        (vec!["box.img", "down", "--clock", "soon"], 2, "--clock wants 'real' or milliseconds, not 'soon'"),
+        (
+            vec!["box.img", "down", "--clock", "soon"],
+            2,
+            "--clock wants 'real' or milliseconds up to 4294967295, not 'soon'",
+        ),
         (
             vec!["box.img", "down", "--rounds", "-1"],
             2,
@@ -166,9 +224,13 @@ fn what_is_refused_writes_nothing() {
         assert_eq!(ran.out, "");
         assert!(!bench.has("r"), "{all:?} left a record");
     }
+}
+
+#[test]
+fn an_eleventh_process_is_refused() {
+    let bench = Bench::new("eleven", &[("down", DOWN)]);
     let eleven: Vec<&str> = ["run", "box.img"].into_iter().chain(["down"; 11]).collect();
     let ran = bench.arduinos(&eleven);
     let message = "arduinos run: run \"down\": ten processes live already (refusal 12)";
     assert_eq!((ran.status, ran.first_error()), (1, message));
-    assert_eq!(bench.arduinos(&["run", "box.img", "down", "--record", "box.img"]).status, 2);
 }

@@ -17,7 +17,7 @@ STATUS = re.compile(rb"\r\x1b\[K[0-9]+ rounds, [0-9]+ a second, 1 running")
 
 
 def on_terminal(command, seconds):
-    """Runs a command with its three streams on a terminal, and Ctrl-C after so many seconds. Its status and its text."""
+    """Runs a command on a terminal, with Ctrl-C after so many seconds. Its status and its text."""
     child, terminal = pty.fork()
     if child == 0:
         os.execv(command[0], command)

@@ -1,7 +1,9 @@
-//! The lengths behind IF, ELSE and WHILE, counted from where their blocks end.
+//! The lengths after IF, ELSE and WHILE, counted from where their blocks end.
 //!
 //! Blocks whose lengths are all given may have any shape, since a program may jump as it likes. A block with a length
-//! to be counted must have its end, and no end of another block may cross it.
+//! to be counted must have its end, and no end of another block may cross it. Where lengths are counted, an end that
+//! closes nothing is warned of: ENDIF also serves to take a number off the stack, and one that does so inside a block
+//! would be taken for the block's end.
 
 use super::message::{Message, Problem};
 use super::operands::Operands;
@@ -43,13 +45,24 @@ struct Blocks<'s, 'a> {
     statements: &'s [Placed<'a>],
     labels: &'s Labels<'a>,
     open: Vec<Opener>,
+    /// The counted block that each kind of end closed last: the indices of its opener and of its end.
+    closed: HashMap<&'static str, (usize, usize)>,
+    /// Whether the source leaves any lengths to be counted.
+    any_counted: bool,
     lengths: Lengths,
     problems: Vec<(usize, Problem)>,
 }
 
 pub fn count<'a>(statements: &[Placed<'a>], labels: &Labels<'a>, problems: &mut Vec<(usize, Problem)>) -> Lengths {
-    let mut blocks =
-        Blocks { statements, labels, open: vec![], lengths: Lengths::new(), problems: std::mem::take(problems) };
+    let mut blocks = Blocks {
+        statements,
+        labels,
+        open: vec![],
+        closed: HashMap::new(),
+        any_counted: statements.iter().any(|placed| placed.statement.is_counted()),
+        lengths: Lengths::new(),
+        problems: std::mem::take(problems),
+    };
     for index in 0..statements.len() {
         blocks.meet(index);
     }
@@ -68,14 +81,7 @@ impl Blocks<'_, '_> {
             "IF" => self.open.push(Opener { index, kind: Kind::If, is_counted }),
             "WHILE" => self.open.push(Opener { index, kind: Kind::While, is_counted }),
             "ELSE" => self.meet_else(index, is_counted),
-            "ENDIF" => {
-                let opener = self.close(index, |kind| kind != Kind::While).unwrap_or(None);
-                self.count_body(opener, index);
-            }
-            "ENDWHILE" => {
-                let opener = self.close(index, |kind| kind == Kind::While).unwrap_or(None);
-                self.count_while(opener, index);
-            }
+            "ENDIF" | "ENDWHILE" => self.meet_end(index),
             _ => {}
         }
     }
@@ -83,32 +89,49 @@ impl Blocks<'_, '_> {
     /// ELSE ends the body of its IF and begins one of its own.
     fn meet_else(&mut self, index: usize, is_counted: bool) {
         let mut counts = is_counted;
-        match self.close(index, |kind| kind != Kind::While) {
+        match self.close(index) {
             Err(()) => counts = false,
             Ok(None) if is_counted => {
-                self.tell(index, Message::ElseAlone {});
+                self.tell(index, Message::ElseAlone { hint: self.hint(index, 0) });
                 counts = false;
             }
+            Ok(None) => self.warn(index, "IF"),
             Ok(Some(other)) if other.kind == Kind::Else && (other.is_counted || is_counted) => {
                 let line = self.statements[other.index].line;
                 self.tell(index, Message::SecondElse { line });
                 counts = false;
             }
-            Ok(opener) => self.count_body(opener, index),
+            Ok(Some(opener)) => self.count_body(opener, index),
         }
         self.open.push(Opener { index, kind: Kind::Else, is_counted: counts });
     }
 
+    fn meet_end(&mut self, index: usize) {
+        let end = end_of(self.statements[index].statement.name());
+        match self.close(index) {
+            Err(()) => {}
+            Ok(None) => self.warn(index, if end == "ENDIF" { "IF" } else { "WHILE" }),
+            Ok(Some(opener)) => {
+                if opener.is_counted {
+                    self.closed.insert(end, (opener.index, index));
+                }
+                match opener.kind {
+                    Kind::If | Kind::Else => self.count_body(opener, index),
+                    Kind::While => self.count_while(opener, index),
+                }
+            }
+        }
+    }
+
     /// Takes the opener that an end belongs to off, and all that are open inside it. None if the end stands alone;
     /// an error if it would cross a block that is counted.
-    fn close(&mut self, index: usize, belongs: fn(Kind) -> bool) -> Result<Option<Opener>, ()> {
-        let own = self.open.iter().rposition(|opener| belongs(opener.kind));
-        let crossed = self.open.iter().rposition(|opener| opener.is_counted && !belongs(opener.kind));
-        if let Some(crossed) = crossed.filter(|&crossed| own.is_none_or(|own| own < crossed)) {
-            let opener = self.open[crossed];
-            let (end, found) = (opener.kind.end().to_string(), self.name(index));
-            let line = self.statements[opener.index].line;
-            self.tell(index, Message::WrongEnd { end, opener: self.name(opener.index), line, found });
+    fn close(&mut self, index: usize) -> Result<Option<Opener>, ()> {
+        let end = end_of(self.statements[index].statement.name());
+        let own = self.open.iter().rposition(|opener| opener.kind.end() == end);
+        let inside = own.map_or(0, |own| own + 1);
+        if let Some(crossed) = self.open[inside..].iter().rposition(|opener| opener.is_counted) {
+            let opener = self.open[inside + crossed];
+            self.tell_crossed(index, opener);
             // Both count as ended, so that one slip is told once.
             self.open.truncate(own.unwrap_or(crossed));
             return Err(());
@@ -118,9 +141,46 @@ impl Blocks<'_, '_> {
         Ok(opener)
     }
 
+    fn tell_crossed(&mut self, index: usize, opener: Opener) {
+        let message = Message::WrongEnd {
+            end: opener.kind.end().into(),
+            opener: self.name(opener.index),
+            line: self.statements[opener.index].line,
+            found: self.name(index),
+            hint: self.hint(index, opener.index),
+        };
+        self.tell(index, message);
+    }
+
+    /// An end that closes nothing is what a program without counted lengths may well have.
+    fn warn(&mut self, index: usize, opener: &str) {
+        if self.any_counted {
+            let (found, hint) = (self.name(index), self.hint(index, 0));
+            self.tell(index, Message::ClosesNone { found, opener: opener.into(), hint });
+        }
+    }
+
+    /// What helps if an end was to take a number off: this one, or the one that closed the last block, if that block
+    /// was opened at `since` or later.
+    fn hint(&self, index: usize, since: usize) -> String {
+        let name = self.statements[index].statement.name();
+        let end = end_of(name);
+        let closed = self.closed.get(end).filter(|(opener, _)| *opener >= since);
+        let place = closed.map(|&(opener, end)| {
+            let (first, last) = (self.statements[opener].line, self.statements[end].line);
+            format!(" (the {} of line {first} ended in line {last})", self.name(opener))
+        });
+        if name == "ELSE" && place.is_none() {
+            return String::new();
+        }
+        let taken = if end == "ENDIF" { "a number" } else { "a byte" };
+        let place = place.unwrap_or_default();
+        format!("{place}; an {end} that only takes {taken} off the stack is written DATA {end}")
+    }
+
     /// The length of IF or ELSE, up to the statement that ends its body.
-    fn count_body(&mut self, opener: Option<Opener>, end: usize) {
-        let Some(Opener { index, is_counted: true, .. }) = opener else { return };
+    fn count_body(&mut self, opener: Opener, end: usize) {
+        let Opener { index, is_counted: true, .. } = opener else { return };
         let length = self.statements[end].offset - self.past(index);
         if length > MAX_BODY {
             let message = Message::BodyTooLong { opener: self.name(index), end: self.name(end), length };
@@ -130,8 +190,8 @@ impl Blocks<'_, '_> {
     }
 
     /// The lengths of WHILE, up to its ENDWHILE.
-    fn count_while(&mut self, opener: Option<Opener>, end: usize) {
-        let Some(Opener { index, is_counted: true, .. }) = opener else { return };
+    fn count_while(&mut self, opener: Opener, end: usize) {
+        let Opener { index, is_counted: true, .. } = opener else { return };
         let body = self.statements[end].offset - self.past(index);
         let condition = match self.condition_start(index) {
             Ok(start) => self.statements[index].offset - start,
@@ -148,7 +208,7 @@ impl Blocks<'_, '_> {
         let placed = &self.statements[index];
         let Operands::From(label) = &placed.statement.operands else { return self.shortest_condition(index) };
         match self.labels.get(label.text) {
-            Some(found) if found.line <= placed.line => Ok(found.offset),
+            Some(found) if found.line < placed.line => Ok(found.offset),
             _ => Err(Message::UnknownLabel { name: label.text.into() }),
         }
     }
@@ -190,6 +250,15 @@ impl Blocks<'_, '_> {
             _ => placed.statement.problem(message),
         };
         self.problems.push((placed.line, problem));
+    }
+}
+
+/// The end that ELSE, ENDIF or ENDWHILE belongs with.
+fn end_of(name: &str) -> &'static str {
+    if name == "ENDWHILE" {
+        "ENDWHILE"
+    } else {
+        "ENDIF"
     }
 }
 

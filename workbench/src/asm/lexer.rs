@@ -32,6 +32,7 @@ impl Token<'_> {
         match self.kind {
             Kind::Word => match instruction::named(self.text) {
                 Some(found) => format!("the instruction {}", found.mnemonic),
+                None if self.text.eq_ignore_ascii_case("DATA") => "DATA".into(),
                 None => format!("'{}'", self.text),
             },
             Kind::Colon => "':'".into(),
@@ -72,10 +73,10 @@ pub fn tokens(line: &str) -> (Vec<Token<'_>>, Option<Problem>) {
     while !rest.is_empty() && !begins_comment(rest) {
         match token(rest) {
             Ok((kind, length)) => {
-                let (text, behind) = rest.split_at(length);
+                let (text, following) = rest.split_at(length);
                 let width = text.chars().count();
                 found.push(Token { kind, text, column, width });
-                (rest, column) = past_blanks(behind, column + width);
+                (rest, column) = past_blanks(following, column + width);
             }
             Err(Wrong { start, length, message }) => {
                 let column = column + rest[..start].chars().count();

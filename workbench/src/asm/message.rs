@@ -42,36 +42,40 @@ messages! {
     IntRange { found: String } "expected a whole number from -32768 to 32767, found {found}; with a point it is a FLOAT"
 
     Instruction { found: String, hint: String } "expected an instruction, a literal or DATA, found {found}{hint}"
-    EndOfLine { after: String, found: String } "expected the end of the line behind {after}, found {found}"
+    EndOfLine { after: String, found: String } "expected the end of the line after {after}, found {found}"
     Label { found: String } "expected a label in front of ':', found {found}"
     LabelTwice { name: String, line: usize } "expected a new label, found '{name}', the label of line {line}"
 
     CharArgument { found: String }
-        "expected a number from -128 to 255, a 'c' or an instruction behind CHAR, found {found}"
+        "expected a number from -128 to 255, a 'c' or an instruction after CHAR, found {found}"
     IntArgument { found: String }
-        "expected a whole number from -32768 to 32767, or two bytes, behind INT, found {found}"
-    FloatArgument { found: String } "expected a number, or four bytes, behind FLOAT, found {found}"
-    StringArgument { found: String } "expected \"text\", or bytes up to a zero, behind STRING, found {found}"
-    Byte { after: String, found: String } "expected a byte from 0 to 255 behind {after}, found {found}"
+        "expected a whole number from -32768 to 32767, or two bytes, after INT, found {found}"
+    FloatArgument { found: String } "expected a number, or four bytes, after FLOAT, found {found}"
+    StringArgument { found: String } "expected \"text\", or bytes up to a zero, after STRING, found {found}"
+    Byte { after: String, found: String } "expected a byte from 0 to 255 after {after}, found {found}"
     TextZero { } "expected text without a zero (STRING adds its own), found one"
     ZeroInside { } "expected a zero only at the end of STRING's bytes, found one before"
     ZeroMissing { } "expected a zero at the end of STRING's bytes, found the end of the line"
+    ReservedName { after: String, found: String }
+        "expected a variable after {after}, found {found}: that name cannot be a variable's"
     Variable { after: String, found: String }
-        "expected a variable behind {after} (a letter, a 'c', a number from 0 to 255 or a name), found {found}"
+        "expected a variable after {after} (a letter, a 'c', a number from 0 to 255 or a name), found {found}"
     TooManyVariables { name: String } "expected at most 256 variables, found one more: '{name}'"
     Length { after: String, found: String }
-        "expected a length from 0 to 255, or the end of the line, behind {after}, found {found}"
+        "expected a length from 0 to 255, or the end of the line, after {after}, found {found}"
     Lengths { found: String }
-        "expected two lengths from 0 to 255, a label, or the end of the line behind WHILE, found {found}"
-    UnknownLabel { name: String } "expected the label of an earlier line behind WHILE, found '{name}'"
+        "expected two lengths from 0 to 255, a label, or the end of the line after WHILE, found {found}"
+    SecondLength { first: String, found: String }
+        "expected a second length from 0 to 255 (the body's) after WHILE {first}, found {found}"
+    UnknownLabel { name: String } "expected the label of an earlier line after WHILE, found '{name}'"
     Data { found: String }
-        "expected bytes behind DATA (0 to 255, a 'c', \"text\" or an instruction), found {found}"
+        "expected bytes after DATA (0 to 255, a 'c', \"text\" or an instruction), found {found}"
 
     NoEnd { opener: String, end: String } "expected {end} for this {opener}, found the end of the source"
-    WrongEnd { end: String, opener: String, line: usize, found: String }
-        "expected {end} for the {opener} of line {line}, found {found}"
+    WrongEnd { end: String, opener: String, line: usize, found: String, hint: String }
+        "expected {end} for the {opener} of line {line}, found {found}{hint}"
     SecondElse { line: usize } "expected ENDIF for the ELSE of line {line}, found another ELSE"
-    ElseAlone { } "expected an IF before this ELSE, or a length behind it, found neither"
+    ElseAlone { hint: String } "expected an open IF before this ELSE, or a length after it, found neither{hint}"
     BodyTooLong { opener: String, end: String, length: usize }
         "expected at most 255 bytes between {opener} and {end}, found {length}"
     WhileTooLong { length: usize }
@@ -81,6 +85,16 @@ messages! {
     ConditionUnclear { found: String, line: usize }
         "expected a condition of plain instructions before WHILE, found {found} in line {line}; \
          put a label where the condition begins: WHILE label"
+
+    ClosesNone { found: String, opener: String, hint: String } "this {found} closes no {opener}{hint}"
+    NotBuilt { found: String } "{found} is not built: the box ends the process by fault 1 here"
+}
+
+impl Message {
+    /// Whether the source is assembled all the same.
+    pub fn is_warning(&self) -> bool {
+        matches!(self, Message::ClosesNone { .. } | Message::NotBuilt { .. })
+    }
 }
 
 /// A message and the characters of a line that it is about, counted from 1.
@@ -91,15 +105,15 @@ pub struct Problem {
     pub message: Message,
 }
 
-/// A problem and the source line that has it.
+/// An error or a warning: a problem and the source line that has it.
 #[derive(Clone, Debug, PartialEq, Eq)]
-pub struct Error {
+pub struct Diagnostic {
     pub line: usize,
     pub problem: Problem,
     pub text: String,
 }
 
-impl Error {
+impl Diagnostic {
     /// 'FILE:LINE:COLUMN: message', the source line, and a caret under the column.
     pub fn render(&self, file: &str) -> String {
         let Problem { column, width, message } = &self.problem;
@@ -108,7 +122,8 @@ impl Error {
         let indent: String =
             text.chars().take(column.saturating_sub(1)).map(|c| if c == '\t' { '\t' } else { ' ' }).collect();
         let tail = "~".repeat(width.saturating_sub(1));
-        format!("{file}:{}:{column}: {message}\n{text}\n{indent}^{tail}\n", self.line)
+        let mark = if message.is_warning() { "warning: " } else { "" };
+        format!("{file}:{}:{column}: {mark}{message}\n{text}\n{indent}^{tail}\n", self.line)
     }
 }
 

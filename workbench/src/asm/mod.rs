@@ -9,7 +9,7 @@ mod operands;
 mod parser;
 
 pub use listing::listing;
-pub use message::{Error, Message, Problem};
+pub use message::{Diagnostic, Message, Problem};
 
 use names::Names;
 use operands::Operands;
@@ -23,6 +23,8 @@ pub struct Program {
     pub lines: Vec<Assembled>,
     /// Names of several characters, with the bytes that stand for them.
     pub variables: Vec<(String, u8)>,
+    /// What is probably not meant, in the order of lines.
+    pub warnings: Vec<Diagnostic>,
 }
 
 /// The bytes of a source line, counted from 1.
@@ -50,22 +52,37 @@ struct Label {
 
 type Labels<'a> = HashMap<&'a str, Label>;
 
-/// The program of a source text, or all that is wrong with the text, at most one error a line, in order.
-pub fn assemble(source: &[u8]) -> Result<Program, Vec<Error>> {
+/// The program of a source text, or all errors of the text, at most one a line, in order.
+pub fn assemble(source: &[u8]) -> Result<Program, Vec<Diagnostic>> {
     let source = without_mark(source);
     let text = std::str::from_utf8(source).map_err(|error| vec![not_text(source, error.valid_up_to())])?;
     let texts: Vec<&str> = text.lines().collect();
     let mut problems = Vec::new();
     let (statements, labels) = read(&texts, &mut problems);
+    problems.extend(statements.iter().filter_map(not_built));
     let names = Names::assign(&statements, &mut problems);
     let lengths = blocks::count(&statements, &labels, &mut problems);
-    if problems.is_empty() {
-        return Ok(program(&statements, &names, &lengths));
+    let (warnings, errors): (Vec<_>, Vec<_>) =
+        problems.into_iter().partition(|(_, problem)| problem.message.is_warning());
+    if !errors.is_empty() {
+        return Err(in_order(errors, &texts));
     }
+    Ok(Program { warnings: in_order(warnings, &texts), ..program(&statements, &names, &lengths) })
+}
+
+/// One for each line: what else is wrong there may come of the first.
+fn in_order(mut problems: Vec<(usize, Problem)>, texts: &[&str]) -> Vec<Diagnostic> {
     problems.sort_by_key(|(line, _)| *line);
     problems.dedup_by_key(|(line, _)| *line);
-    let error = |(line, problem): (usize, Problem)| Error { line, problem, text: texts[line - 1].to_string() };
-    Err(problems.into_iter().map(error).collect())
+    let diagnostic = |(line, problem)| Diagnostic { line, problem, text: texts[line - 1].to_string() };
+    problems.into_iter().map(diagnostic).collect()
+}
+
+/// The warning of an instruction that the box does not execute.
+fn not_built(placed: &Placed) -> Option<(usize, Problem)> {
+    let instruction = placed.statement.instruction.filter(|instruction| !instruction.built)?;
+    let message = Message::NotBuilt { found: instruction.mnemonic.into() };
+    Some((placed.line, placed.statement.problem(message)))
 }
 
 /// Editors may put a byte order mark in front of a text.
@@ -115,12 +132,12 @@ fn program(statements: &[Placed], names: &Names, lengths: &blocks::Lengths) -> P
 }
 
 /// The error of a source that is no text from a byte on.
-fn not_text(source: &[u8], at: usize) -> Error {
+fn not_text(source: &[u8], at: usize) -> Diagnostic {
     let start = source[..at].iter().rposition(|&byte| byte == b'\n').map_or(0, |newline| newline + 1);
     let end = source[at..].iter().position(|&byte| byte == b'\n').map_or(source.len(), |newline| at + newline);
     let column = String::from_utf8_lossy(&source[start..at]).chars().count() + 1;
     let line = source[..start].iter().filter(|&&byte| byte == b'\n').count() + 1;
     let message = Message::NotText { byte: source.get(at).copied().unwrap_or(0) };
     let text = String::from_utf8_lossy(&source[start..end]).trim_end_matches('\r').to_string();
-    Error { line, problem: Problem { column, width: 1, message }, text }
+    Diagnostic { line, problem: Problem { column, width: 1, message }, text }
 }

@@ -1,4 +1,4 @@
-//! What stands behind an instruction in the source.
+//! What follows an instruction in the source.
 
 use super::lexer::{is_negative_infinity, with_ascii_minus, Kind, Token};
 use super::message::{Message, Problem};
@@ -25,14 +25,14 @@ pub enum Operands<'a> {
 
 type Read<'a> = Result<Operands<'a>, Problem>;
 
-/// The tokens behind an instruction or DATA, and where the line ends.
-pub struct Behind<'t, 'a> {
+/// The tokens after an instruction or DATA, and where the line ends.
+pub struct Following<'t, 'a> {
     pub name: &'a str,
     pub tokens: &'t [Token<'a>],
     pub end: usize,
 }
 
-impl<'a> Behind<'_, 'a> {
+impl<'a> Following<'_, 'a> {
     pub fn operands(&self, instruction: &Instruction) -> Read<'a> {
         match instruction.arguments {
             Arguments::None => self.bytes_to_end(0, vec![]),
@@ -60,7 +60,7 @@ impl<'a> Behind<'_, 'a> {
         Ok(Operands::Bytes(bytes))
     }
 
-    /// Refuses tokens behind the first `count`.
+    /// Refuses tokens after the first `count`.
     pub fn to_end(&self, count: usize) -> Result<(), Problem> {
         if self.tokens.len() <= count {
             return Ok(());
@@ -82,7 +82,7 @@ impl<'a> Behind<'_, 'a> {
         self.problem(index, |found| Message::Byte { after: self.name.into(), found })
     }
 
-    /// INT and FLOAT have single bytes behind them if two tokens could be some.
+    /// INT and FLOAT have single bytes after them if two tokens could be some.
     fn has_bytes(&self) -> bool {
         matches!(self.tokens, [first, second, ..] if first.is_byte_like() && second.is_byte_like())
     }
@@ -148,8 +148,11 @@ impl<'a> Behind<'_, 'a> {
     }
 
     fn variable(&self) -> Read<'a> {
+        if self.tokens.first().is_some_and(|token| is_reserved(token.text)) {
+            return Err(self.problem(0, |found| Message::ReservedName { after: self.name.into(), found }));
+        }
         let variable = self.tokens.first().and_then(|token| match token.kind {
-            Kind::Word if is_reserved(token.text) || is_negative_infinity(token.text) => None,
+            Kind::Word if is_negative_infinity(token.text) => None,
             Kind::Word => match token.text.as_bytes() {
                 &[letter] => Some(Operands::Bytes(vec![letter])),
                 _ => Some(Operands::Variable(token.clone())),
@@ -172,22 +175,23 @@ impl<'a> Behind<'_, 'a> {
     }
 
     fn lengths(&self) -> Read<'a> {
-        let wrong = |index| self.problem(index, |found| Message::Lengths { found });
         match self.tokens {
             [] => Ok(Operands::Counted),
             [label, ..] if label.kind == Kind::Word && !is_reserved(label.text) => {
                 self.to_end(1)?;
                 Ok(Operands::From(label.clone()))
             }
-            [condition, ..] => {
-                let condition = number(condition).ok_or_else(|| wrong(0))?;
-                let body = self.tokens.get(1).and_then(number).ok_or_else(|| wrong(1))?;
+            [first, ..] => {
+                let wrong = |found| Message::Lengths { found };
+                let condition = number(first).ok_or_else(|| self.problem(0, wrong))?;
+                let wrong = |found| Message::SecondLength { first: first.text.into(), found };
+                let body = self.tokens.get(1).and_then(number).ok_or_else(|| self.problem(1, wrong))?;
                 self.bytes_to_end(2, vec![condition, body])
             }
         }
     }
 
-    /// What stands behind DATA.
+    /// What follows DATA.
     pub fn data(&self) -> Read<'a> {
         let wrong = |index| self.problem(index, |found| Message::Data { found });
         if self.tokens.is_empty() {

@@ -1,8 +1,8 @@
-//! A source line: a label, an instruction with what stands behind it, or both, or neither.
+//! A source line: a label, an instruction with what follows it, or both, or neither.
 
 use super::lexer::{self, is_negative_infinity, Kind, Token};
 use super::message::{Message, Problem};
-use super::operands::{self, is_reserved, Behind, Operands};
+use super::operands::{self, is_reserved, Following, Operands};
 use crate::instruction::{self, Arguments, Instruction};
 
 /// A longer word is no misspelt mnemonic.
@@ -63,8 +63,8 @@ pub fn line(text: &str) -> Line<'_> {
     let (statement, problem) = match rest.split_first() {
         None if unread.is_none() => (None, None),
         None => (Some(Statement { column: 1, width: 1, instruction: None, operands: Operands::Unread }), None),
-        Some((head, behind)) => {
-            let (statement, problem) = statement(head, behind, line_end(rest));
+        Some((head, following)) => {
+            let (statement, problem) = statement(head, following, line_end(rest));
             (Some(statement), problem)
         }
     };
@@ -82,14 +82,14 @@ fn label_problem(label: &Token) -> Option<Problem> {
 
 /// The statement of an instruction, DATA or a literal; of a wrong one its problem too.
 fn statement<'a>(head: &Token<'a>, tokens: &[Token<'a>], end: usize) -> (Statement<'a>, Option<Problem>) {
-    let behind = |name| Behind { name, tokens, end };
+    let following = |name| Following { name, tokens, end };
     let (instruction, operands) = match (instruction::named(head.text), operands::literal(head)) {
-        (Some(found), _) => (Some(found), behind(found.mnemonic).operands(found)),
+        (Some(found), _) => (Some(found), following(found.mnemonic).operands(found)),
         (None, Some((number, bytes))) => {
-            let bytes = bytes.and_then(|bytes| behind(head.text).to_end(0).map(|()| Operands::Bytes(bytes)));
+            let bytes = bytes.and_then(|bytes| following(head.text).to_end(0).map(|()| Operands::Bytes(bytes)));
             (instruction::of_byte(number), bytes)
         }
-        (None, None) if is_reserved(head.text) => (None, behind("DATA").data()),
+        (None, None) if is_reserved(head.text) => (None, following("DATA").data()),
         (None, None) => unknown(head),
     };
     let (operands, problem) = match operands {

@@ -1,7 +1,7 @@
 //! Faults 1 and 2: "1 no such instruction; 2 code ended".
 
 use super::words::{are, byte_text, bytes_text};
-use crate::instruction::{self, Arguments, Instruction};
+use crate::instruction::{self, Instruction};
 use std::fmt;
 
 #[derive(Clone, Debug)]
@@ -30,16 +30,12 @@ pub(super) fn fetched(code: &[u8], offset: usize) -> Result<(&'static Instructio
     instruction::at(code, offset).ok_or_else(|| cut_off(instruction, code.len() - offset - 1))
 }
 
-/// Not all of its arguments are among the bytes that are left behind it.
+/// Not all of its arguments are among the bytes that are left after it.
 fn cut_off(instruction: &Instruction, left: usize) -> Reason {
-    let wanted = match instruction.arguments {
-        Arguments::Text => return Reason::NoZero,
-        Arguments::None => 0,
-        Arguments::Char | Arguments::Name | Arguments::Length => 1,
-        Arguments::Int | Arguments::Lengths => 2,
-        Arguments::Float => 4,
-    };
-    Reason::ArgumentsCutOff { mnemonic: instruction.mnemonic, wanted, left }
+    match instruction.arguments.length() {
+        Some(wanted) => Reason::ArgumentsCutOff { mnemonic: instruction.mnemonic, wanted, left },
+        None => Reason::NoZero,
+    }
 }
 
 impl Reason {
@@ -59,7 +55,7 @@ impl fmt::Display for Reason {
             Reason::NotBuilt(mnemonic) => write!(f, "{mnemonic} is not built"),
             Reason::CodeEnded => write!(f, "the code ends here, without STOP"),
             Reason::ArgumentsCutOff { mnemonic, wanted, left } => {
-                write!(f, "{mnemonic} wants {} behind it, {} left", bytes_text(*wanted), are(*left))
+                write!(f, "{mnemonic} wants {} after it, {} left", bytes_text(*wanted), are(*left))
             }
             Reason::NoZero => write!(f, "STRING has no zero before the code's end"),
         }

@@ -3,7 +3,7 @@
 
 use super::words::{are, byte_text, bytes_text, plain};
 use super::{variable, Turn};
-use crate::layout::{self, DATA_START, MAX_FILES, NAME_LEN};
+use crate::layout::{self, DATA_START, MAX_FILES, NAME_BYTES, NAME_LEN};
 use crate::literal;
 use crate::value::Value;
 use std::fmt;
@@ -63,11 +63,11 @@ pub(super) fn tried(turn: &Turn) -> Result<(), Reason> {
 }
 
 fn open_file(turn: &Turn) -> Result<OpenFile, Reason> {
-    let (start, length) = (turn.record.file_start(), turn.record.file_length());
+    let length = turn.record.file_length();
     if length == 0 {
         return Err(Reason::NoOpenFile(turn.instruction.mnemonic));
     }
-    let entry = layout::entries(turn.disc).into_iter().find(|entry| entry.start == start && entry.length == length);
+    let entry = turn.record.open_file(&layout::entries(turn.disc));
     let name = entry.map_or(String::new(), |entry| layout::name_text(entry.name));
     Ok(OpenFile { name, length, left: length.saturating_sub(turn.record.file_offset()) })
 }
@@ -106,19 +106,16 @@ fn create(disc: &[u8], name: &[u8], size: &Value) -> Result<(), Refused> {
     if !(1..NAME_LEN).contains(&name.len()) {
         return Err(Refused::NameLength(name.len()));
     }
-    if let Some(&byte) = name.iter().find(|byte| !(b'!'..=b'~').contains(byte)) {
+    if let Some(&byte) = name.iter().find(|byte| !NAME_BYTES.contains(byte)) {
         return Err(Refused::NameByte(byte));
     }
     let most = disc.len() - DATA_START;
     let fitting = cut(size).filter(|size| (1..=most).contains(size));
     let wanted = fitting.ok_or(Refused::Size { size: size.clone(), most })?;
-    let entries = layout::entries(disc);
-    if entries.len() >= MAX_FILES {
+    if layout::entries(disc).len() >= MAX_FILES {
         return Err(Refused::TenFiles);
     }
-    let taken: Vec<_> = entries.iter().map(|entry| entry.start..entry.end()).collect();
-    let runs = layout::free_runs(DATA_START..disc.len(), &taken);
-    let longest = runs.iter().map(|run| run.len()).max().unwrap_or(0);
+    let longest = layout::longest(&layout::free_bytes(disc));
     if longest < wanted {
         return Err(Refused::NoRun { wanted, longest });
     }
@@ -176,7 +173,8 @@ impl fmt::Display for Refused {
                 write!(f, " of that name: a name has 1 to {} bytes, not {length}", NAME_LEN - 1)
             }
             Refused::NameByte(byte) => {
-                write!(f, " of that name: {} cannot be in a name, only 33 to 126 can", byte_text(*byte))
+                let (least, most) = (NAME_BYTES.start(), NAME_BYTES.end());
+                write!(f, " of that name: {} cannot be in a name, only {least} to {most} can", byte_text(*byte))
             }
             Refused::Size { size, most } => {
                 write!(f, " of the size {}: a file has 1 to {most} bytes", plain(size))?;

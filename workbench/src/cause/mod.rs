@@ -2,10 +2,12 @@
 //! two.
 //!
 //! Document 01, "Faults, tried in this order": 1 and 2 (`fetch`), for each popped value 5 and 6 (`operand`), 7 and 8
-//! (`number`), 9 and 10 (`variable`), 11 to 13 (`file`), 4 (`room`), 3 (`jump`).
+//! (`number`), 9 and 10 (`variable`), 11 to 13 (`file`), 4 (`room`), 3 (`jump`). An instruction that no listing of the
+//! program shows is told beside the reason (`inside`).
 
 pub mod fetch;
 pub mod file;
+pub mod inside;
 pub mod jump;
 pub mod number;
 pub mod operand;
@@ -16,6 +18,7 @@ mod words;
 use crate::instruction::Instruction;
 use crate::layout::{Record, AREA_LEN, LONG_DISC, MAX_PROCESSES, RUNNING, SHORT_DISC};
 use crate::value::Value;
+use inside::Inside;
 use std::fmt;
 
 /// The fault that a turn ends its process with, and why.
@@ -25,7 +28,9 @@ pub struct Cause {
     /// The instruction's place, from the code's beginning.
     pub offset: usize,
     pub reason: Reason,
-    /// The reason in words; they complete 'blink (ID 3) ended by fault 6 at offset 12: '.
+    /// Where the offset is no instruction's beginning.
+    pub inside: Option<Inside>,
+    /// All this in words; they complete 'blink (ID 3) ended by fault 6 at offset 12: '.
     pub words: String,
 }
 
@@ -91,8 +96,8 @@ impl Turn<'_> {
 }
 
 /// Of good buffers as the turn of a running slot finds them: the fault that this turn will end its process with; none
-/// if the instruction does not fault. The clock is part of what a turn finds, but no fault depends on it.
-pub fn of_turn(disc: &[u8], area: &[u8], slot: usize, _clock: u32) -> Option<Cause> {
+/// if the instruction does not fault. No fault depends on the clock.
+pub fn of_turn(disc: &[u8], area: &[u8], slot: usize) -> Option<Cause> {
     let lengths_are_right = matches!(disc.len(), SHORT_DISC | LONG_DISC) && area.len() == AREA_LEN;
     if !lengths_are_right || slot >= MAX_PROCESSES {
         return None;
@@ -101,8 +106,11 @@ pub fn of_turn(disc: &[u8], area: &[u8], slot: usize, _clock: u32) -> Option<Cau
     if record.state() != RUNNING {
         return None;
     }
-    let reason = tried(disc, area, record, record.code(disc)?).err()?;
-    Some(Cause { fault: reason.fault(), offset: record.pc(), words: reason.to_string(), reason })
+    let (code, offset) = (record.code(disc)?, record.pc());
+    let reason = tried(disc, area, record, code).err()?;
+    let inside = Inside::of(code, offset);
+    let words = inside.as_ref().map_or(reason.to_string(), |inside| format!("{reason}; {inside}"));
+    Some(Cause { fault: reason.fault(), offset, reason, inside, words })
 }
 
 /// "Faults, tried in this order".

@@ -4,7 +4,7 @@
 use super::words::{bytes_text, list, plain, the, TOP};
 use crate::instruction::{self, Instruction, Taken};
 use crate::literal;
-use crate::value::{self, type_name, Value, CHAR, FLOAT, INT, STRING};
+use crate::value::{self, type_name, Unread, Value, CHAR, FLOAT, INT, STRING};
 use std::fmt;
 
 /// What an instruction found where it takes a value.
@@ -13,8 +13,9 @@ pub struct Reason {
     pub instruction: &'static Instruction,
     /// The values popped before, top first.
     pub above: Vec<Value>,
-    /// None if nothing lay there.
-    pub found: Option<Found>,
+    pub found: Found,
+    /// Where no value lay: the offset of a WHILE that pushes such a byte.
+    pub pushed_at: Option<usize>,
 }
 
 #[derive(Clone, Debug)]
@@ -23,27 +24,8 @@ pub enum Found {
     Value(Value),
     /// A type that is not taken, with no whole value of it below.
     BareType(u8),
-    /// A byte that is no type, and the offset of the WHILE around that pushes it.
-    Byte {
-        byte: u8,
-        pushed_at: Option<usize>,
-    },
-    /// A number's type, and how many bytes lie below it.
-    ShortNumber {
-        kind: u8,
-        left: usize,
-    },
-    /// The type STRING alone.
-    NoLength,
-    ShortText {
-        length: u8,
-        left: usize,
-    },
-    /// Length 0.
-    EmptyText,
-    /// The last byte is not zero.
-    UnendedText(Vec<u8>),
-    InnerZero(Vec<u8>),
+    /// No value: nothing, no type, or a type that is taken, with no whole value of it below.
+    Unread(Unread),
 }
 
 /// The values that an instruction takes off a stack, top first, and the bytes below them.
@@ -53,56 +35,35 @@ pub(super) fn popped<'a>(
     code: &[u8],
     offset: usize,
 ) -> Result<(Vec<Value>, &'a [u8]), Reason> {
-    let mut values = Vec::new();
+    let mut above = Vec::new();
     let mut rest = stack;
     for &taken in instruction.pops {
         match pop(rest, taken) {
             Ok((value, below)) => {
-                values.push(value);
+                above.push(value);
                 rest = below;
             }
             Err(found) => {
-                let found = found.map(|found| traced(found, code, offset));
-                return Err(Reason { instruction, above: values, found });
+                let pushed_at = found.byte().and_then(|byte| while_pushing(code, offset, byte));
+                return Err(Reason { instruction, above, found, pushed_at });
             }
         }
     }
-    Ok((values, rest))
+    Ok((above, rest))
 }
 
-/// The topmost value and the bytes below it.
-fn pop(stack: &[u8], taken: Taken) -> Result<(Value, &[u8]), Option<Found>> {
-    let (&kind, below) = stack.split_last().ok_or(None)?;
+/// The topmost value, if it is taken, and the bytes below it.
+fn pop(stack: &[u8], taken: Taken) -> Result<(Value, &[u8]), Found> {
+    let (&kind, below) = stack.split_last().ok_or(Found::Unread(Unread::Nothing))?;
     if taken == Taken::Byte {
         return Ok((Value::Byte(kind), below));
     }
-    if !types(taken).contains(&kind) {
-        return Err(Some(not_taken(stack, kind)));
-    }
-    if kind == STRING {
-        return pop_text(below).map_err(Some);
-    }
-    pop_number(kind, below).ok_or(Some(Found::ShortNumber { kind, left: below.len() }))
-}
-
-/// A number, its type taken off; none if there are too few bytes.
-fn pop_number(kind: u8, stack: &[u8]) -> Option<(Value, &[u8])> {
-    let start = stack.len().checked_sub(usize::from(kind))?;
-    let (rest, bytes) = stack.split_at(start);
-    Value::of(kind, bytes).map(|value| (value, rest))
-}
-
-/// A string, its type taken off: "A popped string must have length 1 or more and its only zero last."
-fn pop_text(stack: &[u8]) -> Result<(Value, &[u8]), Found> {
-    let (&length, below) = stack.split_last().ok_or(Found::NoLength)?;
-    let short = Found::ShortText { length, left: below.len() };
-    let start = below.len().checked_sub(usize::from(length)).ok_or(short)?;
-    let (rest, bytes) = below.split_at(start);
-    match bytes {
-        [] => Err(Found::EmptyText),
-        [text @ .., 0] if !text.contains(&0) => Ok((Value::Text(text.to_vec()), rest)),
-        [.., 0] => Err(Found::InnerZero(bytes.to_vec())),
-        _ => Err(Found::UnendedText(bytes.to_vec())),
+    match value::read(stack) {
+        Ok((value, _)) if !types(taken).contains(&kind) => Err(Found::Value(value)),
+        Ok(read) => Ok(read),
+        Err(Unread::NoType(byte)) => Err(Found::Unread(Unread::NoType(byte))),
+        Err(_) if !types(taken).contains(&kind) => Err(Found::BareType(kind)),
+        Err(unread) => Err(Found::Unread(unread)),
     }
 }
 
@@ -118,50 +79,26 @@ fn types(taken: Taken) -> &'static [u8] {
     }
 }
 
-/// What lies there instead of a value that is taken.
-fn not_taken(stack: &[u8], kind: u8) -> Found {
-    match value::top(stack) {
-        None | Some((Value::Byte(_), _)) if (CHAR..=FLOAT).contains(&kind) => Found::BareType(kind),
-        None | Some((Value::Byte(_), _)) => Found::Byte { byte: kind, pushed_at: None },
-        Some((value, _)) => Found::Value(value),
-    }
-}
-
-/// Looks for the WHILE that a byte is of.
-fn traced(found: Found, code: &[u8], offset: usize) -> Found {
-    match found {
-        Found::Byte { byte, .. } => Found::Byte { byte, pushed_at: while_around(code, offset, byte) },
-        other => other,
-    }
-}
-
-/// The innermost WHILE with this place in its body that pushes this byte, c + b + 4; the code is read from its start.
-fn while_around(code: &[u8], place: usize, byte: u8) -> Option<usize> {
-    let mut around = None;
-    let mut offset = 0;
-    while offset < place {
-        let Some((instruction, arguments)) = instruction::at(code, offset) else {
-            offset += 1;
-            continue;
-        };
-        let next = offset + 1 + arguments.len();
-        if let ("WHILE", &[condition, body]) = (instruction.mnemonic, arguments) {
-            let pushed = u16::from(condition) + u16::from(body) + 4;
-            if pushed == u16::from(byte) && (next..=next + usize::from(body)).contains(&place) {
-                around = Some(offset);
-            }
-        }
-        offset = next;
-    }
-    around
+/// The WHILE of the listing that pushes this byte, c + b + 4: the innermost with this place in its body, else the last.
+fn while_pushing(code: &[u8], place: usize, byte: u8) -> Option<usize> {
+    let pushing = instruction::listed(code).filter_map(|(start, instruction, arguments)| {
+        let ("WHILE", &[condition, body]) = (instruction.mnemonic, arguments) else { return None };
+        let first = start + 1 + arguments.len();
+        let is_around = (first..=first + usize::from(body)).contains(&place);
+        let pushed = u16::from(condition) + u16::from(body) + 4;
+        (pushed == u16::from(byte)).then_some((is_around, start))
+    });
+    pushing.max().map(|(_, start)| start)
 }
 
 impl Reason {
     pub fn fault(&self) -> u8 {
-        match self.found {
-            None | Some(Found::ShortNumber { .. } | Found::NoLength | Found::ShortText { .. }) => 5,
-            Some(Found::Value(_) | Found::BareType(_) | Found::Byte { .. }) => 6,
-            Some(Found::EmptyText | Found::UnendedText(_) | Found::InnerZero(_)) => 6,
+        match &self.found {
+            Found::Value(_) | Found::BareType(_) => 6,
+            Found::Unread(Unread::Nothing | Unread::ShortNumber { .. } | Unread::NoLength) => 5,
+            Found::Unread(Unread::ShortText { .. }) => 5,
+            Found::Unread(Unread::NoType(_) | Unread::EmptyText) => 6,
+            Found::Unread(Unread::UnendedText(_) | Unread::InnerZero(_)) => 6,
         }
     }
 
@@ -183,51 +120,72 @@ impl Reason {
             _ => "fifth from the top".into(),
         }
     }
+
+    /// Where bytes that are no value can be from: a WHILE pushes one, which can be 4, the type FLOAT, and ENDWHILE
+    /// takes one, whatever it is of.
+    fn origin(&self) -> String {
+        let Some(byte) = self.found.byte() else { return String::new() };
+        let is_type = type_name(byte) != "?";
+        match self.pushed_at {
+            Some(offset) if is_type => {
+                format!("; it can be the byte {byte} that the WHILE at offset {offset} pushes for its ENDWHILE")
+            }
+            Some(offset) => format!(", as the WHILE at offset {offset} pushes for its ENDWHILE"),
+            None if is_type => "; an ENDWHILE can have taken a byte of a value".into(),
+            None => ", which is no type; an ENDWHILE can have taken a byte of a value".into(),
+        }
+    }
 }
 
 impl Found {
-    /// What no instruction but ENDWHILE leaves: it takes one byte, whatever it is of.
-    fn is_spoilt(&self) -> bool {
-        !matches!(self, Found::Value(_) | Found::Byte { .. })
+    /// The topmost byte where there is one and it is not a value's.
+    fn byte(&self) -> Option<u8> {
+        match self {
+            Found::Value(_) | Found::Unread(Unread::Nothing) => None,
+            Found::BareType(byte) | Found::Unread(Unread::NoType(byte)) => Some(*byte),
+            Found::Unread(Unread::ShortNumber { kind, .. }) => Some(*kind),
+            Found::Unread(_) => Some(STRING),
+        }
     }
 }
 
 /// 'PLUS takes numbers; on top of the stack lay the string "abc"'.
 impl fmt::Display for Reason {
     fn fmt(&self, f: &mut fmt::Formatter<'_>) -> fmt::Result {
-        write!(f, "{} takes {}; ", self.instruction.mnemonic, takes(self.instruction, self.found.is_none()))?;
-        let Some(found) = &self.found else { return f.write_str(&self.held()) };
-        write!(f, "{} lay {found}", self.place())?;
-        match found.is_spoilt() {
-            true => write!(f, "; an ENDWHILE can have taken a byte of it"),
-            false => Ok(()),
+        let is_missing = matches!(self.found, Found::Unread(Unread::Nothing));
+        write!(f, "{} takes {}; ", self.instruction.mnemonic, takes(self.instruction, is_missing))?;
+        match &self.found {
+            _ if is_missing => f.write_str(&self.held()),
+            found => write!(f, "{} lay {}{}", self.place(), lay(found), self.origin()),
         }
     }
 }
 
-impl fmt::Display for Found {
-    fn fmt(&self, f: &mut fmt::Formatter<'_>) -> fmt::Result {
-        match self {
-            Found::Value(value) => write!(f, "{}", the(value)),
-            Found::BareType(kind) => write!(f, "the type {0}, with no whole {0} below it", type_name(*kind)),
-            Found::Byte { byte, pushed_at: Some(offset) } => {
-                write!(f, "the byte {byte}, which the WHILE at offset {offset} pushes for its ENDWHILE")
-            }
-            Found::Byte { byte, pushed_at: None } => write!(f, "the byte {byte}, which is no type of a value"),
-            Found::ShortNumber { kind, left } => {
-                let there = if *left == 0 { "none".into() } else { format!("only {left}") };
-                write!(f, "the type {}, with {there} of its {}", type_name(*kind), bytes_text(usize::from(*kind)))?;
-                write!(f, " below it")
-            }
-            Found::NoLength => write!(f, "the type STRING, with no length below it"),
-            Found::ShortText { length, left } => {
-                let there = if *left == 0 { "no byte".into() } else { format!("only {}", bytes_text(*left)) };
-                write!(f, "a string of length {length}, with {there} below it")
-            }
-            Found::EmptyText => write!(f, "a string of length 0, without its zero"),
-            Found::UnendedText(bytes) => write!(f, "a string that ends without a zero, {}", literal::text(bytes)),
-            Found::InnerZero(bytes) => write!(f, "a string with a zero inside, {}", literal::text(bytes)),
+fn lay(found: &Found) -> String {
+    match found {
+        Found::Value(value) => the(value),
+        Found::BareType(kind) => format!("the type {0}, with no whole {0} below it", type_name(*kind)),
+        Found::Unread(unread) => no_value(unread),
+    }
+}
+
+fn no_value(unread: &Unread) -> String {
+    match unread {
+        Unread::Nothing => "nothing".into(),
+        Unread::NoType(byte) => format!("the byte {byte}"),
+        Unread::ShortNumber { kind, left } => {
+            let there = if *left == 0 { "none".into() } else { format!("only {left}") };
+            let bytes = bytes_text(usize::from(*kind));
+            format!("the type {}, with {there} of its {bytes} below it", type_name(*kind))
         }
+        Unread::NoLength => "the type STRING, with no length below it".into(),
+        Unread::ShortText { length, left } => {
+            let there = if *left == 0 { "no byte".into() } else { format!("only {}", bytes_text(*left)) };
+            format!("a string of length {length}, with {there} below it")
+        }
+        Unread::EmptyText => "a string of length 0, without its zero".into(),
+        Unread::UnendedText(bytes) => format!("a string that ends without a zero, {}", literal::text(bytes)),
+        Unread::InnerZero(bytes) => format!("a string with a zero inside, {}", literal::text(bytes)),
     }
 }
 

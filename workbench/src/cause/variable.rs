@@ -75,14 +75,13 @@ fn set(turn: &Turn, name: u8, wanted: usize) -> Result<(), Reason> {
         let own = kept.iter().filter(|variable| variable.id == id).count();
         return Err(Reason::NoEntry { name, own });
     }
-    let taken: Vec<_> = kept.iter().map(|variable| variable.address..variable.end()).collect();
-    let runs: Vec<usize> = layout::free_runs(0..MEMORY_LEN, &taken).iter().map(|run| run.len()).collect();
-    let longest = runs.iter().copied().max().unwrap_or(0);
+    let runs = layout::free_memory(&kept);
+    let longest = layout::longest(&runs);
     if longest >= wanted {
         return Ok(());
     }
     let replaced = old.map_or(0, |variable| variable.size);
-    Err(Reason::NoMemory { name, wanted, free: runs.iter().sum(), longest, replaced })
+    Err(Reason::NoMemory { name, wanted, free: runs.iter().map(|run| run.len()).sum(), longest, replaced })
 }
 
 impl Reason {

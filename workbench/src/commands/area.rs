@@ -2,7 +2,7 @@
 
 use super::arguments::{Given, Options};
 use super::verdict;
-use crate::failure::{misused, Failure, Outcome};
+use crate::failure::{misused, Outcome};
 use crate::files;
 use crate::readout;
 
@@ -31,11 +31,5 @@ pub fn main(arguments: &[String]) -> Outcome {
         None => vec![verdict::of_area_alone(&area, "--disc checks it beside its disc")],
         Some(disc) => vec![verdict::of_disc(disc), verdict::of_area(disc, &area)],
     };
-    let said: String = verdicts.iter().map(|verdict| verdict.text.as_str()).collect();
-    files::write("-", format!("{}\n{said}", readout::text(&area, disc.as_deref())).as_bytes())?;
-    if verdicts.iter().all(|verdict| verdict.is_good) {
-        Ok(())
-    } else {
-        Err(Failure::Told)
-    }
+    verdict::write(&format!("{}\n", readout::text(&area, disc.as_deref())), &verdicts)
 }

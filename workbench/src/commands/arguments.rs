@@ -1,4 +1,5 @@
-//! Options and operands of a command line. An option is '--name', '--name VALUE', '--name=VALUE' or '-n VALUE'; '--' ends them.
+//! Options and operands of a command line. An option is '--name', '--name VALUE', '--name=VALUE' or '-n VALUE'; '--'
+//! ends them.
 
 use crate::failure::{misused, Outcome};
 

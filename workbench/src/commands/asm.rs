@@ -1,14 +1,15 @@
 //! `arduinos asm`: a source text becomes a program.
 
 use super::arguments::{Given, Options};
-use crate::asm::{self, Error, Program};
+use crate::asm::{self, Diagnostic, Program};
 use crate::failure::{misused, Failure, Outcome};
 use crate::files;
 use crate::layout::{DATA_START, LONG_DISC, SHORT_DISC};
 
 pub const HELP: &str = r#"usage: arduinos asm FILE [-o OUT] [--list]
 
-Assembles a source text. Without -o, NAME.asm gives the file NAME beside it. With errors nothing is written.
+Assembles a source text. Without -o, NAME.asm gives the file NAME beside it. With errors nothing is written;
+with warnings the program is.
 
   -o OUT    write the program to OUT
   --list    print offsets, bytes and source lines; without -o nothing is written
@@ -27,6 +28,7 @@ Instructions are those of the guide's appendix C, in capitals or small letters.
   condition WHILE .. ENDWHILE
                            the lengths are counted, the condition being the shortest run of instructions before
                            WHILE that leaves one value; WHILE LABEL begins it at a label; WHILE 6 8 gives both
+  DATA ENDIF               takes a number off the stack inside a block, where ENDIF would be the block's end
   DATA 1 'a' "text" STOP   bytes as they are
 Escapes in quotes: \n \t \r \0 \\ \' \" \xHH
 
@@ -35,7 +37,7 @@ Example: counts down.
          INT 3
          SET count
          GET count
-         WHILE               ; zero: behind ENDWHILE
+         WHILE               ; zero: past ENDWHILE
          GET count
          PRINTLN
          GET count
@@ -57,7 +59,11 @@ pub fn main(arguments: &[String]) -> Outcome {
     let lists = given.has("--list");
     let out = output(file, given.value("-o")?, lists)?;
     let source = files::read(file)?;
-    let program = asm::assemble(&source).map_err(|errors| tell(file, &errors))?;
+    let program = asm::assemble(&source).map_err(|errors| {
+        tell(file, &errors);
+        Failure::Told
+    })?;
+    tell(file, &program.warnings);
     warn_of_length(file, &program);
     if let Some(out) = out {
         files::write(&out, &program.bytes)?;
@@ -75,18 +81,25 @@ fn output(file: &str, given: Option<&str>, lists: bool) -> Outcome<Option<String
         Some(out) if files::is_same(file, out) => misused(format!("-o {out} would write over the source")),
         Some(out) => Ok(Some(out.to_string())),
         None if lists => Ok(None),
-        None => match file.strip_suffix(".asm") {
-            Some(out) if !out.is_empty() && !out.ends_with('/') => Ok(Some(out.to_string())),
-            _ => misused(format!("-o OUT is missing: {} has no name ending in .asm", files::shown(file))),
-        },
+        None => beside(file).map(Some),
     }
 }
 
-fn tell(file: &str, errors: &[Error]) -> Failure {
-    for error in errors {
-        eprint!("{}", error.render(files::shown(file)));
+/// The file NAME beside NAME.asm.
+fn beside(file: &str) -> Outcome<String> {
+    let why = match file.strip_suffix(".asm") {
+        _ if file == "-" => "standard input has no name".to_string(),
+        None => format!("{file} does not end in .asm"),
+        Some(out) if out.is_empty() || out.ends_with('/') => format!("there is no name before .asm in {file}"),
+        Some(out) => return Ok(out.to_string()),
+    };
+    misused(format!("-o OUT is missing: {why}"))
+}
+
+fn tell(file: &str, diagnostics: &[Diagnostic]) {
+    for diagnostic in diagnostics {
+        files::tell(&diagnostic.render(files::shown(file)));
     }
-    Failure::Told
 }
 
 /// A program that no disc takes, or only a long one, is written all the same: `asm` of `dis` is every byte string.
@@ -98,5 +111,5 @@ fn warn_of_length(file: &str, program: &Program) {
         _ if length <= LONG_MAX => format!("above {SHORT_MAX} only a long disc takes it"),
         _ => format!("no disc takes a file above {LONG_MAX}"),
     };
-    eprintln!("arduinos asm: warning: {}: {length} bytes; {why}", files::shown(file));
+    files::tell(&format!("arduinos asm: warning: {}: {length} bytes; {why}\n", files::shown(file)));
 }

@@ -27,7 +27,7 @@ pub fn main(arguments: &[String]) -> Outcome {
     let record = match record::read(&files::read(path)?) {
         Ok(record) => record,
         Err(error) => {
-            eprintln!("{file}:{}:{}: {}", error.line, error.column, error.message);
+            files::tell(&format!("{file}:{}:{}: {}\n", error.line, error.column, error.message));
             return Err(Failure::Told);
         }
     };
@@ -35,7 +35,7 @@ pub fn main(arguments: &[String]) -> Outcome {
     let replayed = replay(record, given.has("--trace"));
     files::write("-", replayed.told.as_bytes())?;
     for difference in &replayed.differences {
-        eprintln!("{file}:{}:{}: {}", difference.line, difference.column, difference.message);
+        files::tell(&format!("{file}:{}:{}: {}\n", difference.line, difference.column, difference.message));
     }
     if !replayed.differences.is_empty() {
         return Err(Failure::Told);

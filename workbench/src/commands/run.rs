@@ -12,15 +12,17 @@ pub const HELP: &str = "\
 usage: arduinos run IMAGE NAME .. [options]
 
 Boots a box with the disc of an EEPROM image, starts the named programs in that order, and makes rounds until none runs.
-What they print goes to standard output, as the box prints it. The image is only read. Ctrl-C ends the run.
+What they print goes to standard output, as the box prints it. The image stays as it is unless --save-disc names it.
+Ctrl-C ends the run.
 
   --rounds N            make at most N rounds
   --clock real          give each round the milliseconds since the start (the default)
   --clock MS            give round r, counted from 1, the clock r times MS
   --share NAME=N        give the processes of NAME that are started here N turns a round, 1 to 8; may be given again
   --trace               show each turn instead of the output: round, clock, slot, ID, offset, instruction, the stack
-                        behind it, variables that changed, what was printed
-  --record FILE         write every call with its answer to FILE, for 'arduinos replay'
+                        after it, variables that changed, what was printed
+  --record FILE         write every call with its answer to FILE, for 'arduinos replay': some 40 bytes a round, with the
+                        real clock megabytes a second
   --save-disc FILE      write the disc to FILE when the run has ended; it may be IMAGE
   --save-area FILE      write the work area to FILE then, for 'arduinos area'
 
@@ -41,26 +43,63 @@ pub fn main(arguments: &[String]) -> Outcome {
     }
     let shares = shares(&given, names)?;
     let run = Run { most: given.number("--rounds", 0, u64::MAX)?, clock: clock(&given)?, trace: given.has("--trace") };
-    let record = given.value("--record")?;
-    let (save_disc, save_area) = (given.value("--save-disc")?, given.value("--save-area")?);
-    not_the_image("--record", record, image)?;
-    not_the_image("--save-area", save_area, image)?;
+    let outputs = Outputs::read(&given, image)?;
 
     let disc = files::read_disc(image)?;
     // Once without a record: where a start is refused, nothing is written.
     started(disc.clone(), None, names, &shares)?;
-    let mut session = started(disc, record, names, &shares)?;
-    let faults = run.rounds(&mut session)?;
-    session.end()?;
-    for (path, bytes) in [(save_disc, &session.buffers.disc), (save_area, &session.buffers.area)] {
-        if let Some(path) = path {
-            files::write(path, bytes)?;
-        }
-    }
+    let mut session = started(disc, outputs.record, names, &shares)?;
+    let ran = run.rounds(&mut session);
+    // Whatever ended the rounds, the record is whole and what was asked for is saved.
+    let ended = session.end();
+    let saved = outputs.save(&session.buffers);
+    let faults = ran?;
+    ended?;
+    saved?;
     if faults > 0 {
         return Err(Failure::Told);
     }
     Ok(())
+}
+
+/// The files that a run writes.
+struct Outputs<'a> {
+    record: Option<&'a str>,
+    disc: Option<&'a str>,
+    area: Option<&'a str>,
+}
+
+impl<'a> Outputs<'a> {
+    /// They must not go over one another, over the image or between what the programs print; their folders are there.
+    fn read(given: &'a Given, image: &str) -> Outcome<Outputs<'a>> {
+        let named = |option| given.value(option).map(|path| path.map(|path| (option, path)));
+        let all = [named("--record")?, named("--save-disc")?, named("--save-area")?];
+        let given: Vec<(&str, &str)> = all.into_iter().flatten().collect();
+        for (index, &(option, path)) in given.iter().enumerate() {
+            if path == "-" {
+                return misused(format!("{option} wants a file: standard output has what the programs print"));
+            }
+            if option != "--save-disc" && files::is_same(path, image) {
+                return misused(format!("{option} would write over the image"));
+            }
+            let same = |&&(_, other): &&(&str, &str)| other == path || files::is_same(other, path);
+            if let Some((other, _)) = given[..index].iter().find(same) {
+                return misused(format!("{option} would write over the file of {other}"));
+            }
+            files::check_place(path)?;
+        }
+        let [record, disc, area] = all.map(|named| named.map(|(_, path)| path));
+        Ok(Outputs { record, disc, area })
+    }
+
+    fn save(&self, buffers: &Buffers) -> Outcome {
+        for (path, bytes) in [(self.disc, &buffers.disc), (self.area, &buffers.area)] {
+            if let Some(path) = path {
+                files::write(path, bytes)?;
+            }
+        }
+        Ok(())
+    }
 }
 
 /// A box with the named programs started.
@@ -73,18 +112,6 @@ fn started(disc: Vec<u8>, record: Option<&str>, names: &[String], shares: &[(Str
     Ok(session)
 }
 
-/// What a run writes must not go over the image that it reads, nor between what the programs print.
-fn not_the_image(option: &str, path: Option<&str>, image: &str) -> Outcome {
-    let Some(path) = path else { return Ok(()) };
-    if path == "-" {
-        return misused(format!("{option} wants a file: standard output has what the programs print"));
-    }
-    if files::is_same(path, image) {
-        return misused(format!("{option} would write over the image"));
-    }
-    Ok(())
-}
-
 /// The shares of `--share NAME=N`; each name must be one that is started.
 fn shares(given: &Given, names: &[String]) -> Outcome<Vec<(String, u32)>> {
     let mut shares = Vec::new();
@@ -93,7 +120,7 @@ fn shares(given: &Given, names: &[String]) -> Outcome<Vec<(String, u32)>> {
             return misused(format!("--share wants NAME=N, not '{text}'"));
         };
         let Ok(share) = number.parse() else {
-            return misused(format!("--share wants a number behind '=', not '{number}'"));
+            return misused(format!("--share wants a number after '=', not '{number}'"));
         };
         if !names.iter().any(|started| started == name) {
             return misused(format!("--share names '{name}', which is not started here"));
@@ -108,7 +135,7 @@ fn clock(given: &Given) -> Outcome<Clock> {
         None | Some("real") => Ok(Clock::real()),
         Some(text) => match text.parse() {
             Ok(step) => Ok(Clock::Stepped(step)),
-            Err(_) => misused(format!("--clock wants 'real' or milliseconds, not '{text}'")),
+            Err(_) => misused(format!("--clock wants 'real' or milliseconds up to {}, not '{text}'", u32::MAX)),
         },
     }
 }

@@ -1,5 +1,7 @@
 //! Whether a disc and a work area are good: the kernel decides, the clauses say why not.
 
+use crate::failure::{Failure, Outcome};
+use crate::files;
 use crate::good;
 use crate::kernel;
 use crate::layout::{entries, records, variables, Record};
@@ -37,6 +39,17 @@ pub fn of_area_alone(area: &[u8], remark: &str) -> Verdict {
     match good::area_alone(area).as_slice() {
         [] => Verdict { text: format!("work area: nothing wrong by itself; {remark}\n"), is_good: true },
         clauses => Verdict { text: format!("work area: not good\n{}", lines(clauses)), is_good: false },
+    }
+}
+
+/// Writes a readout, if there is one, and verdicts to standard output: exit status 1 if one of them is not good.
+pub fn write(readout: &str, verdicts: &[Verdict]) -> Outcome {
+    let said: String = verdicts.iter().map(|verdict| verdict.text.as_str()).collect();
+    files::write("-", format!("{readout}{said}").as_bytes())?;
+    if verdicts.iter().all(|verdict| verdict.is_good) {
+        Ok(())
+    } else {
+        Err(Failure::Told)
     }
 }
 

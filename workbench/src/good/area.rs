@@ -89,13 +89,13 @@ impl fmt::Display for Clause<'_> {
                 write!(f, "the variable count, byte {VARIABLE_COUNT}, is {count}; there are at most {most} variables")
             }
             Clause::NextId(next) => {
-                write!(f, "the next ID, bytes {NEXT_ID} and {}, is {next}; it is 1 to {MAX_NEXT_ID}", NEXT_ID + 1)
+                write!(f, "the next ID, bytes {NEXT_ID} and {}, is {next}; it must be 1 to {MAX_NEXT_ID}", NEXT_ID + 1)
             }
-            Clause::Zeros { place, byte } => write!(f, "byte {place} is {byte}; bytes {} are zeros", Span(ZEROS)),
+            Clause::Zeros { place, byte } => write!(f, "byte {place} is {byte}; bytes {} must be zeros", Span(ZEROS)),
             Clause::State(record) => {
                 let (slot, state) = (record.slot, record.state());
                 write!(f, "slot {slot}: its state is {state}; ")?;
-                write!(f, "it is {RUNNING} ('r', running), {PAUSED} ('p', paused) or {ENDED} (ended)")
+                write!(f, "it must be {RUNNING} ('r', running), {PAUSED} ('p', paused) or {ENDED} (ended)")
             }
             Clause::Process(record, clause) => {
                 write!(f, "slot {} ({}, ID {}): ", record.slot, name_text(record.name()), record.id())?;

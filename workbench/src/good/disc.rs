@@ -5,7 +5,6 @@ use super::{overlap, Span};
 use crate::layout::{entries, trimmed, Entry, DATA_START, FILE_COUNT, MAX_FILES};
 use crate::literal;
 use std::fmt;
-use std::ops::Range;
 
 /// A broken clause of a good disc.
 #[derive(Clone, Copy, Debug)]
@@ -66,13 +65,9 @@ fn beside<'a>(entry: Entry<'a>, earlier: Entry<'a>, clauses: &mut Vec<Clause<'a>
     if entry.name == earlier.name && !trimmed(entry.name).is_empty() {
         clauses.push(Clause::SameName(entry, earlier));
     }
-    if overlap(&place(&entry), &place(&earlier)) {
+    if overlap(&entry.place(), &earlier.place()) {
         clauses.push(Clause::Overlap(entry, earlier));
     }
-}
-
-fn place(entry: &Entry) -> Range<usize> {
-    entry.start..entry.end()
 }
 
 /// An entry as messages name it: entry 2 ("log").
@@ -100,15 +95,15 @@ impl fmt::Display for Clause<'_> {
             Clause::Name(entry, bad) => write!(f, "{}: {bad}", Named(entry)),
             Clause::Empty(entry) => write!(f, "{}: its length is 0; a file has at least 1 byte", Named(entry)),
             Clause::Start(entry) => {
-                write!(f, "{}: its first byte is {}; data begin at {DATA_START}", Named(entry), entry.start)
+                write!(f, "{}: it begins at byte {}; data begin at {DATA_START}", Named(entry), entry.start)
             }
             Clause::End { entry, disc_length } => {
                 let (last, end) = (disc_length - 1, entry.end() - 1);
-                write!(f, "{}: its last byte is {end}; the last of the disc is {last}", Named(entry))
+                write!(f, "{}: it ends at byte {end}; the last of the disc is {last}", Named(entry))
             }
             Clause::SameName(entry, earlier) => write!(f, "{} has the name of entry {}", Named(entry), earlier.index),
             Clause::Overlap(entry, earlier) => {
-                let (span, other) = (Span(place(entry)), Span(place(earlier)));
+                let (span, other) = (Span(entry.place()), Span(earlier.place()));
                 write!(f, "{}: bytes {span} overlap those of {}, {other}", Named(entry), Named(earlier))
             }
         }

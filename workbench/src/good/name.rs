@@ -1,10 +1,7 @@
 //! Document 01: "A name is 1 to 11 bytes of 33 to 126, zero-filled."
 
-use crate::layout::trimmed;
+use crate::layout::{trimmed, NAME_BYTES, NAME_LEN};
 use std::fmt;
-use std::ops::RangeInclusive;
-
-const LETTERS: RangeInclusive<u8> = 33..=126;
 
 /// What is wrong with the twelve bytes of a name.
 #[derive(Clone, Copy, Debug, PartialEq, Eq)]
@@ -16,7 +13,7 @@ pub enum BadName {
         place: usize,
         byte: u8,
     },
-    /// A byte behind the first zero.
+    /// A byte after the first zero.
     Filling {
         place: usize,
         byte: u8,
@@ -29,7 +26,7 @@ pub fn bad_name(field: &[u8]) -> Option<BadName> {
     if text.is_empty() {
         return Some(BadName::Empty);
     }
-    if let Some(place) = text.iter().position(|byte| !LETTERS.contains(byte)) {
+    if let Some(place) = text.iter().position(|byte| !NAME_BYTES.contains(byte)) {
         return Some(BadName::Letter { place, byte: text[place] });
     }
     if filling.is_empty() {
@@ -44,12 +41,13 @@ impl fmt::Display for BadName {
     fn fmt(&self, f: &mut fmt::Formatter<'_>) -> fmt::Result {
         match self {
             BadName::Empty => write!(f, "its name is empty"),
-            BadName::Long => write!(f, "its name has 12 bytes; a name has at most 11"),
+            BadName::Long => write!(f, "its name has {NAME_LEN} bytes; a name has at most {}", NAME_LEN - 1),
             BadName::Letter { place, byte } => {
-                write!(f, "byte {place} of its name is {byte}; a name has bytes of 33 to 126")
+                let (least, most) = (NAME_BYTES.start(), NAME_BYTES.end());
+                write!(f, "byte {place} of its name is {byte}; a name has bytes of {least} to {most}")
             }
             BadName::Filling { place, byte } => {
-                write!(f, "byte {place} of its name is {byte}, behind a zero; all bytes there are zeros")
+                write!(f, "byte {place} of its name is {byte}, after a zero; all bytes there must be zeros")
             }
         }
     }

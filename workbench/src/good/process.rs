@@ -69,8 +69,7 @@ fn program<'a>(record: Record, files: Option<&[Entry<'a>]>) -> Option<ProcessCla
 
 /// "an open file equal to some directory file"; "file length 2 (0: none open)"
 fn open_file<'a>(record: Record, files: Option<&[Entry<'a>]>) -> Option<ProcessClause<'a>> {
-    let is_open = |file: &Entry| (file.start, file.length) == (record.file_start(), record.file_length());
-    (record.file_length() != 0 && !files?.iter().any(is_open)).then_some(ProcessClause::OpenFile)
+    (record.file_length() != 0 && record.open_file(files?).is_none()).then_some(ProcessClause::OpenFile)
 }
 
 impl ProcessClause<'_> {

@@ -5,7 +5,7 @@ use crate::layout::{Record, Variable, MEMORY_LEN};
 use crate::literal;
 use crate::value;
 use std::fmt;
-use std::ops::{Range, RangeInclusive};
+use std::ops::RangeInclusive;
 
 /// How long a STRING is in variable memory, its zero counted.
 const STRING_SIZES: RangeInclusive<usize> = 1..=30;
@@ -45,7 +45,7 @@ pub fn clauses(variable: Variable, earlier: &[Variable], live: &[Record]) -> Vec
         if (other.name, other.id) == (variable.name, variable.id) {
             clauses.push(VariableClause::SameName { index: other.index });
         }
-        if overlap(&place(&variable), &place(&other)) {
+        if overlap(&variable.place(), &other.place()) {
             clauses.push(VariableClause::Overlap(other));
         }
     }
@@ -59,10 +59,6 @@ fn sizes(kind: u8) -> Option<RangeInclusive<usize>> {
         value::STRING => Some(STRING_SIZES),
         _ => None,
     }
-}
-
-fn place(variable: &Variable) -> Range<usize> {
-    variable.address..variable.end()
 }
 
 impl VariableClause {
@@ -80,12 +76,12 @@ impl VariableClause {
             }
             VariableClause::End => {
                 let last = variable.end().saturating_sub(1);
-                write!(f, "its last byte is {last}; the last of memory is {}", MEMORY_LEN - 1)
+                write!(f, "it ends at byte {last}; the last of memory is {}", MEMORY_LEN - 1)
             }
             VariableClause::Owner => write!(f, "no live process has that ID"),
             VariableClause::SameName { index } => write!(f, "variable {index} has the same name and ID"),
             VariableClause::Overlap(other) => {
-                let (span, others) = (Span(place(variable)), Span(place(other)));
+                let (span, others) = (Span(variable.place()), Span(other.place()));
                 let name = literal::variable(other.name);
                 write!(
                     f,

@@ -22,7 +22,7 @@ pub enum Line {
     Sum(u32),
 }
 
-/// A call with its number and output, and the checksums of both buffers behind it.
+/// A call with its number and output, and the checksums of both buffers after it.
 #[derive(Clone, Debug, PartialEq, Eq)]
 pub struct Made {
     pub call: Call,
@@ -145,7 +145,7 @@ impl<'a> Words<'a> {
         self.rest().starts_with(first)
     }
 
-    /// Takes so many bytes and the one space behind them.
+    /// Takes so many bytes and the one space after them.
     fn take(&mut self, length: usize) -> &'a str {
         let taken = &self.rest()[..length];
         self.at += length;

@@ -4,7 +4,7 @@ use super::line::{Line, Made, FIRST_LINE};
 use crate::call::Buffers;
 use crate::checksum::Checksum;
 
-/// The most bytes that a record's buffer may have: longer than any buffer of the kernel, so that refusal 1 can be recorded.
+/// The most bytes that a record's buffer may have: more than any buffer of the kernel, so that refusal 1 can be recorded.
 const MOST_BYTES: usize = 65_536;
 
 /// A record as it was read.
@@ -84,7 +84,7 @@ struct Reading {
 impl Reading {
     fn line(&mut self, number: usize, line: Line) -> Result<(), RecordError> {
         if self.ended {
-            return wrong(number, 1, "expected the end of the record behind 'sum'");
+            return wrong(number, 1, "expected the end of the record after 'sum'");
         }
         match line {
             Line::Disc(length) if self.disc.is_none() => self.disc = Some(zeros(number, length)?),

@@ -25,7 +25,7 @@ impl<W: Write> Writer<W> {
         Ok(writer)
     }
 
-    /// A call that was made, and the buffers behind it.
+    /// A call that was made, and the buffers after it.
     pub fn call(&mut self, call: &Call, answer: &Answer, buffers: &Buffers) -> io::Result<()> {
         let made = Made::new(call.clone(), answer, buffers);
         self.line(&Line::Made(made).to_string())

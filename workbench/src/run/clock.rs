@@ -22,3 +22,15 @@ impl Clock {
         }
     }
 }
+
+#[cfg(test)]
+mod tests {
+    use super::Clock;
+
+    #[test]
+    fn a_stepped_clock_starts_again_at_zero() {
+        let clock = Clock::Stepped(1 << 31);
+        assert_eq!([1, 2, 3].map(|round| clock.reading(round)), [1 << 31, 0, 1 << 31]);
+        assert_eq!(Clock::Stepped(100).reading((1 << 32) + 7), 700);
+    }
+}

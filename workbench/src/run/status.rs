@@ -8,6 +8,9 @@ use std::time::{Duration, Instant};
 /// How often the line is written anew.
 const PERIOD: Duration = Duration::from_millis(250);
 
+/// To the line's beginning, and the rest of it cleared.
+const WIPE: &str = "\r\x1b[K";
+
 pub struct Status {
     wanted: bool,
     /// Whether output and status line share a terminal.
@@ -42,10 +45,8 @@ impl Status {
     /// Writes a message on a line of its own.
     pub fn tell(&mut self, message: &str) {
         self.clear();
-        if std::mem::take(&mut self.inside_line) {
-            eprintln!();
-        }
-        eprintln!("{message}");
+        let before = if std::mem::take(&mut self.inside_line) { "\n" } else { "" };
+        files::tell(&format!("{before}{message}\n"));
     }
 
     /// Writes the line anew if its time has come.
@@ -58,15 +59,22 @@ impl Status {
             return;
         }
         let rate = (rounds - self.rounds) as f64 / passed.as_secs_f64();
-        eprint!("\r\x1b[K{rounds} rounds, {rate:.0} a second, {running} running");
+        files::tell(&format!("{WIPE}{rounds} rounds, {rate:.0} a second, {running} running"));
         (self.since, self.rounds, self.shown) = (Instant::now(), rounds, true);
     }
 
     /// Takes the line off the terminal.
     pub fn clear(&mut self) {
         if std::mem::take(&mut self.shown) {
-            eprint!("\r\x1b[K");
+            files::tell(WIPE);
         }
+    }
+}
+
+/// A message that ends the run has a line of its own.
+impl Drop for Status {
+    fn drop(&mut self) {
+        self.clear();
     }
 }
 

@@ -29,8 +29,8 @@ impl Turn {
     }
 }
 
-/// Makes a round again, turn by turn, on copies of the buffers that it began with: "A done round stands for its turns in
-/// order", a slot's share of them in a row while it stays running. The kernel is proved to do the same in a round.
+/// Makes a round again, turn by turn, on copies of the buffers that it began with: "A done round stands for its turns
+/// in order", a slot's share of them in a row while it stays running. The kernel is proved to do the same in a round.
 pub fn of_round(before: &Buffers, clock: u32) -> Vec<Turn> {
     let mut buffers = before.clone();
     let mut turns = Vec::new();
@@ -52,8 +52,8 @@ pub fn agree(turns: &[Turn], after: &Buffers, answer: &Answer) -> bool {
     turns.last().is_none_or(|last| last.after == *after) && printed == answer.output
 }
 
-/// Whether a process may have ended between two work areas: one that lived lives no more, or an ID was given out, so that
-/// the slot of one that ended may have been taken again.
+/// Whether a process may have ended between two work areas: one that lived lives no more, or an ID was given out, so
+/// that the slot of one that ended may have been taken again.
 pub fn may_have_ended(before: &[u8], after: &[u8]) -> bool {
     let started = word(before, NEXT_ID) != word(after, NEXT_ID);
     let ended = |slot| Record::of(before, slot).is_live() && !Record::of(after, slot).is_live();

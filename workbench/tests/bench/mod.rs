@@ -130,6 +130,21 @@ impl Bench {
     }
 }
 
+impl Bench {
+    /// Runs the program with standard output and standard error to files. Returns its status.
+    pub fn arduinos_to(&self, arguments: &[&str], out: &str, err: &str) -> i32 {
+        let open = |name: &str| fs::OpenOptions::new().write(true).create(true).truncate(true).open(self.path(name));
+        let status = Command::new(env!("CARGO_BIN_EXE_arduinos"))
+            .args(arguments)
+            .current_dir(&self.folder)
+            .stdout(open(out).expect("a file for standard output"))
+            .stderr(open(err).expect("a file for standard error"))
+            .status()
+            .expect("the program starts");
+        status.code().unwrap_or(-1)
+    }
+}
+
 impl Drop for Bench {
     fn drop(&mut self) {
         let _ = fs::remove_dir_all(&self.folder);

@@ -1,8 +1,9 @@
 //! A box in which a routine runs to its end.
 
+use crate::field::record_at;
 use workbench::cause::{self, Cause};
 use workbench::kernel;
-use workbench::layout::{live_record, Record, AREA_LEN, ENDED, RECORDS, RECORD_LEN, ROUND_OUTPUT};
+use workbench::layout::{live_record, Record, AREA_LEN, ENDED, RECORD_LEN, ROUND_OUTPUT};
 
 pub struct Bench {
     pub disc: Vec<u8>,
@@ -44,7 +45,7 @@ impl Bench {
         let id = self.start(name, code);
         let slot = live_record(&self.area, id).expect("it lives").slot;
         for _ in 0..1000 {
-            let explained = cause::of_turn(&self.disc, &self.area, slot, 0);
+            let explained = cause::of_turn(&self.disc, &self.area, slot);
             self.round();
             let record = Record::of(&self.area, slot);
             match explained {
@@ -55,6 +56,6 @@ impl Bench {
                 None => assert_ne!(record.state(), ENDED, "it ended by fault {}, and none was told", record.fault()),
             }
         }
-        panic!("it does not end: {:?}", &self.area[RECORDS + slot * RECORD_LEN..][..RECORD_LEN]);
+        panic!("it does not end: {:?}", &self.area[record_at(slot)..][..RECORD_LEN]);
     }
 }

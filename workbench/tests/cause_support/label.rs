@@ -2,10 +2,11 @@
 
 use workbench::cause::file::Refused;
 use workbench::cause::operand::Found;
-use workbench::cause::{fetch, file, jump, number, operand, room, variable, Reason};
-use workbench::value::Value;
+use workbench::cause::{fetch, file, jump, number, operand, room, variable, Cause, Reason};
+use workbench::value::{Unread, Value};
 
-pub const ALL: [&str; 56] = [
+pub const ALL: [&str; 59] = [
+    "inside",
     "1 byte",
     "1 not built",
     "1 DELAY",
@@ -23,6 +24,7 @@ pub const ALL: [&str; 56] = [
     "5 held only several",
     "5 short number",
     "5 bare number",
+    "5 WHILE's byte",
     "5 no length",
     "5 short text",
     "5 bare text",
@@ -30,6 +32,7 @@ pub const ALL: [&str; 56] = [
     "6 second: value",
     "6 third or more: value",
     "6 bare type",
+    "6 bare type, WHILE's byte",
     "6 WHILE's byte",
     "6 another byte",
     "6 empty text",
@@ -64,7 +67,13 @@ pub const ALL: [&str; 56] = [
     "13 no run",
 ];
 
-pub fn of(reason: &Reason) -> &'static str {
+/// The label of the reason, and whether the offset lies inside an instruction.
+pub fn of(cause: &Cause) -> Vec<&'static str> {
+    let inside = cause.inside.as_ref().map(|_| "inside");
+    [of_reason(&cause.reason)].into_iter().chain(inside).collect()
+}
+
+fn of_reason(reason: &Reason) -> &'static str {
     match reason {
         Reason::Fetch(reason) => of_fetch(reason),
         Reason::Operand(reason) => of_operand(reason),
@@ -92,28 +101,32 @@ fn of_fetch(reason: &fetch::Reason) -> &'static str {
 }
 
 fn of_operand(reason: &operand::Reason) -> &'static str {
-    let Some(found) = &reason.found else {
-        return match reason.above.len() {
-            0 => "5 empty",
-            1 => "5 held only one",
-            _ => "5 held only several",
-        };
-    };
-    match (found, reason.above.len()) {
-        (Found::Value(_), 0) => "6 on top: value",
-        (Found::Value(_), 1) => "6 second: value",
-        (Found::Value(_), _) => "6 third or more: value",
-        (Found::BareType(_), _) => "6 bare type",
-        (Found::Byte { pushed_at: Some(_), .. }, _) => "6 WHILE's byte",
-        (Found::Byte { pushed_at: None, .. }, _) => "6 another byte",
-        (Found::ShortNumber { left: 0, .. }, _) => "5 bare number",
-        (Found::ShortNumber { .. }, _) => "5 short number",
-        (Found::NoLength, _) => "5 no length",
-        (Found::ShortText { left: 0, .. }, _) => "5 bare text",
-        (Found::ShortText { .. }, _) => "5 short text",
-        (Found::EmptyText, _) => "6 empty text",
-        (Found::UnendedText(_), _) => "6 unended text",
-        (Found::InnerZero(_), _) => "6 inner zero",
+    match (&reason.found, reason.above.len(), reason.pushed_at) {
+        (Found::Value(_), 0, _) => "6 on top: value",
+        (Found::Value(_), 1, _) => "6 second: value",
+        (Found::Value(_), ..) => "6 third or more: value",
+        (Found::BareType(_), _, Some(_)) => "6 bare type, WHILE's byte",
+        (Found::BareType(_), _, None) => "6 bare type",
+        (Found::Unread(unread), above, pushed_at) => of_unread(unread, above, pushed_at.is_some()),
+    }
+}
+
+fn of_unread(unread: &Unread, above: usize, is_pushed: bool) -> &'static str {
+    match unread {
+        Unread::Nothing if above == 0 => "5 empty",
+        Unread::Nothing if above == 1 => "5 held only one",
+        Unread::Nothing => "5 held only several",
+        Unread::NoType(_) if is_pushed => "6 WHILE's byte",
+        Unread::NoType(_) => "6 another byte",
+        Unread::ShortNumber { .. } if is_pushed => "5 WHILE's byte",
+        Unread::ShortNumber { left: 0, .. } => "5 bare number",
+        Unread::ShortNumber { .. } => "5 short number",
+        Unread::NoLength => "5 no length",
+        Unread::ShortText { left: 0, .. } => "5 bare text",
+        Unread::ShortText { .. } => "5 short text",
+        Unread::EmptyText => "6 empty text",
+        Unread::UnendedText(_) => "6 unended text",
+        Unread::InnerZero(_) => "6 inner zero",
     }
 }
 

@@ -22,11 +22,30 @@ pub const FETCH: &[Routine] = &[
     routine(&[CHAR, 1, PINMODE], 1, 2, "PINMODE is not built"),
     routine(&[INT, 0, 9, DELAY], 1, 3, "DELAY is not built; use MILLIS and DELAYUNTIL"),
     routine(&[CHAR, 1, PRINTLN], 2, 3, "the code ends here, without STOP"),
-    routine(&[CHAR], 2, 0, "CHAR wants 1 byte behind it, none is left"),
-    routine(&[CLOSE, INT, 7], 2, 1, "INT wants 2 bytes behind it, 1 is left"),
-    routine(&[FLOAT, 63, 128, 0], 2, 0, "FLOAT wants 4 bytes behind it, 3 are left"),
-    routine(&[CHAR, 1, WHILE, 2], 2, 2, "WHILE wants 2 bytes behind it, 1 is left"),
+    routine(&[CHAR], 2, 0, "CHAR wants 1 byte after it, none is left"),
+    routine(&[CLOSE, INT, 7], 2, 1, "INT wants 2 bytes after it, 1 is left"),
+    routine(&[FLOAT, 63, 128, 0], 2, 0, "FLOAT wants 4 bytes after it, 3 are left"),
+    routine(&[CHAR, 1, WHILE, 2], 2, 2, "WHILE wants 2 bytes after it, 1 is left"),
     routine(&[STRING, b'a', b'b'], 2, 0, "STRING has no zero before the code's end"),
+];
+
+/// Any fault: jumps into the middle of an instruction.
+pub const INSIDE: &[Routine] = &[
+    // the body leaves an INT; ENDWHILE takes its type, 2, and goes back to the n of SET
+    routine(
+        &[INT, 0, 3, SET, b'n', GET, b'n', WHILE, 2, 7, GET, b'n', GET, b'n', INCREMENT, SET, b'n', ENDWHILE, STOP],
+        1,
+        16,
+        "byte 110 ('n') is no instruction; offset 16 lies inside SET n at 15: a jump can go wrong by its length, or by \
+         a value left on the stack at ENDWHILE",
+    ),
+    routine(
+        &[CHAR, 0, IF, 2, STRING, b'x', PLUS, 0],
+        5,
+        6,
+        "PLUS takes two numbers; the stack held only CHAR 0; offset 6 lies inside STRING at 4: a jump can go wrong by \
+         its length, or by a value left on the stack at ENDWHILE",
+    ),
 ];
 
 /// 5 and 6: the values that are popped.
@@ -144,14 +163,20 @@ pub const SPOILT: &[Routine] = &[
         &[CHAR, 1, WHILE, 2, 1, PRINTLN, ENDWHILE, STOP],
         6,
         5,
-        "PRINTLN takes a value; on top of the stack lay the byte 7, which the WHILE at offset 2 pushes for its \
-         ENDWHILE",
+        "PRINTLN takes a value; on top of the stack lay the byte 7, as the WHILE at offset 2 pushes for its ENDWHILE",
+    ),
+    // of two that push a 7, the one that PRINTLN is in the body of
+    routine(
+        &[CHAR, 1, WHILE, 2, 1, PRINTLN, ENDWHILE, CHAR, 0, WHILE, 2, 1, PRINTLN, ENDWHILE, STOP],
+        6,
+        5,
+        "PRINTLN takes a value; on top of the stack lay the byte 7, as the WHILE at offset 2 pushes for its ENDWHILE",
     ),
     routine(
         &[CHAR, 1, WHILE, 9, 0, CLOSE, PRINTLN],
         6,
         6,
-        "PRINTLN takes a value; on top of the stack lay the byte 13, which is no type of a value",
+        "PRINTLN takes a value; on top of the stack lay the byte 13, as the WHILE at offset 2 pushes for its ENDWHILE",
     ),
     // WHILE's byte is 4, the type of a FLOAT
     routine(
@@ -159,58 +184,86 @@ pub const SPOILT: &[Routine] = &[
         6,
         5,
         "MODULUS takes whole numbers (CHAR or INT); on top of the stack lay the type FLOAT, with no whole FLOAT below \
-         it; an ENDWHILE can have taken a byte of it",
+         it; it can be the byte 4 that the WHILE at offset 2 pushes for its ENDWHILE",
     ),
     routine(
         &[CHAR, 1, WHILE, 0, 0, INCREMENT],
         5,
         5,
-        "INCREMENT takes a number; on top of the stack lay the type FLOAT, with none of its 4 bytes below it; an \
-         ENDWHILE can have taken a byte of it",
+        "INCREMENT takes a number; on top of the stack lay the type FLOAT, with none of its 4 bytes below it; it can \
+         be the byte 4 that the WHILE at offset 2 pushes for its ENDWHILE",
     ),
     routine(
         &[CHAR, 1, WHILE, 5, 0, CHAR, 1, WHILE, 0, 0, INCREMENT],
         5,
         10,
-        "INCREMENT takes a number; on top of the stack lay the type FLOAT, with only 1 of its 4 bytes below it; an \
-         ENDWHILE can have taken a byte of it",
+        "INCREMENT takes a number; on top of the stack lay the type FLOAT, with only 1 of its 4 bytes below it; it can \
+         be the byte 4 that the WHILE at offset 7 pushes for its ENDWHILE",
     ),
-    // ELSE jumps over PRINTLN; ENDWHILE takes the INT's type, 2, and goes back to PRINTLN: the INT's 3 is on top
+    // ELSE jumps over an instruction; ENDWHILE takes the INT's type, 2, and goes back to it: the INT's low byte is top
+    routine(
+        &[INT, 0, 9, ELSE, 1, PRINTLN, ENDWHILE],
+        6,
+        5,
+        "PRINTLN takes a value; on top of the stack lay the byte 9, which is no type; an ENDWHILE can have taken a \
+         byte of a value",
+    ),
+    routine(
+        &[INT, 0, 4, ELSE, 1, MODULUS, ENDWHILE],
+        6,
+        5,
+        "MODULUS takes whole numbers (CHAR or INT); on top of the stack lay the type FLOAT, with no whole FLOAT below \
+         it; an ENDWHILE can have taken a byte of a value",
+    ),
+    routine(
+        &[INT, 0, 4, ELSE, 1, PRINTLN, ENDWHILE],
+        5,
+        5,
+        "PRINTLN takes a value; on top of the stack lay the type FLOAT, with only 1 of its 4 bytes below it; an \
+         ENDWHILE can have taken a byte of a value",
+    ),
     routine(
         &[INT, 5, 3, ELSE, 1, PRINTLN, ENDWHILE],
         5,
         5,
         "PRINTLN takes a value; on top of the stack lay a string of length 5, with no byte below it; an ENDWHILE can \
-         have taken a byte of it",
+         have taken a byte of a value",
     ),
     routine(
         &[CHAR, b'A', INT, 5, 3, ELSE, 1, PRINTLN, ENDWHILE],
         5,
         7,
         "PRINTLN takes a value; on top of the stack lay a string of length 5, with only 2 bytes below it; an ENDWHILE \
-         can have taken a byte of it",
+         can have taken a byte of a value",
     ),
     routine(
         &[INT, 0, 3, ELSE, 1, PRINTLN, ENDWHILE],
         6,
         5,
         "PRINTLN takes a value; on top of the stack lay a string of length 0, without its zero; an ENDWHILE can have \
-         taken a byte of it",
+         taken a byte of a value",
     ),
     routine(
         &[CHAR, b'A', INT, 2, 3, ELSE, 1, PRINTLN, ENDWHILE],
         6,
         7,
         "PRINTLN takes a value; on top of the stack lay a string that ends without a zero, \"A\\x01\"; an ENDWHILE can \
-         have taken a byte of it",
+         have taken a byte of a value",
     ),
-    // the second ENDWHILE takes the INT's type, the first one the INT's 2: only its 3 is left
+    // the second ENDWHILE takes the INT's type, the first one the INT's 2: only its high byte is left
+    routine(
+        &[INT, 4, 2, ELSE, 2, PRINTLN, ENDWHILE, ENDWHILE],
+        5,
+        5,
+        "PRINTLN takes a value; on top of the stack lay the type FLOAT, with none of its 4 bytes below it; an ENDWHILE \
+         can have taken a byte of a value",
+    ),
     routine(
         &[INT, 3, 2, ELSE, 2, PRINTLN, ENDWHILE, ENDWHILE],
         5,
         5,
         "PRINTLN takes a value; on top of the stack lay the type STRING, with no length below it; an ENDWHILE can have \
-         taken a byte of it",
+         taken a byte of a value",
     ),
     // the first ENDWHILE takes the FLOAT's type, 4, and then a zero; two of its bytes are the string
     routine(
@@ -220,7 +273,7 @@ pub const SPOILT: &[Routine] = &[
         6,
         16,
         "PRINTLN takes a value; on top of the stack lay a string with a zero inside, \"\\x00\\x00\"; an ENDWHILE can \
-         have taken a byte of it",
+         have taken a byte of a value",
     ),
 ];
 
@@ -304,7 +357,7 @@ pub const STATE: &[Routine] = &[
         11,
         "WRITE wants 1 byte; of the file l, 1 byte long, none is left",
     ),
-    // A program that is its own file has no zero behind READSTRING's offset
+    // A program that is its own file has no zero after READSTRING's offset
     routine(
         &[STRING, b'b', b'l', b'i', b'n', b'k', 0, CHAR, 1, OPEN, READSTRING, READSTRING],
         12,

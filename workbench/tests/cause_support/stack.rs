@@ -2,9 +2,8 @@
 
 use crate::random::Random;
 use workbench::instruction::{Instruction, Taken};
+use workbench::layout::STACK_LEN;
 use workbench::value::{CHAR, FLOAT, INT, STRING};
-
-const STACK_LEN: usize = 32;
 
 const INTS: [i16; 16] = [0, 0, 1, -1, 2, 3, 14, 15, 16, 127, 200, 863, 864, 3935, 32767, -32768];
 

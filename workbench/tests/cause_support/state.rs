@@ -1,7 +1,8 @@
 //! Good buffers of every kind, with a running slot at an instruction of every kind.
 
-use super::opcode::{ELSE, GET, IF, OPEN, READCHAR, READFLOAT, READINT, READSTRING, SET, WHILE, WRITE};
+use super::opcode::{ELSE, GET, IF, MILLIS, OPEN, READCHAR, READFLOAT, READINT, READSTRING, SET, WHILE, WRITE};
 use super::stack::{self, NAMES};
+use crate::field::{put_word, record_at};
 use crate::random::Random;
 use workbench::instruction::{self, Arguments, Instruction};
 use workbench::kernel;
@@ -13,10 +14,6 @@ pub struct State {
     pub area: Vec<u8>,
     pub slot: usize,
     pub clock: u32,
-}
-
-fn set_word(bytes: &mut [u8], at: usize, value: usize) {
-    bytes[at..at + 2].copy_from_slice(&(value as u16).to_le_bytes());
 }
 
 /// Names of variables, letters and others.
@@ -31,14 +28,14 @@ pub fn of(random: &mut Random) -> State {
             record(random, &disc, &mut area, other);
         }
     }
-    area[RECORDS + slot * RECORD_LEN + 14] = RUNNING;
-    set_word(&mut area, NEXT_ID, random.pick(&[20, 21, 300, MAX_NEXT_ID]));
+    area[record_at(slot) + 14] = RUNNING;
+    put_word(&mut area, NEXT_ID, random.pick(&[20, 21, 300, MAX_NEXT_ID]));
     variables(random, &mut area);
     program(random, &mut disc, &mut area, slot);
     State { disc, area, slot, clock: random.next() as u32 }
 }
 
-/// One to ten files with gaps between them, sometimes nothing behind the last one.
+/// One to ten files with gaps between them, sometimes nothing after the last one.
 fn disc(random: &mut Random) -> Vec<u8> {
     let mut disc = vec![0; if random.one_in(4) { LONG_DISC } else { SHORT_DISC }];
     let zeros = random.one_in(2);
@@ -57,8 +54,8 @@ fn disc(random: &mut Random) -> Vec<u8> {
         let name = NAMES[(first + index) % 12];
         let entry = index * ENTRY_LEN;
         disc[entry..entry + name.len()].copy_from_slice(name);
-        set_word(&mut disc, entry + 12, start);
-        set_word(&mut disc, entry + 14, length);
+        put_word(&mut disc, entry + 12, start);
+        put_word(&mut disc, entry + 14, length);
         from = start + length;
     }
     disc[FILE_COUNT] = count as u8;
@@ -69,21 +66,21 @@ fn disc(random: &mut Random) -> Vec<u8> {
 fn record(random: &mut Random, disc: &[u8], area: &mut [u8], slot: usize) {
     let files = entries(disc);
     let (code, open) = (random.pick(&files), random.pick(&files));
-    let record = &mut area[RECORDS + slot * RECORD_LEN..][..RECORD_LEN];
+    let record = &mut area[record_at(slot)..][..RECORD_LEN];
     record[..NAME_LEN].copy_from_slice(code.name);
     // distinct, and below each next ID
-    set_word(record, 12, 1 + (slot * 7 + 3) % 19);
+    put_word(record, 12, 1 + (slot * 7 + 3) % 19);
     record[14] = random.pick(&[RUNNING, PAUSED]);
     record[15] = random.byte();
-    set_word(record, 16, code.start);
-    set_word(record, 18, code.length);
-    set_word(record, 20, random.below(code.length + 1));
-    set_word(record, 22, if random.one_in(2) { NO_LOOP } else { random.below(code.length + 1) });
+    put_word(record, 16, code.start);
+    put_word(record, 18, code.length);
+    put_word(record, 20, random.below(code.length + 1));
+    put_word(record, 22, if random.one_in(2) { NO_LOOP } else { random.below(code.length + 1) });
     if !random.one_in(4) {
         let back = random.below(open.length.min(6) + 1);
-        set_word(record, 24, open.start);
-        set_word(record, 26, open.length);
-        set_word(record, 28, if random.one_in(3) { random.below(open.length + 1) } else { open.length - back });
+        put_word(record, 24, open.start);
+        put_word(record, 26, open.length);
+        put_word(record, 28, if random.one_in(3) { random.below(open.length + 1) } else { open.length - back });
     }
     record[30] = random.below(STACK_LEN + 1) as u8;
     record[31] = random.below(9) as u8;
@@ -108,7 +105,7 @@ fn variables(random: &mut Random, area: &mut [u8]) {
         }
         let entry = VARIABLES + given.len() * VARIABLE_LEN;
         area[entry..entry + 4].copy_from_slice(&[key.0, kind, address as u8, size as u8]);
-        set_word(area, entry + 4, key.1);
+        put_word(area, entry + 4, key.1);
         given.push(key);
         address += size + random.below(gap);
     }
@@ -143,8 +140,8 @@ fn program(random: &mut Random, disc: &mut [u8], area: &mut [u8], slot: usize) {
     if random.one_in(20) {
         begin_while(random, &mut disc[start..start + length], offset, &mut stack);
     }
-    let record = &mut area[RECORDS + slot * RECORD_LEN..][..RECORD_LEN];
-    set_word(record, 20, offset);
+    let record = &mut area[record_at(slot)..][..RECORD_LEN];
+    put_word(record, 20, offset);
     record[30] = stack.len() as u8;
     record[32..32 + stack.len()].copy_from_slice(&stack);
 }
@@ -196,8 +193,8 @@ fn length(random: &mut Random) -> u8 {
 
 /// Lets a jump's last length lead near the code's end, which is `rest` bytes from the instruction byte.
 fn aim_at_end(random: &mut Random, bytes: &mut [u8], rest: usize) {
-    let behind = rest.saturating_sub(bytes.len());
-    let near = (behind + random.below(4)).saturating_sub(2);
+    let after = rest.saturating_sub(bytes.len());
+    let near = (after + random.below(4)).saturating_sub(2);
     if let (Some(last), Ok(length)) = (bytes.last_mut(), u8::try_from(near)) {
         *last = length;
     }
@@ -208,10 +205,12 @@ fn begin_while(random: &mut Random, code: &mut [u8], place: usize, stack: &mut [
     if place < 3 || stack.is_empty() {
         return;
     }
-    code[..place].fill(45);
-    let at = random.below(place - 2);
-    let (condition, body) = (random.byte() % 100, (place - at) as u8);
-    code[at..at + 3].copy_from_slice(&[63, condition, body]);
+    code[..place].fill(MILLIS);
+    // a WHILE 0 0 has only its end for a body, and its byte 4 is the type FLOAT
+    let is_empty = random.one_in(3);
+    let at = if is_empty { place - 3 } else { random.below(place - 2) };
+    let (condition, body) = if is_empty { (0, 0) } else { (random.byte() % 100, (place - at) as u8) };
+    code[at..at + 3].copy_from_slice(&[WHILE, condition, body]);
     let last = stack.len() - 1;
     stack[last] = condition.saturating_add(body).saturating_add(4);
 }

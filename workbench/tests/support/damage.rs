@@ -1,6 +1,7 @@
 //! Damage: one field of a state set to a value at or beyond an edge, or to anything.
 
-use super::state::{put_word, record_at, State};
+use super::state::State;
+use crate::field::{put_word, record_at};
 use crate::random::Random;
 use workbench::layout::*;
 

@@ -1,5 +1,6 @@
 //! Random good states: written field by field with garbage wherever nothing is read, or lived through kernel calls.
 
+use crate::field::{put_word, record_at};
 use crate::random::Random;
 use workbench::kernel;
 use workbench::layout::*;
@@ -10,13 +11,30 @@ pub struct State {
     pub area: Vec<u8>,
 }
 
-pub fn put_word(bytes: &mut [u8], at: usize, word: usize) {
-    bytes[at..at + 2].copy_from_slice(&(word as u16).to_le_bytes());
-}
+impl State {
+    /// A short disc with these files, and a work area without processes.
+    pub fn with_files(files: &[(&str, &[u8])]) -> State {
+        let mut state = State { disc: vec![0; SHORT_DISC], area: vec![0; AREA_LEN] };
+        assert_eq!(kernel::format(&mut state.disc, &mut state.area), 0);
+        for (name, data) in files {
+            assert_eq!(kernel::store(&mut state.disc, name.as_bytes(), data), 0);
+        }
+        state
+    }
 
-/// Where a slot's record begins.
-pub fn record_at(slot: usize) -> usize {
-    RECORDS + slot * RECORD_LEN
+    /// Starts programs; their IDs are 1, 2, .. and their slots 0, 1, ..
+    pub fn start(&mut self, names: &[&str]) {
+        for (id, name) in (1..).zip(names) {
+            assert_eq!(kernel::run(&self.disc, &mut self.area, name.as_bytes()), id);
+        }
+    }
+
+    /// Turns of a slot that print nothing.
+    pub fn turns(&mut self, slot: u32, count: usize) {
+        for _ in 0..count {
+            assert_eq!(kernel::turn(&mut self.disc, &mut self.area, slot, 0, &mut [0; TURN_OUTPUT]), 0);
+        }
+    }
 }
 
 pub fn any(random: &mut Random) -> State {

@@ -2,7 +2,7 @@
 
 use crate::commands::arguments::{Given, Options};
 use crate::commands::verdict;
-use crate::failure::{misused, Failure, Outcome};
+use crate::failure::{misused, Outcome};
 use crate::files;
 
 pub const HELP: &str = "\
@@ -28,11 +28,5 @@ pub fn main(arguments: &[String]) -> Outcome {
     let area = area.map(files::read_area).transpose()?;
     let mut verdicts = vec![verdict::of_disc(&disc)];
     verdicts.extend(area.map(|area| verdict::of_area(&disc, &area)));
-    let text: String = verdicts.iter().map(|verdict| verdict.text.as_str()).collect();
-    files::write("-", text.as_bytes())?;
-    if verdicts.iter().all(|verdict| verdict.is_good) {
-        Ok(())
-    } else {
-        Err(Failure::Told)
-    }
+    verdict::write("", &verdicts)
 }

@@ -1,5 +1,6 @@
 //! `arduinos disc get`.
 
+use super::refusal;
 use crate::commands::arguments::{Given, Options};
 use crate::failure::{misused, refused, Outcome};
 use crate::files;
@@ -27,8 +28,8 @@ pub fn main(arguments: &[String]) -> Outcome {
     match usize::try_from(number) {
         Ok(length) => files::write(out, &bytes[..length.min(disc.len())]),
         Err(_) => {
-            let (image, name, why) = (files::shown(image), literal::text(name.as_bytes()), kernel::refusal(number));
-            refused(format!("{image}: {name} is not read (refusal {}): {why}", -number))
+            let (image, name) = (files::shown(image), literal::text(name.as_bytes()));
+            refused(refusal(&format!("{image}: {name} is not read"), number))
         }
     }
 }

@@ -1,11 +1,12 @@
 //! `arduinos disc ls`.
 
+use super::refusal;
 use crate::commands::arguments::{Given, Options};
 use crate::commands::verdict::disc_summary;
 use crate::failure::{refused, Outcome};
 use crate::files;
 use crate::kernel;
-use crate::layout::{entries, free_runs, name_text, DATA_START, FILES_OUTPUT};
+use crate::layout::{entries, free_bytes, name_text, FILES_OUTPUT};
 use std::fmt::Write;
 
 pub const HELP: &str = "\
@@ -29,20 +30,18 @@ pub fn main(arguments: &[String]) -> Outcome {
     let written = kernel::files(&disc, &mut out);
     match usize::try_from(written) {
         Ok(length) => files::write("-", &out[..length.min(FILES_OUTPUT)]),
-        Err(_) => refused(format!("refusal {}: {}", -written, kernel::refusal(written))),
+        Err(_) => refused(refusal(&format!("{}: it is not listed", files::shown(image)), written)),
     }
 }
 
 /// Files in order of storing, then the free runs, then how much of the disc is taken.
 fn table(disc: &[u8]) -> String {
-    let entries = entries(disc);
     let mut text = String::from("entry  name         first   last  length\n");
-    for entry in &entries {
+    for entry in entries(disc) {
         let (name, last) = (name_text(entry.name), entry.end() - 1);
         let _ = writeln!(text, "{:>5}  {name:<11}  {:>5}  {last:>5}  {:>6}", entry.index, entry.start, entry.length);
     }
-    let taken: Vec<_> = entries.iter().map(|entry| entry.start..entry.end()).collect();
-    for run in free_runs(DATA_START..disc.len(), &taken) {
+    for run in free_bytes(disc) {
         let _ = writeln!(text, "       {:<11}  {:>5}  {:>5}  {:>6}", "(free)", run.start, run.end - 1, run.len());
     }
     text + &disc_summary(disc) + "\n"

@@ -36,6 +36,11 @@ pub fn main(arguments: &[String]) -> Outcome {
     }
 }
 
+/// Where the kernel refuses: what is not done, the number and why.
+fn refusal(what: &str, number: i32) -> String {
+    format!("{what} (refusal {}): {}", -number, kernel::refusal(number))
+}
+
 /// A work area without processes.
 fn booted_area() -> Vec<u8> {
     let mut area = vec![0; AREA_LEN];

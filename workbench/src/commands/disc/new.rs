@@ -1,5 +1,6 @@
 //! `arduinos disc new`.
 
+use super::refusal;
 use crate::commands::arguments::{Given, Options};
 use crate::failure::{refused, Outcome};
 use crate::files;
@@ -27,7 +28,7 @@ pub fn main(arguments: &[String]) -> Outcome {
     let mut disc = vec![0; if given.has("--long") { LONG_DISC } else { SHORT_DISC }];
     let number = kernel::format(&mut disc, &mut [0; AREA_LEN]);
     if number < 0 {
-        return refused(format!("refusal {}: {}", -number, kernel::refusal(number)));
+        return refused(refusal(&format!("{image}: it is not made"), number));
     }
     files::write(image, &disc)
 }

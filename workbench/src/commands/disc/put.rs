@@ -1,11 +1,11 @@
 //! `arduinos disc put`.
 
-use super::booted_area;
+use super::{booted_area, refusal};
 use crate::commands::arguments::{Given, Options};
 use crate::failure::{misused, refused, Outcome};
 use crate::files;
 use crate::kernel;
-use crate::layout::DATA_START;
+use crate::layout::{DATA_START, LONG_DISC};
 use crate::literal;
 use std::path::Path;
 
@@ -38,22 +38,26 @@ pub fn main(arguments: &[String]) -> Outcome {
     let mut disc = files::read_disc(image)?;
     let mut items = Vec::new();
     for (path, name) in paths.iter().zip(names) {
-        items.push(Item { path, name, data: files::read(path)? });
+        items.push(Item { path, name, data: read(path)? });
     }
-    let replace = given.has("--replace");
-    if replace {
+    if given.has("--replace") {
         for item in &items {
             // Refused where there is no such file: nothing has to go then.
             kernel::erase(&mut disc, &booted_area(), item.name.as_bytes());
         }
     }
-    for item in &items {
+    for (index, item) in items.iter().enumerate() {
         let number = kernel::store(&mut disc, item.name.as_bytes(), &item.data);
         if number < 0 {
-            return refused(refusal(number, item, &disc, replace));
+            return refused(not_stored(number, item, &items[..index], &disc));
         }
     }
     files::write(image, &disc)
+}
+
+/// The bytes of a file, or the first of them if no disc takes so many: the kernel then refuses these.
+fn read(path: &str) -> Outcome<Vec<u8>> {
+    files::read_front(path, LONG_DISC as u64)
 }
 
 /// The names on the disc.
@@ -74,17 +78,20 @@ fn last_part(path: &str) -> Outcome<String> {
     name.map_or_else(|| misused(format!("{path} has no last part; --as gives a name")), Ok)
 }
 
-/// Why the kernel does not store a file on the disc as it then is, and what helps.
-fn refusal(number: i32, item: &Item, disc: &[u8], replace: bool) -> String {
+/// Why the kernel does not store a file on the disc as it is after the earlier ones, and what helps.
+fn not_stored(number: i32, item: &Item, earlier: &[Item], disc: &[u8]) -> String {
     let helps = match -number {
         5 => "; --as gives another name".to_string(),
-        6 => format!("; this one has {}, and the disc takes {}", item.data.len(), disc.len() - DATA_START),
-        7 if replace => "; the name is given twice".into(),
+        6 => {
+            let more = if item.data.len() == LONG_DISC { " or more" } else { "" };
+            format!("; this one has {}{more}, and the disc takes {}", item.data.len(), disc.len() - DATA_START)
+        }
+        7 if earlier.iter().any(|other| other.name == item.name) => "; the name is given twice".into(),
         7 => "; --replace erases the old file first".into(),
         8 => "; 'arduinos disc rm' erases one".into(),
         9 => format!("; the file has {}, the longest free run {}", item.data.len(), kernel::free_space(disc)),
         _ => String::new(),
     };
-    let (path, name, why) = (files::shown(item.path), literal::text(item.name.as_bytes()), kernel::refusal(number));
-    format!("{path}: not stored as {name} (refusal {}): {why}{helps}", -number)
+    let (path, name) = (files::shown(item.path), literal::text(item.name.as_bytes()));
+    refusal(&format!("{path}: not stored as {name}"), number) + &helps
 }

@@ -1,6 +1,6 @@
 //! `arduinos disc rm`.
 
-use super::booted_area;
+use super::{booted_area, refusal};
 use crate::commands::arguments::{Given, Options};
 use crate::failure::{misused, refused, Outcome};
 use crate::files;
@@ -26,8 +26,8 @@ pub fn main(arguments: &[String]) -> Outcome {
     for name in names {
         let number = kernel::erase(&mut disc, &booted_area(), name.as_bytes());
         if number < 0 {
-            let (image, name, why) = (files::shown(image), literal::text(name.as_bytes()), kernel::refusal(number));
-            return refused(format!("{image}: {name} is not erased (refusal {}): {why}", -number));
+            let (image, name) = (files::shown(image), literal::text(name.as_bytes()));
+            return refused(refusal(&format!("{image}: {name} is not erased"), number));
         }
     }
     files::write(image, &disc)
