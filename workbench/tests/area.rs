@@ -150,6 +150,28 @@ fn damage_is_told_and_shown() {
 }
 
 #[test]
+fn places_that_only_damage_or_the_last_turn_leaves() {
+    let mut state = worked();
+    // "sum" as long as the open file; short at its code's end; x of ten bytes, its zero inside
+    put_word(&mut state.disc, 16 + 14, 50);
+    put_word(&mut state.area, record_at(2) + 20, 5);
+    state.area[256 + 6 + 3] = 10;
+    let text = readout::text(&state.area, Some(&state.disc));
+    assert!(text.contains("\n  file \"log\", offset 2 of 50\n"), "{text}");
+    assert!(text.contains("\n  PC 5 of 5: the code's end\n"), "{text}");
+    assert!(text.contains("STRING, no value: bytes 97 98 99 0 7 0 0 0 ..\n"), "{text}");
+}
+
+#[test]
+fn bytes_that_two_variables_claim_are_free_of_neither() {
+    let mut state = worked();
+    state.area[256 + 12 + 2] = 3;
+    let text = readout::text(&state.area, Some(&state.disc));
+    let memory = "\nvariable memory: 250 of 256 bytes free, the longest free run 250\n";
+    assert!(text.contains(memory) && text.contains("\n  00 A A B ! B B . "), "{text}");
+}
+
+#[test]
 fn a_work_area_of_another_disc_is_told() {
     let bench = Bench::empty("another");
     let mut state = worked();

@@ -229,6 +229,8 @@ const WRONG: &[(&str, &str, &str, &str)] = &[
         "^~~~",
     ),
     ("IF\nELSE\nELSE 3\nENDIF", "3:1", "expected ENDIF for the ELSE of line 2, found another ELSE", "^~~~"),
+    ("IF\nELSE\nELSE\nENDIF", "3:1", "expected ENDIF for the ELSE of line 2, found another ELSE", "^~~~"),
+    ("IF 0\nELSE 3\nELSE\nENDIF", "3:1", "expected ENDIF for the ELSE of line 2, found another ELSE", "^~~~"),
     ("ELSE\nENDIF", "1:1", "expected an open IF before this ELSE, or a length after it, found neither", "^~~~"),
     (
         "GET n\nIF\nFORK\nENDIF\nELSE\nENDIF",

@@ -167,6 +167,20 @@ fn a_sentence_names_program_id_fault_and_offset() {
     );
 }
 
+/// Of all short texts, the one of a fault's number has the most words of the guide's.
+#[test]
+fn short_texts_are_the_guides() {
+    let meanings = guide::meanings();
+    assert_eq!(meanings.len(), 13);
+    for (fault, meaning) in meanings {
+        let shared = |other: &u8| {
+            let words: BTreeSet<&str> = kernel::fault(*other).split(' ').collect();
+            meaning.split(' ').filter(|word| words.contains(word)).count()
+        };
+        assert_eq!((1..=13).max_by_key(shared), Some(fault), "{meaning}");
+    }
+}
+
 #[test]
 fn what_is_no_turn_is_not_explained() {
     let mut bench = Bench::new(SHORT_DISC);

@@ -127,6 +127,21 @@ fn put_and_rm_take_standard_input_and_output() {
     assert_eq!(bench.names(), ["box.img", "down", "log"]);
 }
 
+#[cfg(unix)]
+#[test]
+fn a_changed_image_stays_where_and_what_it_was() {
+    use std::os::unix::fs::{symlink, PermissionsExt};
+    let bench = shop("kept");
+    let image = bench.path("box.img");
+    std::fs::set_permissions(&image, PermissionsExt::from_mode(0o640)).expect("a bench");
+    bench.arduinos(&["disc", "rm", "box.img", "log"]).done();
+    assert_eq!(std::fs::metadata(&image).expect("the image").permissions().mode() & 0o777, 0o640);
+    symlink("box.img", bench.path("link.img")).expect("a bench");
+    bench.arduinos(&["disc", "rm", "link.img", "down"]).done();
+    assert!(std::fs::symlink_metadata(bench.path("link.img")).expect("the link").is_symlink());
+    assert_eq!(bench.arduinos(&["disc", "ls", "box.img"]).done(), "");
+}
+
 #[test]
 fn put_is_refused_with_what_helps() {
     let bench = shop("refused");
@@ -283,6 +298,9 @@ fn wrong_use_has_status_2() {
     misused(&["put", "box.img", ".."], ".. has no last part; --as gives a name");
     misused(&["get", "box.img"], "NAME is missing");
     misused(&["get", "box.img", "down", "-o"], "-o wants a value");
+    let image = bench.read("box.img");
+    misused(&["get", "box.img", "down", "-o", "./box.img"], "-o ./box.img would write over the image");
+    assert_eq!(bench.read("box.img"), image);
     misused(&["rm", "box.img"], "NAME is missing");
     misused(&["rm"], "IMAGE is missing");
     misused(&["check", "-", "--area", "-"], "standard input cannot be both IMAGE and the work area");

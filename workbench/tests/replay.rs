@@ -27,6 +27,9 @@ fn a_record_is_made_again() {
     );
     let traced = bench.arduinos(&["replay", "r", "--trace"]);
     assert_eq!((traced.status, traced.out.lines().count()), (0, 1 + 29 + 3 + 2));
+    let run = bench.arduinos(&["run", "box.img", "down", "wrong", "--share", "down=3", "--clock", "100", "--trace"]);
+    let turns: Vec<&str> = traced.out.lines().filter(|line| line.starts_with(' ')).collect();
+    assert_eq!(turns, run.out.lines().collect::<Vec<_>>());
     assert_eq!(bench.arduinos_with(&["replay", "-"], &bench.read("r")).status, 0);
 }
 
@@ -63,6 +66,7 @@ fn messages_name_the_place() {
         ("\"3\\n\"", "\"4\\n\"", "r:13:15: round 200: the record has the output \"4\\n\", the kernel writes \"3\\n\""),
         ("run \"down\"", "run \"dawn\"", "r:9:14: run \"dawn\": the record has 1, the kernel answers -10"),
         ("round 200 =", "round 2x0 =", "r:13:7: expected a clock reading"),
+        ("round 200 =", "round 0200 =", "r:13:7: expected a clock reading"),
         ("round 200 =", "round 200  ", "r:13:11: expected '='"),
         ("round 200 =", "ground 20 =", "r:13:1: expected a call, 'disc', 'area', 'at' or 'sum'"),
         ("area 1056", "area 1055", "r:8:8: boot: the record has 0, the kernel answers -1"),
@@ -77,8 +81,37 @@ fn messages_name_the_place() {
     bench.write("r", whole.replace(disc, "00000000").as_bytes());
     let message = format!("r:8:10: boot: the record has the checksum 00000000 of the disc, the kernel leaves {disc}");
     assert_eq!(bench.arduinos(&["replay", "r"]).first_error(), message);
-    bench.write("r", whole.replace("\nsum", "\n\nsum").as_bytes());
-    assert_eq!(bench.arduinos(&["replay", "r"]).status, 1);
+    let area = &lines[12][39..47];
+    bench.write("r", whole.replace(area, "00000000").as_bytes());
+    let message =
+        format!("r:13:35: round 200: the record has the checksum 00000000 of the area, the kernel leaves {area}");
+    assert_eq!(bench.arduinos(&["replay", "r"]).first_error(), message);
+}
+
+#[test]
+fn a_record_has_one_form() {
+    let bench = Bench::new("form", &[("down", DOWN), ("wrong", WRONG_TYPE)]);
+    let whole = String::from_utf8(recorded(&bench)).unwrap();
+    let round = whole.lines().nth(12).unwrap();
+    let (front, area) = round.split_at(39);
+    assert_ne!(area, area.to_uppercase());
+    let order = "expected 'disc', then 'area', each with its bytes, then calls, then 'sum'";
+    for (old, new, message) in [
+        (round, format!("{front}{}", area.to_uppercase()), "r:13:40: expected a checksum of eight hex digits"),
+        (round, format!("{round} x"), "r:13:49: expected the end of the line"),
+        (round, format!("{round} "), "r:13:48: expected the end of the line"),
+        (round, format!("{round}\nat 0 00"), &format!("r:14:1: {order}")),
+        ("disc 1024", "area 1024".to_string(), &format!("r:2:1: {order}")),
+        ("\nsum", "\n\nsum".to_string(), "r:22:1: expected a call, 'disc', 'area', 'at' or 'sum'"),
+    ] {
+        assert_eq!(whole.matches(old).count(), 1, "{old}");
+        bench.write("r", whole.replace(old, &new).as_bytes());
+        let ran = bench.arduinos(&["replay", "r"]);
+        assert_eq!((ran.status, ran.first_error(), ran.out.as_str()), (1, message, ""));
+    }
+    bench.write("r", format!("{whole}boot = 0 disc 00000000 area 00000000\n").as_bytes());
+    let ran = bench.arduinos(&["replay", "r"]);
+    assert_eq!(ran.first_error(), "r:23:1: expected the end of the record after 'sum'");
 }
 
 #[test]
@@ -133,7 +166,10 @@ fn every_call() -> Vec<Call> {
 #[test]
 fn every_call_is_written_and_read() {
     for length in [1024, 4096, 7] {
-        let mut buffers = Buffers { disc: vec![0xA5; length], area: vec![3; 1056] };
+        // Rows of zeros, rows that begin with one, and rows without.
+        let bytes = |length| (0..length).map(|at| if at % 48 < 17 { 0 } else { at as u8 }).collect::<Vec<u8>>();
+        let mut buffers = Buffers { disc: bytes(length), area: bytes(1056) };
+        let begun = buffers.clone();
         let mut writer = Writer::begin(Vec::new(), &buffers).unwrap();
         let mut numbers = Vec::new();
         for call in every_call() {
@@ -143,6 +179,7 @@ fn every_call_is_written_and_read() {
         }
         let text = writer.end().unwrap();
         let record = record::read(&text).unwrap();
+        assert_eq!(record.buffers, begun);
         let read: Vec<Call> = record.calls.iter().map(|recorded| recorded.made.call.clone()).collect();
         assert_eq!(read, every_call());
         assert!(!is_told(&text));

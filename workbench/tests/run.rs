@@ -40,6 +40,11 @@ fn a_share_gives_turns_in_a_row() {
     let both =
         ["run", "box.img", "down", "lamp", "--share", "down=8", "--share=lamp=2", "--rounds", "4", "--clock", "0"];
     assert_eq!(bench.arduinos(&both).out, "3\n2\nred\n1\n");
+    let again = ["run", "box.img", "down", "--share", "down=2", "--share", "down=8", "--clock", "100"];
+    assert_eq!(bench.arduinos(&again).err, "4 rounds, no process runs\n");
+    let named = Bench::new("share_named", &[("a=b", DOWN)]);
+    let ran = named.arduinos(&["run", "box.img", "a=b", "--share", "a=b=8", "--clock", "100"]);
+    assert_eq!((ran.status, ran.err.as_str()), (0, "4 rounds, no process runs\n"));
     for (share, status, message) in [
         ("down=9", 1, "share of 9 for \"down\": a share is 1 to 8 (refusal 22)"),
         ("down=0", 1, "share of 0 for \"down\": a share is 1 to 8 (refusal 22)"),
@@ -79,6 +84,39 @@ fn a_trace_shows_every_turn() {
         "wrong (ID 2) ended by fault 6 at offset 8: PLUS takes numbers; below the INT 5 lay the string \"abc\"\n\
          29 rounds, no process runs\n"
     );
+}
+
+/// The lines of a trace, from the instruction on.
+fn traced(bench: &Bench, name: &str) -> Vec<String> {
+    let ran = bench.arduinos(&["run", "box.img", name, "--clock", "10", "--rounds", "20", "--trace"]);
+    assert_eq!(ran.status, 0);
+    ran.out.lines().skip(1).map(|line| line[36..].to_string()).collect()
+}
+
+#[test]
+fn a_trace_shows_waits_and_only_variables_that_changed() {
+    // MILLIS, CHAR 45, PLUS, DELAYUNTIL, STOP: from clock 10 to 55, a turn each 10
+    let wait: &[u8] = &[45, 1, 45, 9, 44, 67];
+    // CHAR 1, SET a, CHAR 2, SET b, CHAR 1, SET a, STOP: a's entry comes behind b's
+    let set: &[u8] = &[1, 1, 5, b'a', 1, 2, 5, b'b', 1, 1, 5, b'a', 67];
+    let bench = Bench::new("waits", &[("wait", wait), ("set", set)]);
+    let waits = [
+        "PLUS                  [INT 55]",
+        "DELAYUNTIL            [INT 55]  stays",
+        "DELAYUNTIL            [INT 55]  stays",
+        "DELAYUNTIL            []",
+        "STOP                    ended",
+    ];
+    assert_eq!(traced(&bench, "wait")[2..], waits);
+    let sets = [
+        "SET a                 []  a = CHAR 1",
+        "CHAR 2                [CHAR 2]",
+        "SET b                 []  b = CHAR 2",
+        "CHAR 1                [CHAR 1]",
+        "SET a                 []",
+        "STOP                    ended",
+    ];
+    assert_eq!(traced(&bench, "set")[1..], sets);
 }
 
 #[test]

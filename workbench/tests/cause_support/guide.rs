@@ -1,11 +1,25 @@
-//! Which faults each instruction can end with: the table of docs/GUIDE.md, part 4.
+//! Which faults each instruction can end with, and what each fault means: tables of docs/GUIDE.md.
 
 use std::collections::BTreeSet;
 
+fn text() -> String {
+    let path = concat!(env!("CARGO_MANIFEST_DIR"), "/../docs/GUIDE.md");
+    std::fs::read_to_string(path).expect("docs/GUIDE.md")
+}
+
+/// Faults 1 to 13 and what they mean, by the guide's table of them.
+pub fn meanings() -> Vec<(u8, String)> {
+    let guide = text();
+    let (_, table) = guide.split_once("| fault | meaning |").expect("the table of faults");
+    let rows = table.lines().skip(1).take_while(|line| line.starts_with('|'));
+    let cells = rows.map(|row| row.split('|').map(str::trim).collect::<Vec<&str>>());
+    let faults = cells.filter_map(|cells| Some((cells[1].parse().ok()?, cells[2].to_string())));
+    faults.filter(|&(fault, _)| fault > 0).collect()
+}
+
 /// Pairs of instruction byte and fault.
 pub fn faults() -> BTreeSet<(u8, u8)> {
-    let path = concat!(env!("CARGO_MANIFEST_DIR"), "/../docs/GUIDE.md");
-    let guide = std::fs::read_to_string(path).expect("docs/GUIDE.md");
+    let guide = text();
     let mut pairs = BTreeSet::new();
     let mut rows = 0;
     for line in guide.lines() {

@@ -172,6 +172,14 @@ pub const SPOILT: &[Routine] = &[
         5,
         "PRINTLN takes a value; on top of the stack lay the byte 7, as the WHILE at offset 2 pushes for its ENDWHILE",
     ),
+    // both WHILEs push 13; the inner one's is on top
+    routine(
+        &[CHAR, 1, WHILE, 2, 7, CHAR, 1, WHILE, 8, 1, PRINTLN, ENDWHILE, ENDWHILE, STOP],
+        6,
+        10,
+        "PRINTLN takes a value; on top of the stack lay the byte 13, which the WHILE at offset 7 pushes for its \
+         ENDWHILE",
+    ),
     routine(
         &[CHAR, 1, WHILE, 9, 0, CLOSE, PRINTLN],
         6,
