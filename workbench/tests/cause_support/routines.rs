@@ -177,7 +177,7 @@ pub const SPOILT: &[Routine] = &[
         &[CHAR, 1, WHILE, 2, 7, CHAR, 1, WHILE, 8, 1, PRINTLN, ENDWHILE, ENDWHILE, STOP],
         6,
         10,
-        "PRINTLN takes a value; on top of the stack lay the byte 13, which the WHILE at offset 7 pushes for its \
+        "PRINTLN takes a value; on top of the stack lay the byte 13, as the WHILE at offset 7 pushes for its \
          ENDWHILE",
     ),
     routine(
@@ -436,6 +436,8 @@ pub const OTHER: &[Routine] = &[
     routine(&[CHAR, 0, IF, 70], 3, 2, "IF jumps to offset 74, past the code's end at 4"),
     routine(&[CHAR, 1, ELSE, 1], 3, 2, "ELSE jumps to offset 5, past the code's end at 4"),
     routine(&[CHAR, 0, WHILE, 2, 8], 3, 2, "WHILE jumps to offset 14, past the code's end at 5"),
+    // 300 bytes of condition and body are no fault where the condition is zero
+    routine(&[CHAR, 0, WHILE, 200, 100], 3, 2, "WHILE jumps to offset 106, past the code's end at 5"),
     routine(
         &[CHAR, 1, WHILE, 12, 2, ENDWHILE],
         3,
