@@ -4,7 +4,7 @@ use super::line::{Line, Made, FIRST_LINE};
 use crate::call::Buffers;
 use crate::checksum::Checksum;
 
-/// The most bytes that a record's buffer may have: more than any buffer of the kernel, so that refusal 1 can be recorded.
+/// The most bytes that a record's buffer may have: more than the kernel takes, so that refusal 1 can be recorded.
 const MOST_BYTES: usize = 65_536;
 
 /// A record as it was read.
