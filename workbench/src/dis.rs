@@ -1,12 +1,15 @@
 //! The disassembler: a program's bytes as source text that the assembler takes and makes the same bytes of.
 
 use crate::instruction::{self, Arguments, Instruction, MAX_WHILE};
+use crate::layout::STACK_LEN;
 use crate::literal;
 
 /// Most bytes in a line of DATA.
 const ROW: usize = 8;
 /// The column of the comments.
 const COMMENT: usize = 24;
+/// The longest text that fits an empty stack, with its zero, its length and its type.
+const MOST_LETTERS: usize = STACK_LEN - 3;
 
 /// What stands at an offset.
 enum Piece<'a> {
@@ -108,6 +111,9 @@ fn note(instruction: &Instruction, arguments: &[u8], offset: usize, end: usize) 
     match (instruction.arguments, arguments) {
         _ if !instruction.built => "not built: fault 1".into(),
         (Arguments::Char, &[byte @ b' '..=b'~']) => byte.to_string(),
+        (Arguments::Text, [text @ .., _]) if text.len() > MOST_LETTERS => {
+            format!("above {MOST_LETTERS} letters: fault 4")
+        }
         (Arguments::Length, &[length]) => {
             let when = if instruction.mnemonic == "IF" { "zero" } else { "not zero" };
             format!("{when}: to {}", target(past + usize::from(length), end))

@@ -17,10 +17,23 @@ pub fn shown(path: &str) -> &str {
     }
 }
 
-/// Whether two paths are one file that is there; '-' is none.
+/// Whether two paths are one file, be it there or not; '-' is none.
 pub fn is_same(a: &str, b: &str) -> bool {
-    let real = |path: &str| if path == "-" { None } else { fs::canonicalize(path).ok() };
+    let real = |path: &str| if path == "-" { None } else { real_path(Path::new(path)) };
     real(a).is_some_and(|a| Some(a) == real(b))
+}
+
+/// Where a file is, or would be made: by its folder if it is not there, and by what a link names.
+fn real_path(path: &Path) -> Option<PathBuf> {
+    if let Ok(found) = fs::canonicalize(path) {
+        return Some(found);
+    }
+    let place = fs::read_link(path).map_or(path.to_path_buf(), |link| folder_of(path).join(link));
+    Some(fs::canonicalize(folder_of(&place)).ok()?.join(place.file_name()?))
+}
+
+fn folder_of(path: &Path) -> &Path {
+    path.parent().filter(|parent| !parent.as_os_str().is_empty()).unwrap_or(Path::new("."))
 }
 
 /// Writes a message to standard error. There is nobody to tell that it cannot be written.
@@ -56,11 +69,7 @@ pub fn read_front(path: &str, most: u64) -> Outcome<Vec<u8>> {
 
 /// Refuses a path that no file can be written to: one in a folder that is not there, or a folder itself.
 pub fn check_place(path: &str) -> Outcome {
-    let folder = match Path::new(path).parent() {
-        Some(parent) if !parent.as_os_str().is_empty() => parent,
-        _ => Path::new("."),
-    };
-    match fs::metadata(folder) {
+    match fs::metadata(folder_of(Path::new(path))) {
         Err(error) => refused(format!("{path}: {error}")),
         Ok(_) if Path::new(path).is_dir() => refused(format!("{path}: it is a folder")),
         Ok(_) => Ok(()),

@@ -52,7 +52,12 @@ impl Replay {
     fn make(&mut self, recorded: &Recorded) -> Result<(), Difference> {
         let before = self.buffers.clone();
         let answer = recorded.made.call.make(&mut self.buffers);
-        for turn in self.turns(&recorded.made.call, before, &answer) {
+        let turns = self.turns(&recorded.made.call, &before, &answer).ok_or_else(|| Difference {
+            line: recorded.line,
+            column: 1,
+            message: format!("{} and its turns came to different buffers: a defect of the kernel", recorded.made.call),
+        })?;
+        for turn in turns {
             if self.trace {
                 self.tell(&trace::line(self.rounds, &turn));
             }
@@ -68,24 +73,25 @@ impl Replay {
         })
     }
 
-    /// The turns that a done turn or round stands for.
-    fn turns(&mut self, call: &Call, before: Buffers, answer: &Answer) -> Vec<Turn> {
+    /// The turns that a done turn or round stands for, where there is something to say of them; none if they and the
+    /// round came to different buffers.
+    fn turns(&mut self, call: &Call, before: &Buffers, answer: &Answer) -> Option<Vec<Turn>> {
         match *call {
-            _ if answer.number < 0 => Vec::new(),
+            _ if answer.number < 0 => Some(Vec::new()),
             Call::Turn { slot, clock, .. } => {
                 self.rounds += 1;
-                let printed = answer.output.clone();
-                vec![Turn { slot: slot as usize, clock, before, after: self.buffers.clone(), printed }]
+                let (after, printed) = (self.buffers.clone(), answer.output.clone());
+                Some(vec![Turn { slot: slot as usize, clock, before: before.clone(), after, printed }])
             }
             Call::Round { clock, .. } => {
                 self.rounds += 1;
-                if self.trace || turns::may_have_ended(&before.area, &self.buffers.area) {
-                    turns::of_round(&before, clock)
-                } else {
-                    Vec::new()
+                if !self.trace && !turns::may_have_ended(&before.area, &self.buffers.area) {
+                    return Some(Vec::new());
                 }
+                let turns = turns::of_round(before, clock);
+                turns::agree(&turns, before, &self.buffers, answer).then_some(turns)
             }
-            _ => Vec::new(),
+            _ => Some(Vec::new()),
         }
     }
 }

@@ -20,14 +20,32 @@ fn bytes(source: &str) -> Vec<u8> {
     assembled(source).bytes
 }
 
-/// The assembler warns of nothing in a text of `dis` but of instructions that are not built.
-fn comes_back(code: &[u8]) {
+/// What `dis` notes and the assembler warns of: the note's end and the message.
+const NOTED: [(&str, &str); 3] = [
+    ("not built: fault 1", "NotBuilt"),
+    ("above 29 letters: fault 4", "LongString"),
+    ("else fault 8", "LengthsTooLarge"),
+];
+
+/// The assembler's warnings of a text of `dis`: where that has a note they are of the same. The names of the others.
+fn comes_back(code: &[u8]) -> BTreeSet<&'static str> {
     let text = disassemble(code);
     let program = assembled(&text);
     assert_eq!(program.bytes, code, "{text}");
-    let warned: Vec<usize> = program.warnings.iter().map(|warning| warning.line).collect();
-    let noted = text.lines().enumerate().filter(|(_, line)| line.ends_with("not built: fault 1"));
-    assert_eq!(warned, noted.map(|(index, _)| index + 1).collect::<Vec<_>>(), "{text}");
+    let mut others: BTreeSet<&str> = program.warnings.iter().map(|warning| warning.problem.message.name()).collect();
+    for (note, message) in NOTED {
+        let warned = program.warnings.iter().filter(|warning| warning.problem.message.name() == message);
+        let noted = text.lines().enumerate().filter(|(_, line)| line.ends_with(note));
+        let noted: Vec<usize> = noted.map(|(index, _)| index + 1).collect();
+        assert_eq!(warned.map(|warning| warning.line).collect::<Vec<_>>(), noted, "{text}");
+        others.remove(message);
+    }
+    others
+}
+
+/// A program whose blocks have their ends where the lengths say, and a LOOP before each ENDLOOP.
+fn comes_back_quietly(code: &[u8]) {
+    assert_eq!(comes_back(code), BTreeSet::new(), "{code:?}");
 }
 
 #[test]
@@ -85,13 +103,16 @@ fn random_bytes_come_back() {
     let blocks: Vec<u8> = vec![0, 1, 2, 3, 4, 5, 6, 60, 61, 62, 63, 64, 65, 66, 34, 39, 92, 255];
     let instructions: Vec<u8> = (0..=70).collect();
     let all: Vec<u8> = (0..=255).collect();
+    let mut warned = BTreeSet::new();
     for alphabet in [&blocks, &instructions, &all] {
         for _ in 0..1500 {
             let length = random.below(301);
             let code: Vec<u8> = (0..length).map(|_| random.pick(alphabet)).collect();
-            comes_back(&code);
+            warned.extend(comes_back(&code));
         }
     }
+    // Lengths that miss the ends, but no ends without blocks: all lengths are given.
+    assert_eq!(warned, BTreeSet::from(["BodyDiffers", "EndMissed", "NoLoop"]));
 }
 
 #[test]
@@ -155,6 +176,11 @@ fn dis_says_where_jumps_go_and_what_cannot_be_done() {
             "WHILE 1 1                ; 0     zero: to 5, else again from before the program: fault 3",
         ),
         (&[63, 251, 1, 7, 64], "WHILE 251 1              ; 0     zero: to 5, else fault 8"),
+        (
+            &[&[3][..], &[65; 30], &[0]].concat(),
+            &format!("STRING \"{}\" ; 0     above 29 letters: fault 4", "A".repeat(30)),
+        ),
+        (&[&[3][..], &[65; 29], &[0]].concat(), &format!("STRING \"{}\" ; 0", "A".repeat(29))),
         (&[43], "DELAY                    ; 0     not built: fault 1"),
         (&[1, 97], "CHAR 'a'                 ; 0     97"),
         (
@@ -224,7 +250,7 @@ fn the_programs_of_appendix_a() {
     for (name, code) in APPENDIX_A {
         assert_eq!(bytes(&guide(name)), code, "{name}");
         assert_eq!(bytes(&guide(&format!("{name}_short"))), code, "{name}_short");
-        comes_back(code);
+        comes_back_quietly(code);
     }
 }
 
@@ -257,7 +283,7 @@ fn the_programs_of_the_guide() {
     for name in ["hours", "lamp", "load", "down", "logger", "reader", "starter", "powerups"] {
         let (_, code) = arrays.iter().find(|(found, _)| found == name).unwrap_or_else(|| panic!("{name}"));
         assert_eq!(&bytes(&guide(name)), code, "{name}");
-        comes_back(code);
+        comes_back_quietly(code);
     }
 }
 
@@ -484,6 +510,7 @@ fn lengths_of_nested_blocks() {
         let (source, code) = nested(&mut random, 3);
         if code.len() <= 251 {
             assert_eq!(bytes(&source), code, "{source}");
+            comes_back_quietly(&code);
             deep += usize::from(source.contains("WHILE\n") && source.contains("ELSE\n"));
         }
     }

@@ -282,14 +282,14 @@ const DOUBTFUL: &[(&str, &str, &str, &str)] = &[
          an ENDWHILE that only takes a byte off the stack is written DATA ENDWHILE",
         "^~~~~~~~",
     ),
-    // Where a given length leads is not told.
+    // Only of a block whose lengths are counted it is told where it ended.
     (
         "IF 1\nPLUS\nENDIF\nENDIF\nIF\nENDIF",
         "4:1",
         "this ENDIF closes no IF; an ENDIF that only takes a number off the stack is written DATA ENDIF",
         "^~~~~",
     ),
-    ("ELSE 1\nIF\nENDIF\nENDIF", "1:1", "this ELSE closes no IF", "^~~~"),
+    ("ELSE 3\nIF\nENDIF\nENDIF", "1:1", "this ELSE closes no IF", "^~~~"),
     (
         "IF\nFORK\nENDIF\nELSE 1\nPLUS\nENDIF",
         "4:1",
@@ -297,7 +297,82 @@ const DOUBTFUL: &[(&str, &str, &str, &str)] = &[
          an ENDIF that only takes a number off the stack is written DATA ENDIF",
         "^~~~",
     ),
+    // Given lengths.
+    (
+        "GET n\n IF 2\n300\nELSE 1\nPLUS\nENDIF",
+        "2:2",
+        "IF 2 does not lead to its ELSE of line 4, 3 bytes on; without a number the length is counted",
+        " ^~",
+    ),
+    (
+        "GET n\nIF 0\nelse 2\nPLUS\nENDIF",
+        "3:1",
+        "ELSE 2 does not lead to its ENDIF of line 5, 1 byte on; without a number the length is counted",
+        "^~~~",
+    ),
+    (
+        "GET n\nIF\nIF 0\nPLUS\nENDIF\nENDIF",
+        "3:1",
+        "IF 0 does not lead to its ENDIF of line 5, 1 byte on; without a number the length is counted",
+        "^~",
+    ),
+    (
+        "GET n\nWHILE 2 4\nGET n\n\nPRINTLN\nENDWHILE",
+        "2:1",
+        "WHILE 2 4: its body up to the ENDWHILE of line 6 has 3 bytes; without numbers the lengths are counted",
+        "^~~~~",
+    ),
+    (
+        "GET n\nIF 3\nELSE 1\nPLUS\nENDIF",
+        "2:1",
+        "IF 3 does not lead to its ELSE of line 3, 0 bytes on; without a number the length is counted",
+        "^~",
+    ),
+    // What dis makes of DATA ENDIF and DATA ENDWHILE inside a block.
+    (
+        "GET n\nIF 2\nFORK\nENDIF\nELSE 0\nENDIF",
+        "2:1",
+        "IF 2 does not lead to its ENDIF of line 4, 1 byte on; without a number the length is counted; \
+         an ENDIF that only takes a number off the stack is written DATA ENDIF",
+        "^~",
+    ),
+    (
+        "GET n\nWHILE 2 1\nENDWHILE\nENDWHILE",
+        "2:1",
+        "WHILE 2 1: its body up to the ENDWHILE of line 3 has 0 bytes; without numbers the lengths are counted; \
+         an ENDWHILE that only takes a byte off the stack is written DATA ENDWHILE",
+        "^~~~~",
+    ),
+    (
+        "GET n\nWHILE 2 1\nENDWHILE\nENDIF",
+        "2:1",
+        "WHILE 2 1: its body up to the ENDWHILE of line 3 has 0 bytes; without numbers the lengths are counted",
+        "^~~~~",
+    ),
+    (
+        "GET n\nWHILE 200 52",
+        "2:1",
+        "WHILE 200 52: condition and body together are at most 251 bytes; \
+         on a value that is not zero it ends by fault 8",
+        "^~~~~",
+    ),
+    (
+        "WHILE 255 255\nENDWHILE",
+        "1:1",
+        "WHILE 255 255: condition and body together are at most 251 bytes; \
+         on a value that is not zero it ends by fault 8",
+        "^~~~~",
+    ),
+    // What ends by a fault.
     ("GET n\n pinmode ; a pin", "2:2", "PINMODE is not built: the box ends the process by fault 1 here", " ^~~~~~~"),
+    (
+        "\"123456789012345678901234567890\"",
+        "1:1",
+        "a STRING of 31 bytes and its length and type do not fit a stack of 32 bytes: fault 4",
+        "^~~~~~~~~~~~~~~~~~~~~~~~~~~~~~~~",
+    ),
+    ("SET count\n GET counts\nGET counts", "2:6", "counts is never SET: GET ends by fault 9", "     ^~~~~~"),
+    ("PRINTLN\n endloop", "2:2", "the source has no LOOP: ENDLOOP ends by fault 3", " ^~~~~~~"),
 ];
 
 /// Instructions that a condition is not counted over.
@@ -331,10 +406,16 @@ fn every_doubtful_source_is_warned_of() {
 fn sources_without_warnings() {
     for source in [
         // All lengths are given: any shape may be meant.
-        "ENDIF\nENDWHILE\nELSE 3\nIF 9\nENDIF\nENDIF",
+        "ENDIF\nENDWHILE\nELSE 3\nIF 0\nENDIF\nENDIF",
+        "IF 3\nWHILE 2 249\nELSE 9\nPRINTLN",
+        "IF 0\nELSE 7\nELSE 1\nPLUS\nENDIF",
+        "GET n\nWHILE 2 0\nENDWHILE",
         // What is written as bytes is no end of a block.
         "GET n\nIF\nFORK\nDATA ENDIF\nELSE\nDATA ENDIF ENDWHILE PINMODE\nENDIF",
         "GET n\nWHILE\nGET n\nIF 1\nPLUS\nENDIF\nENDWHILE\nCHAR DELAY",
+        "\"12345678901234567890123456789\"\nDATA \"123456789012345678901234567890\"",
+        // A SET or a LOOP that comes later in the source may be executed before.
+        "GET count\nSET count\nGET n\nENDLOOP\nLOOP",
     ] {
         assert_eq!(warnings(source), [], "{source}");
     }
@@ -348,7 +429,8 @@ fn instructions_that_are_not_built_are_warned_of() {
     let given = |found: &Instruction| match found.arguments {
         Arguments::None => "",
         Arguments::Text => "\"\"",
-        Arguments::Lengths => "1 1",
+        Arguments::Lengths => "1 0",
+        Arguments::Length => "0",
         _ => "1",
     };
     let source: String = TABLE.iter().map(|found| format!("{} {}\n", found.mnemonic, given(found))).collect();

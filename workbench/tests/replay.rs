@@ -100,6 +100,8 @@ fn a_record_has_one_form() {
         (round, format!("{front}{}", area.to_uppercase()), "r:13:40: expected a checksum of eight hex digits"),
         (round, format!("{round} x"), "r:13:49: expected the end of the line"),
         (round, format!("{round} "), "r:13:48: expected the end of the line"),
+        (round, format!("{round}\r"), "r:13:48: expected a newline alone, found a carriage return"),
+        (round, round.replace(" =", " room 2560 ="), "r:13:11: expected the form in which a record is written"),
         (round, format!("{round}\nat 0 00"), &format!("r:14:1: {order}")),
         ("disc 1024", "area 1024".to_string(), &format!("r:2:1: {order}")),
         ("\nsum", "\n\nsum".to_string(), "r:22:1: expected a call, 'disc', 'area', 'at' or 'sum'"),

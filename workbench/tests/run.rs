@@ -66,19 +66,19 @@ fn a_trace_shows_every_turn() {
     let lines: Vec<&str> = ran.out.lines().collect();
     assert_eq!(lines.len(), 1 + 29 + 3);
     let expected = [
-        " round   clock  slot    ID  offset  instruction           stack after it, bottom first",
-        "     1     100     0     1       0  INT 3                 [INT 3]",
-        "     1     100     1     2       0  STRING \"abc\"          [STRING \"abc\"]",
-        "     2     200     0     1       3  SET n                 []  n = INT 3",
-        "     2     200     1     2       5  INT 5                 [STRING \"abc\", INT 5]",
-        "     3     300     0     1       5  GET n                 [INT 3]",
-        "     3     300     1     2       8  PLUS                    ended by fault 6",
-        "     4     400     0     1       7  WHILE 2 8             [byte 14]",
-        "     5     500     0     1      10  GET n                 [byte 14, INT 3]",
-        "     6     600     0     1      12  PRINTLN               [byte 14]  printed \"3\\n\"",
+        " round      clock  slot    ID  offset  instruction           stack after it, bottom first",
+        "     1        100     0     1       0  INT 3                 [INT 3]",
+        "     1        100     1     2       0  STRING \"abc\"          [STRING \"abc\"]",
+        "     2        200     0     1       3  SET n                 []  n = INT 3",
+        "     2        200     1     2       5  INT 5                 [STRING \"abc\", INT 5]",
+        "     3        300     0     1       5  GET n                 [INT 3]",
+        "     3        300     1     2       8  PLUS                    ended by fault 6",
+        "     4        400     0     1       7  WHILE 2 8             [byte 14]",
+        "     5        500     0     1      10  GET n                 [byte 14, INT 3]",
+        "     6        600     0     1      12  PRINTLN               [byte 14]  printed \"3\\n\"",
     ];
     assert_eq!(lines[..10], expected);
-    assert_eq!(lines[32], "    29    2900     0     1      19  STOP                    ended");
+    assert_eq!(lines[32], "    29       2900     0     1      19  STOP                    ended");
     assert_eq!(
         ran.err,
         "wrong (ID 2) ended by fault 6 at offset 8: PLUS takes numbers; below the INT 5 lay the string \"abc\"\n\
@@ -90,14 +90,14 @@ fn a_trace_shows_every_turn() {
 fn traced(bench: &Bench, name: &str) -> Vec<String> {
     let ran = bench.arduinos(&["run", "box.img", name, "--clock", "10", "--rounds", "20", "--trace"]);
     assert_eq!(ran.status, 0);
-    ran.out.lines().skip(1).map(|line| line[36..].to_string()).collect()
+    ran.out.lines().skip(1).map(|line| line[39..].to_string()).collect()
 }
 
 #[test]
 fn a_trace_shows_waits_and_only_variables_that_changed() {
     // MILLIS, CHAR 45, PLUS, DELAYUNTIL, STOP: from clock 10 to 55, a turn each 10
     let wait: &[u8] = &[45, 1, 45, 9, 44, 67];
-    // CHAR 1, SET a, CHAR 2, SET b, CHAR 1, SET a, STOP: a's entry comes behind b's
+    // CHAR 1, SET a, CHAR 2, SET b, CHAR 1, SET a, STOP: a's entry comes after b's
     let set: &[u8] = &[1, 1, 5, b'a', 1, 2, 5, b'b', 1, 1, 5, b'a', 67];
     let bench = Bench::new("waits", &[("wait", wait), ("set", set)]);
     let waits = [
@@ -175,7 +175,7 @@ fn a_wait_is_shown_as_one() {
     let bench = Bench::new("wait", &[("wait", &wait)]);
     let ran = bench.arduinos(&["run", "box.img", "wait", "--clock", "10", "--rounds", "7", "--trace"]);
     let waits: Vec<&str> = ran.out.lines().filter(|line| line.ends_with("  stays")).collect();
-    assert_eq!(waits, ["     4      40     0     1       5  DELAYUNTIL            [INT 50]  stays"]);
+    assert_eq!(waits, ["     4         40     0     1       5  DELAYUNTIL            [INT 50]  stays"]);
     assert!(ran.out.ends_with("8  ENDWHILE              [byte 5]\n"), "{}", ran.out);
 }
 
@@ -185,7 +185,7 @@ fn the_code_ends_in_a_trace_too() {
     let ran = bench.arduinos(&["run", "box.img", "short", "--clock", "1", "--trace"]);
     assert_eq!(
         ran.out.lines().last(),
-        Some("     2       2     0     1       1  (the code's end)        ended by fault 2")
+        Some("     2          2     0     1       1  (the code's end)        ended by fault 2")
     );
 }
 
@@ -198,6 +198,7 @@ fn what_a_run_writes_is_checked_before_it_runs() {
         (vec!["--record", "./box.img"], 2, "--record would write over the image"),
         (vec!["--record", "x", "--save-disc", "x"], 2, "--save-disc would write over the file of --record"),
         (vec!["--save-disc", "x", "--save-area", "x"], 2, "--save-area would write over the file of --save-disc"),
+        (vec!["--record", "x", "--save-area", "./x"], 2, "--save-area would write over the file of --record"),
         (vec!["--save-disc", "-"], 2, "--save-disc wants a file: standard output has what the programs print"),
         (vec!["--record", "-"], 2, "--record wants a file: standard output has what the programs print"),
         (vec!["--record", "r", "--save-area", "no/x"], 1, "no/x: No such file or directory (os error 2)"),
@@ -208,6 +209,9 @@ fn what_a_run_writes_is_checked_before_it_runs() {
         assert_eq!((ran.out.as_str(), bench.names()), ("", vec!["box.img".to_string()]), "{options:?}");
     }
     assert_eq!(bench.read("box.img"), before);
+    std::os::unix::fs::symlink("nowhere", bench.path("link")).unwrap();
+    let ran = bench.arduinos(&["run", "box.img", "down", "--record", "link", "--save-area", "nowhere"]);
+    assert_eq!((ran.status, bench.has("nowhere")), (2, false));
 }
 
 #[test]

@@ -1,6 +1,7 @@
 //! The lengths after IF, ELSE and WHILE, counted from where their blocks end.
 //!
-//! Blocks whose lengths are all given may have any shape, since a program may jump as it likes. A block with a length
+//! Blocks whose lengths are all given may have any shape, since a program may jump as it likes; a given length that
+//! misses its block's end is warned of, as it is what remains of a text of `dis` that was edited. A block with a length
 //! to be counted must have its end, and no end of another block may cross it. Where lengths are counted, an end that
 //! closes nothing is warned of: ENDIF also serves to take a number off the stack, and one that does so inside a block
 //! would be taken for the block's end.
@@ -79,7 +80,10 @@ impl Blocks<'_, '_> {
         let is_counted = self.statements[index].statement.is_counted();
         match self.statements[index].statement.name() {
             "IF" => self.open.push(Opener { index, kind: Kind::If, is_counted }),
-            "WHILE" => self.open.push(Opener { index, kind: Kind::While, is_counted }),
+            "WHILE" => {
+                self.warn_of_lengths(index);
+                self.open.push(Opener { index, kind: Kind::While, is_counted });
+            }
             "ELSE" => self.meet_else(index, is_counted),
             "ENDIF" | "ENDWHILE" => self.meet_end(index),
             _ => {}
@@ -173,15 +177,16 @@ impl Blocks<'_, '_> {
         if name == "ELSE" && place.is_none() {
             return String::new();
         }
-        let taken = if end == "ENDIF" { "a number" } else { "a byte" };
-        let place = place.unwrap_or_default();
-        format!("{place}; an {end} that only takes {taken} off the stack is written DATA {end}")
+        place.unwrap_or_default() + &as_data(end)
     }
 
     /// The length of IF or ELSE, up to the statement that ends its body.
     fn count_body(&mut self, opener: Opener, end: usize) {
-        let Opener { index, is_counted: true, .. } = opener else { return };
+        let index = opener.index;
         let length = self.statements[end].offset - self.past(index);
+        if !opener.is_counted {
+            return self.compare(opener, end, length);
+        }
         if length > MAX_BODY {
             let message = Message::BodyTooLong { opener: self.name(index), end: self.name(end), length };
             return self.tell(index, message);
@@ -191,8 +196,11 @@ impl Blocks<'_, '_> {
 
     /// The lengths of WHILE, up to its ENDWHILE.
     fn count_while(&mut self, opener: Opener, end: usize) {
-        let Opener { index, is_counted: true, .. } = opener else { return };
+        let index = opener.index;
         let body = self.statements[end].offset - self.past(index);
+        if !opener.is_counted {
+            return self.compare(opener, end, body);
+        }
         let condition = match self.condition_start(index) {
             Ok(start) => self.statements[index].offset - start,
             Err(message) => return self.tell(index, message),
@@ -201,6 +209,53 @@ impl Blocks<'_, '_> {
             return self.tell(index, Message::WhileTooLong { length: condition + body });
         }
         self.lengths.insert(index, vec![condition as u8, body as u8]);
+    }
+
+    /// Warns of a given length that is not the one up to the block's end. An ELSE that another ELSE follows has no end.
+    fn compare(&mut self, opener: Opener, end: usize, length: usize) {
+        let Some(&given) = self.given(opener.index).and_then(<[u8]>::last) else { return };
+        let (found, line) = (self.statements[end].statement.name(), self.statements[end].line);
+        let has_no_end = opener.kind == Kind::Else && found == "ELSE";
+        if has_no_end || usize::from(given) == length {
+            return;
+        }
+        let leads_on = self.is_later_end(end, self.past(opener.index) + usize::from(given));
+        let hint = if leads_on { as_data(opener.kind.end()) } else { String::new() };
+        let (opener_text, length) = (self.with_lengths(opener.index), in_bytes(length));
+        let message = match opener.kind {
+            Kind::While => Message::BodyDiffers { opener: opener_text, line, length, hint },
+            Kind::If | Kind::Else => Message::EndMissed { opener: opener_text, end: found, line, length, hint },
+        };
+        self.tell(opener.index, message);
+    }
+
+    /// Whether an end of the same kind stands at a later place. Then the first may only take something off the stack.
+    fn is_later_end(&self, end: usize, place: usize) -> bool {
+        let name = self.statements[end].statement.name();
+        let mut later = self.statements[end + 1..].iter().take_while(|placed| placed.offset <= place);
+        name != "ELSE" && later.any(|placed| placed.offset == place && is_end(placed.statement.name(), name))
+    }
+
+    /// Warns of a WHILE whose given lengths are too large: fault 8 if "c + b above 251" (document 01).
+    fn warn_of_lengths(&mut self, index: usize) {
+        let sum = self.given(index).map_or(0, |given| given.iter().copied().map(usize::from).sum());
+        if sum > MAX_WHILE {
+            self.tell(index, Message::LengthsTooLarge { opener: self.with_lengths(index) });
+        }
+    }
+
+    /// The lengths that the source gives.
+    fn given(&self, index: usize) -> Option<&[u8]> {
+        match &self.statements[index].statement.operands {
+            Operands::Bytes(bytes) => Some(bytes),
+            _ => None,
+        }
+    }
+
+    /// An opener with its given lengths: 'WHILE 6 8'.
+    fn with_lengths(&self, index: usize) -> String {
+        let lengths = self.given(index).unwrap_or(&[]).iter().map(|length| format!(" {length}"));
+        self.name(index) + &lengths.collect::<String>()
     }
 
     /// Where the condition of a WHILE begins.
@@ -251,6 +306,21 @@ impl Blocks<'_, '_> {
         };
         self.problems.push((placed.line, problem));
     }
+}
+
+/// Whether a body that ends with `end` could end with `name`.
+fn is_end(name: &str, end: &str) -> bool {
+    name == end || (name == "ELSE" && end == "ENDIF")
+}
+
+/// How an end that is none is written.
+fn as_data(end: &str) -> String {
+    let taken = if end == "ENDIF" { "a number" } else { "a byte" };
+    format!("; an {end} that only takes {taken} off the stack is written DATA {end}")
+}
+
+fn in_bytes(length: usize) -> String {
+    format!("{length} byte{}", if length == 1 { "" } else { "s" })
 }
 
 /// The end that ELSE, ENDIF or ENDWHILE belongs with.

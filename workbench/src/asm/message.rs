@@ -87,13 +87,34 @@ messages! {
          put a label where the condition begins: WHILE label"
 
     ClosesNone { found: String, opener: String, hint: String } "this {found} closes no {opener}{hint}"
+    EndMissed { opener: String, end: &'static str, line: usize, length: String, hint: String }
+        "{opener} does not lead to its {end} of line {line}, {length} on; without a number the length is counted{hint}"
+    BodyDiffers { opener: String, line: usize, length: String, hint: String }
+        "{opener}: its body up to the ENDWHILE of line {line} has {length}; \
+         without numbers the lengths are counted{hint}"
+    LengthsTooLarge { opener: String }
+        "{opener}: condition and body together are at most 251 bytes; on a value that is not zero it ends by fault 8"
     NotBuilt { found: String } "{found} is not built: the box ends the process by fault 1 here"
+    LongString { length: usize }
+        "a STRING of {length} bytes and its length and type do not fit a stack of 32 bytes: fault 4"
+    NeverSet { name: String } "{name} is never SET: GET ends by fault 9"
+    NoLoop { } "the source has no LOOP: ENDLOOP ends by fault 3"
 }
 
 impl Message {
     /// Whether the source is assembled all the same.
     pub fn is_warning(&self) -> bool {
-        matches!(self, Message::ClosesNone { .. } | Message::NotBuilt { .. })
+        matches!(
+            self,
+            Message::ClosesNone { .. }
+                | Message::EndMissed { .. }
+                | Message::BodyDiffers { .. }
+                | Message::LengthsTooLarge { .. }
+                | Message::NotBuilt { .. }
+                | Message::LongString { .. }
+                | Message::NeverSet { .. }
+                | Message::NoLoop {}
+        )
     }
 }
 

@@ -1,6 +1,7 @@
 //! The assembler: a source text with the mnemonics of appendix C becomes the bytes of a program.
 
 mod blocks;
+mod doubts;
 mod lexer;
 mod listing;
 mod message;
@@ -59,7 +60,7 @@ pub fn assemble(source: &[u8]) -> Result<Program, Vec<Diagnostic>> {
     let texts: Vec<&str> = text.lines().collect();
     let mut problems = Vec::new();
     let (statements, labels) = read(&texts, &mut problems);
-    problems.extend(statements.iter().filter_map(not_built));
+    problems.extend(doubts::of(&statements));
     let names = Names::assign(&statements, &mut problems);
     let lengths = blocks::count(&statements, &labels, &mut problems);
     let (warnings, errors): (Vec<_>, Vec<_>) =
@@ -76,13 +77,6 @@ fn in_order(mut problems: Vec<(usize, Problem)>, texts: &[&str]) -> Vec<Diagnost
     problems.dedup_by_key(|(line, _)| *line);
     let diagnostic = |(line, problem)| Diagnostic { line, problem, text: texts[line - 1].to_string() };
     problems.into_iter().map(diagnostic).collect()
-}
-
-/// The warning of an instruction that the box does not execute.
-fn not_built(placed: &Placed) -> Option<(usize, Problem)> {
-    let instruction = placed.statement.instruction.filter(|instruction| !instruction.built)?;
-    let message = Message::NotBuilt { found: instruction.mnemonic.into() };
-    Some((placed.line, placed.statement.problem(message)))
 }
 
 /// Editors may put a byte order mark in front of a text.

@@ -1,9 +1,9 @@
 //! Fault 4: "4 stack above 32".
 
-use super::words::are;
+use super::words::{are, list, plain};
 use super::{file, variable, Turn};
 use crate::layout::STACK_LEN;
-use crate::value::STRING;
+use crate::value::{self, Value, STRING};
 use std::fmt;
 
 pub(super) const FAULT: u8 = 4;
@@ -15,7 +15,12 @@ pub struct Reason {
     pub taken: usize,
     pub popped: usize,
     pub pushed: usize,
+    /// What lies there, bottom first.
+    pub values: Vec<Value>,
 }
+
+/// How many of the values are named, the topmost ones.
+const NAMED: usize = 3;
 
 pub(super) fn tried(turn: &Turn) -> Result<(), Reason> {
     let pushed = pushed(turn);
@@ -24,7 +29,8 @@ pub(super) fn tried(turn: &Turn) -> Result<(), Reason> {
     }
     let taken = turn.record.stack().len();
     let popped = taken - turn.below.len();
-    Err(Reason { mnemonic: turn.instruction.mnemonic, taken, popped, pushed })
+    let values = value::stack(turn.record.stack());
+    Err(Reason { mnemonic: turn.instruction.mnemonic, taken, popped, pushed, values })
 }
 
 /// How many bytes a value takes on the stack: its own, a string's length, the type.
@@ -63,11 +69,17 @@ fn variable_length(turn: &Turn) -> usize {
 
 impl fmt::Display for Reason {
     fn fmt(&self, f: &mut fmt::Formatter<'_>) -> fmt::Result {
-        let Reason { mnemonic, taken, popped, pushed } = self;
+        let Reason { mnemonic, taken, popped, pushed, values } = self;
         write!(f, "the stack has {STACK_LEN} bytes: {} taken, and {mnemonic} ", are(*taken))?;
         match popped {
-            0 => write!(f, "pushes {pushed} more"),
-            _ => write!(f, "puts {pushed} in the place of {popped}"),
+            0 => write!(f, "pushes {pushed} more")?,
+            _ => write!(f, "puts {pushed} in the place of {popped}")?,
+        }
+        let topmost: Vec<String> = values.iter().skip(values.len().saturating_sub(NAMED)).map(plain).collect();
+        match values.len() {
+            0 => Ok(()),
+            1 => write!(f, "; one value lies there, {}", list(&topmost)),
+            count => write!(f, "; {count} values lie there, the topmost {}", list(&topmost)),
         }
     }
 }

@@ -13,7 +13,8 @@ Shows a program as source text, which 'arduinos asm' assembles to the same bytes
   -o OUT    write to OUT, not to standard output
 
 An instruction a line; after ';' its offset, where it jumps to and what it cannot do. Lengths of IF, ELSE and WHILE
-are shown as numbers. Bytes that are no instruction, and an instruction that the end of the program cuts off, are DATA.
+are shown as numbers. To change a routine, take the numbers off IF, ELSE and WHILE first: asm counts them then.
+Bytes that are no instruction, and an instruction that the end of the program cuts off, are DATA.
 A program on an EEPROM image is taken off it first: arduinos disc get.
 
 Example: counts down.

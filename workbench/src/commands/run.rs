@@ -184,7 +184,7 @@ impl Run {
             return Ok(0);
         }
         let turns = turns::of_round(before, clock);
-        if !turns::agree(&turns, &session.buffers, &answer) {
+        if !turns::agree(&turns, before, &session.buffers, &answer) {
             return refused(format!("round {round} and its turns came to different buffers: a defect of the kernel"));
         }
         let mut faults = 0;

@@ -79,6 +79,12 @@ impl Line {
             name => Line::Made(made(name, &mut words)?),
         };
         words.end()?;
+        // What was read is what would be written: a line has one form.
+        let written = line.to_string();
+        let same = written.chars().zip(text.chars()).take_while(|(a, b)| a == b).count();
+        if written != text {
+            return Err(LineError { column: same + 1, expected: "the form in which a record is written" });
+        }
         Ok(line)
     }
 }

@@ -38,6 +38,9 @@ fn wrong<T>(line: usize, column: usize, message: impl Into<String>) -> Result<T,
 /// Reads a record up to the checksum at its end.
 pub fn read(bytes: &[u8]) -> Result<Record, RecordError> {
     let lines = lines(bytes)?;
+    if let Some(line) = lines.iter().position(|line| line.ends_with('\r')) {
+        return wrong(line + 1, lines[line].chars().count(), "expected a newline alone, found a carriage return");
+    }
     if lines.first() != Some(&FIRST_LINE) {
         return wrong(1, 1, format!("expected '{FIRST_LINE}'"));
     }

@@ -8,13 +8,13 @@ use crate::literal;
 use crate::value::{self, Value};
 
 /// The line above a trace.
-pub const HEADER: &str = " round   clock  slot    ID  offset  instruction           stack after it, bottom first";
+pub const HEADER: &str = " round      clock  slot    ID  offset  instruction           stack after it, bottom first";
 
 /// One turn: where it was, the instruction, the stack after it, and what else it did.
 pub fn line(round: u64, turn: &Turn) -> String {
     let found = turn.found();
     let instruction = instruction_text(turn);
-    let place = format!("{round:6} {:7} {:5} {:5} {:7}", turn.clock, turn.slot, found.id(), found.pc());
+    let place = format!("{round:6} {:10} {:5} {:5} {:7}", turn.clock, turn.slot, found.id(), found.pc());
     let mut line = format!("{place}  {instruction:<20}  {}", stack_text(turn));
     for effect in effects(turn) {
         line.push_str("  ");

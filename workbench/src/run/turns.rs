@@ -46,10 +46,10 @@ pub fn of_round(before: &Buffers, clock: u32) -> Vec<Turn> {
     turns
 }
 
-/// Whether a round and its turns came to the same.
-pub fn agree(turns: &[Turn], after: &Buffers, answer: &Answer) -> bool {
+/// Whether a round, from the buffers before it to those after it, and its turns came to the same.
+pub fn agree(turns: &[Turn], before: &Buffers, after: &Buffers, answer: &Answer) -> bool {
     let printed: Vec<u8> = turns.iter().flat_map(|turn| turn.printed.iter().copied()).collect();
-    turns.last().is_none_or(|last| last.after == *after) && printed == answer.output
+    turns.last().map_or(before, |last| &last.after) == after && printed == answer.output
 }
 
 /// Whether a process may have ended between two work areas: one that lived lives no more, or an ID was given out, so

@@ -93,7 +93,7 @@ fn of_fetch(reason: &fetch::Reason) -> &'static str {
         fetch::Reason::NoInstruction(_) => "1 byte",
         fetch::Reason::NotBuilt("DELAY") => "1 DELAY",
         fetch::Reason::NotBuilt(_) => "1 not built",
-        fetch::Reason::CodeEnded => "2 end",
+        fetch::Reason::CodeEnded { .. } => "2 end",
         fetch::Reason::ArgumentsCutOff { left: 0, .. } => "2 none left",
         fetch::Reason::ArgumentsCutOff { .. } => "2 some left",
         fetch::Reason::NoZero => "2 no zero",

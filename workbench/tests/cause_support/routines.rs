@@ -22,6 +22,7 @@ pub const FETCH: &[Routine] = &[
     routine(&[CHAR, 1, PINMODE], 1, 2, "PINMODE is not built"),
     routine(&[INT, 0, 9, DELAY], 1, 3, "DELAY is not built; use MILLIS and DELAYUNTIL"),
     routine(&[CHAR, 1, PRINTLN], 2, 3, "the code ends here, without STOP"),
+    routine(&[CHAR, 0, IF, 1, STOP], 2, 5, "the code ends here; a jump went past the STOP at offset 4"),
     routine(&[CHAR], 2, 0, "CHAR wants 1 byte after it, none is left"),
     routine(&[CLOSE, INT, 7], 2, 1, "INT wants 2 bytes after it, 1 is left"),
     routine(&[FLOAT, 63, 128, 0], 2, 0, "FLOAT wants 4 bytes after it, 3 are left"),
@@ -68,7 +69,7 @@ pub const OPERAND: &[Routine] = &[
     routine(&[SET, b'n'], 5, 0, "SET takes a value; the stack was empty"),
     routine(&[DELAYUNTIL], 5, 0, "DELAYUNTIL takes a whole number (CHAR or INT); the stack was empty"),
     routine(&[ENDWHILE], 5, 0, "ENDWHILE takes the byte that WHILE pushed; the stack was empty"),
-    routine(&[ENDIF], 5, 0, "ENDIF takes the number that IF left; the stack was empty"),
+    routine(&[ENDIF], 5, 0, "ENDIF takes a number, such as IF leaves; the stack was empty"),
     routine(
         &[CHAR, 6, OPEN],
         5,
@@ -420,7 +421,13 @@ pub const OTHER: &[Routine] = &[
         6,
         "OPEN finds no file \"l\" and can make none of 863 bytes: the longest free run has 856",
     ),
-    routine(&[LOOP, MILLIS, ENDLOOP], 4, 1, "the stack has 32 bytes: 30 are taken, and MILLIS pushes 3 more"),
+    routine(
+        &[LOOP, MILLIS, ENDLOOP],
+        4,
+        1,
+        "the stack has 32 bytes: 30 are taken, and MILLIS pushes 3 more; 10 values lie there, the topmost INT 0, \
+         INT 0 and INT 0",
+    ),
     routine(
         b"\x03123456789012345678901234567890\0",
         4,
@@ -431,7 +438,8 @@ pub const OTHER: &[Routine] = &[
         b"\x0312345678901234567890123456\0\x01\x01\x1F",
         4,
         30,
-        "the stack has 32 bytes: 31 are taken, and TOFLOAT puts 5 in the place of 2",
+        "the stack has 32 bytes: 31 are taken, and TOFLOAT puts 5 in the place of 2; 2 values lie there, the topmost \
+         STRING \"12345678901234567890123456\" and CHAR 1",
     ),
     routine(&[CHAR, 0, IF, 70], 3, 2, "IF jumps to offset 74, past the code's end at 4"),
     routine(&[CHAR, 1, ELSE, 1], 3, 2, "ELSE jumps to offset 5, past the code's end at 4"),
