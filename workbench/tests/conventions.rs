@@ -3,6 +3,7 @@
 mod bench;
 
 use bench::{Bench, DOWN};
+use workbench::kernel;
 
 const COMMANDS: [&[&str]; 12] = [
     &["asm"],
@@ -137,4 +138,19 @@ fn a_device_without_an_end_is_refused() {
     }
     let put = bench.arduinos(&["disc", "put", "box.img", "/dev/zero", "--as", "z"]);
     assert_eq!(put.status, 1);
+}
+
+/// docs/GUIDE.md, part 2: the numbers of its table of refusals.
+#[test]
+fn every_refusal_of_the_guide_has_words() {
+    let guide = include_str!("../../docs/GUIDE.md");
+    let table = guide.split("### Refusals").nth(1).unwrap().split("###").next().unwrap();
+    let rows = table.lines().filter_map(|line| line.strip_prefix("| \u{2212}")?.split(' ').next()?.parse::<i32>().ok());
+    let numbers: Vec<i32> = rows.collect();
+    assert_eq!(numbers, (1..=16).chain([22]).collect::<Vec<i32>>());
+    let words: Vec<String> = numbers.iter().map(|number| kernel::refusal(-number)).collect();
+    let unknown = kernel::refusal(-17);
+    for (index, text) in words.iter().enumerate() {
+        assert!(*text != unknown && !words[..index].contains(text), "{text}");
+    }
 }

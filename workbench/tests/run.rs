@@ -3,6 +3,8 @@
 mod bench;
 
 use bench::{Bench, DOWN, LAMP, WRONG_TYPE};
+use workbench::call::Answer;
+use workbench::run::{turns, Session};
 
 #[test]
 fn prints_what_the_box_prints() {
@@ -275,4 +277,26 @@ fn an_eleventh_process_is_refused() {
     let ran = bench.arduinos(&eleven);
     let message = "arduinos run: run \"down\": ten processes live already (refusal 12)";
     assert_eq!((ran.status, ran.first_error()), (1, message));
+}
+
+#[test]
+fn a_round_that_is_not_its_turns_is_told() {
+    let bench = Bench::new("agree", &[("lamp", LAMP)]);
+    let mut session = Session::begin(bench.read("box.img"), None).unwrap();
+    session.start(b"lamp", Some(3)).unwrap();
+    let before = session.buffers.clone();
+    let answer = session.round(0).unwrap();
+    let (after, turns) = (session.buffers.clone(), turns::of_round(&before, 0));
+    assert_eq!((turns.len(), answer.output.as_slice()), (3, &b"red\n"[..]));
+    assert!(turns::agree(&turns, &before, &after, &answer));
+    let (mut disc, mut area, mut output) = (after.clone(), after.clone(), answer.clone());
+    disc.disc[1023] ^= 1;
+    area.area[0] ^= 1;
+    output.output.pop();
+    assert!(!turns::agree(&turns, &before, &disc, &answer));
+    assert!(!turns::agree(&turns, &before, &area, &answer));
+    assert!(!turns::agree(&turns, &before, &after, &output));
+    let nothing = Answer { number: 0, output: Vec::new() };
+    assert!(turns::agree(&[], &before, &before, &nothing));
+    assert!(!turns::agree(&[], &before, &after, &nothing));
 }
