@@ -1,37 +1,23 @@
 -- How many bytes the parts of the state take.
 use Prim.Native.Nat.{ℕ, _+_, _*_, _≤_, _<_}
-use mathlib.Core.Path.{_≡_, refl, ap, _∙_}
+use mathlib.Core.Path.{_≡_, ap, ap₂, _∙_}
 use mathlib.Core.List.{List, _++_}
 use native.Mathlib.Omega.{arith}
 use lib.ListN.{length, getD, take, length-append}
 use lib.Seq.{getD-take, length-take-le}
 use Rattle.buffer.specs.Buffer.{wordBytes}
 use Rattle.buffer.specs.Lists.{flat}
-use Rattle.variable.specs.Limits.{maxVariables}
-use Rattle.variable.specs.Table.{Shaped, noVariable}
-use Rattle.variable.specs.declared.Variable.{Variable}
-use Rattle.variable.specs.declared.Variables.{Variables}
-use Rattle.machine.specs.Area.{processBytes, processOf, variableBytes, variableOf}
-use Rattle.machine.specs.Limits.{countAt, entrySize, recordSize, recordsAt, zerosSize}
+use Rattle.buffer.proofs.FixedWidth.{Encoded, flat-length}
+use Rattle.variable.specs.Bytes.{variablesBytes}
+use Rattle.variable.specs.Table.{Shaped}
+use Rattle.variable.proofs.Bytes.{variables-bytes-length}
+use Rattle.machine.specs.Area.{processBytes, processOf}
+use Rattle.machine.specs.Limits.{recordSize, recordsAt, zerosSize}
 use Rattle.machine.specs.State.{noProcess}
 use Rattle.machine.specs.declared.Kernel.{Kernel}
 use Rattle.machine.specs.declared.Process.{Process}
-use Rattle.machine.proofs.Bytes.FixedWidth.{Encoded, flat-length}
-use Rattle.machine.proofs.Bytes.Records.{process-bytes-length, process-decode-encode, variable-decode-encode}
+use Rattle.machine.proofs.Bytes.Records.{process-bytes-length, process-decode-encode}
 use Rattle.machine.proofs.Bytes.Sizes.{SizedProcess}
-use Rattle.area.specs.Parts.{variablesBytes}
-
-pub entries-bytes-length : (l : List Variable) → length l ≡ maxVariables → length (flat variableBytes l) ≡ maxVariables * entrySize
-entries-bytes-length l h =
-    flat-length variableBytes variableOf entrySize l noVariable
-    (λ i k. record { size = refl; back = variable-decode-encode (getD l i noVariable) })
-    ∙ omega arith
-
--- memory, entries and count: all before next ID
-pub variables-bytes-length : (v : Variables) → Shaped v → length (variablesBytes v) ≡ countAt + 1
-variables-bytes-length v s =
-    let e = entries-bytes-length (v .entries) (s .entries) in
-    simp length-append (omega (arith, s .memory))
 
 -- all before the records
 abbrev pub headBytes : Kernel → List ℕ
@@ -39,8 +25,9 @@ headBytes k = variablesBytes (k .variables) ++ wordBytes (k .next) ++ k .zeros
 
 pub head-bytes-length : (k : Kernel) → Shaped (k .variables) → length (k .zeros) ≡ zerosSize → length (headBytes k) ≡ recordsAt
 head-bytes-length k s z =
-    let e = entries-bytes-length (k .variables .entries) (s .entries) in
-    simp length-append (omega (arith, s .memory))
+    let v = variablesBytes (k .variables) in
+    length-append (v ++ wordBytes (k .next)) (k .zeros)
+    ∙ ap₂ _+_ (length-append v (wordBytes (k .next)) ∙ ap (λ (n : ℕ). n + 2) (variables-bytes-length (k .variables) s)) z
 
 -- the records of the slots below i
 pub records-length : (l : List Process) (i : ℕ) → i ≤ length l → ((j : ℕ) → j < i → SizedProcess (getD l j noProcess))

@@ -1,30 +1,25 @@
 -- A part of the state changed and the whole written: the part's own bytes are laid over the area, and no other.
 use Prim.Native.Nat.{ℕ, suc, _+_, _<_}
 use mathlib.Core.Path.{_≡_, refl, sym, ap, ap₂, _∙_}
-use mathlib.Core.List.{List, [], _∷_, _++_, append-assoc}
+use mathlib.Core.List.{List, _∷_, _++_, append-assoc}
 use native.Mathlib.Omega.{arith}
 use lib.ListN.{length, take, drop, set, length-append}
 use lib.Seq.{set-split, split-at}
 use Rattle.buffer.specs.Buffer.{overwrite, wordBytes}
 use Rattle.buffer.specs.Lists.{flat}
-use Rattle.variable.specs.Table.{Shaped}
-use Rattle.variable.specs.declared.Variables.{Variables}
+use Rattle.buffer.proofs.Lists.{flat-around}
+use Rattle.buffer.proofs.Runs.{overwrite-middle}
+use Rattle.variable.specs.Bytes.{variablesBytes}
+use Rattle.variable.proofs.Bytes.{variables-bytes-length}
 use Rattle.machine.specs.Area.{Whole, kernelBytes, kernelOf, processBytes}
-use Rattle.machine.specs.Limits.{areaLength, slotCount}
-use Rattle.machine.specs.State.{noProcess, processAt, withProcess, withVariables}
+use Rattle.machine.specs.Limits.{areaLength, nextAt, slotCount}
+use Rattle.machine.specs.State.{noProcess, processAt, withProcess}
 use Rattle.machine.specs.declared.Kernel.{Kernel}
 use Rattle.machine.specs.declared.Process.{Process}
 use Rattle.machine.proofs.Bytes.Records.{process-bytes-length}
 use Rattle.machine.proofs.Bytes.Sizes.{Sized, SizedProcess, decoded-sized}
-use Rattle.area.specs.Parts.{recordAt, variablesBytes}
-use Rattle.area.proofs.Runs.{overwrite-middle}
-use Rattle.area.proofs.Lengths.{head-bytes-length, headBytes, records-length, variables-bytes-length}
-
--- what is made of each element before one, of that one, and of each behind it
-flat-around : {A : Type 0} (f : A → List ℕ) (l : List A) (x : A) (m : List A) → flat f (l ++ (x ∷ m)) ≡ flat f l ++ f x ++ flat f m
-unfolding flat
-flat-around f [] x m = refl
-flat-around f (y ∷ l) x m = rw (flat-around f l x m) (simp append-assoc)
+use Rattle.area.specs.Parts.{recordAt, withNext}
+use Rattle.area.proofs.Lengths.{head-bytes-length, headBytes, records-length}
 
 -- ---- a state of the right lengths
 module _ (k : Kernel) (sized : Sized k) where
@@ -57,18 +52,17 @@ module _ (k : Kernel) (sized : Sized k) where
       ∙ ap (λ (l : List ℕ). overwrite l (recordAt i) (processBytes p))
       (sym (around i old (k .processes) (split-at (k .processes) i noProcess (omega arith))))
 
-  pub variables-bytes-put : (v : Variables) → Shaped v
-      → kernelBytes (withVariables k v) ≡ overwrite (kernelBytes k) 0 (variablesBytes v)
+  pub next-bytes-put : (n : ℕ) → kernelBytes (withNext k n) ≡ overwrite (kernelBytes k) nextAt (wordBytes n)
   unfolding kernelBytes
-  variables-bytes-put v s =
-      let old = k .variables in
-      let rest : List ℕ = wordBytes (k .next) ++ k .zeros ++ flat processBytes (k .processes) in
-      let split : (b : List ℕ) → b ++ wordBytes (k .next) ++ k .zeros ++ flat processBytes (k .processes) ≡ b ++ rest =
-      λ b. simp append-assoc in
-      split (variablesBytes v)
-      ∙ sym (overwrite-middle [] (variablesBytes old) (variablesBytes v) rest 0 refl
-      (variables-bytes-length old (sized .variables) ∙ sym (variables-bytes-length v s)))
-      ∙ ap (λ (l : List ℕ). overwrite l 0 (variablesBytes v)) (sym (split (variablesBytes old)))
+  next-bytes-put n =
+      let front = variablesBytes (k .variables) in
+      let rest : List ℕ = k .zeros ++ flat processBytes (k .processes) in
+      let split : (m : ℕ) → front ++ wordBytes m ++ k .zeros ++ flat processBytes (k .processes) ≡ front ++ wordBytes m ++ rest =
+      λ m. simp append-assoc in
+      split n
+      ∙ sym (overwrite-middle front (wordBytes (k .next)) (wordBytes n) rest nextAt
+      (variables-bytes-length (k .variables) (sized .variables)) refl)
+      ∙ ap (λ (b : List ℕ). overwrite b nextAt (wordBytes n)) (sym (split (k .next)))
 
 -- ---- an area that is all that its state says
 module _ (area : List ℕ) (size : length area ≡ areaLength) (whole : Whole area) where

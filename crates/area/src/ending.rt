@@ -1,18 +1,14 @@
-// A process's start and end, on the state by value.
+// A process's record at its start and at its end.
 use crate::records::NO_LOOP;
 use crate::records::RUNNING;
 use disc::Entry;
-use machine::Kernel;
 use machine::OpenFile;
 use machine::Process;
 use machine::limits::STACK_SIZE;
 use place::Run;
 ghost use mathlib.Core.Path.{_≡_};
-ghost use Prim.Native.Nat.{_<_, _≤_};
-ghost use Rattle.machine.specs.Limits.{slotCount};
 ghost use Rattle.machine.specs.Start.{startedProcess};
-ghost use Rattle.machine.specs.Ended.{ended, endedProcess};
-ghost use Rattle.variable.specs.Limits.{maxVariables};
+ghost use Rattle.machine.specs.Ended.{endedProcess};
 
 // Document 01: "Its record keeps name, ID and fault (0 unless a fault) and is otherwise zero."
 pub fn ended_process(p: Process, fault: u8) -> Process
@@ -36,20 +32,6 @@ pub fn ended_process(p: Process, fault: u8) -> Process
         share: 0,
         stack: [0u8; STACK_SIZE],
     }
-}
-
-// Document 01: "Ending (STOP, kill, fault) frees the process's variables."
-pub fn end_process(k: Kernel, slot: usize, fault: u8) -> Kernel
-    requires { ⌜ (slot < slotCount) × (k .variables .count ≤ maxVariables) ⌝ }
-    ensures { λ r. ⌜ r ≡ ended k slot fault ⌝ }
-{
-    let p = k.processes[slot];
-    let variables = k.variables;
-    let left = variable::table::free_all(variables, p.id);
-    let mut after = k;
-    after.variables = left;
-    after.processes[slot] = ended_process(p, fault);
-    after
 }
 
 // Document 01, Run: "state 'r', no loop, name, ID and code filled in, all else of the record zero."

@@ -1,4 +1,4 @@
-// The ten processes of the work area: copied out and put back, and the searches among their records.
+// The ten processes of the work area: copied out, and the searches among their records.
 use crate::records::CODE_AT;
 use crate::records::FILE_AT;
 use crate::records::ID_AT;
@@ -8,26 +8,48 @@ use crate::records::STATE_AT;
 use buffer::Found;
 use disc::Entry;
 use disc::layout::NAME_SIZE;
+use machine::OpenFile;
 use machine::Process;
 use machine::limits::SLOT_COUNT;
+use machine::limits::STACK_SIZE;
+use place::Run;
 ghost use mathlib.Core.Path.{_≡_};
-ghost use mathlib.Core.List.{_++_};
-ghost use lib.ListN.{length, take};
-ghost use Rattle.buffer.specs.Lists.{flat};
-ghost use Rattle.machine.specs.Area.{kernelOf, processBytes, processOf};
+ghost use lib.ListN.{length};
+ghost use Rattle.machine.specs.Area.{kernelOf, processOf};
 ghost use Rattle.machine.specs.GoodArea.{isOpenIn, isProgram};
-ghost use Rattle.machine.specs.Limits.{areaLength, recordSize, recordsAt};
+ghost use Rattle.machine.specs.Limits.{areaLength, recordSize};
 ghost use Rattle.machine.specs.Operations.{inUse, uses};
 ghost use Rattle.machine.specs.State.{endedSlot, hasId, isLive, slotOf};
+
+// Zeros, for an array to begin with.
+fn no_process() -> Process {
+    Process {
+        name: [0u8; NAME_SIZE],
+        id: 0,
+        state: 0,
+        fault: 0,
+        code: Run { start: 0, len: 0 },
+        pc: 0,
+        loopstart: 0,
+        file: OpenFile {
+            start: 0,
+            len: 0,
+            offset: 0,
+        },
+        sp: 0,
+        share: 0,
+        stack: [0u8; STACK_SIZE],
+    }
+}
 
 // Document 01: "ten of them in the kernel state, copied out, stepped, put back."
 pub fn processes_of(area: &[u8]) -> [Process; SLOT_COUNT]
     requires { ⌜ length (now area) ≡ areaLength ⌝ }
     ensures { λ r. ⌜ r ≡ kernelOf (now (area .entry)) .processes ⌝ }
 {
-    let first = crate::records::process_at(area, 0);
-    let mut processes = [first; SLOT_COUNT];
-    let mut slot: usize = 1;
+    let none = no_process();
+    let mut processes = [none; SLOT_COUNT];
+    let mut slot: usize = 0;
     while slot < SLOT_COUNT {
         let p = crate::records::process_at(area, slot);
         processes[slot] = p;
@@ -36,22 +58,9 @@ pub fn processes_of(area: &[u8]) -> [Process; SLOT_COUNT]
     processes
 }
 
-// The records stand last: before them nothing changes, behind them there is nothing.
-pub fn put_processes(area: &mut [u8], processes: [Process; SLOT_COUNT])
-    requires { ⌜ length (now area) ≡ areaLength ⌝ }
-    ensures { λ _. ⌜ now (area .exit) ≡ take recordsAt (now (area .entry)) ++ flat processBytes processes ⌝ }
-{
-    let mut slot: usize = 0;
-    while slot < SLOT_COUNT {
-        let p = processes[slot];
-        crate::records::put_process(area, slot, p);
-        slot += 1;
-    }
-}
-
 // ---- tests of a record's bytes
 // Document 01: "Live means running or paused."
-fn is_live(bytes: &[u8]) -> bool
+pub fn is_live(bytes: &[u8]) -> bool
     requires { ⌜ length (now bytes) ≡ recordSize ⌝ }
     ensures { λ r. ⌜ r ≡ isLive (processOf (now (bytes .entry))) ⌝ }
 {

@@ -12,8 +12,9 @@ use machine::limits::STACK_SIZE;
 use place::Run;
 ghost use mathlib.Core.Path.{_≡_};
 ghost use Prim.Native.Nat.{_<_};
-ghost use lib.ListN.{length};
+ghost use lib.ListN.{length, take};
 ghost use Rattle.buffer.specs.Buffer.{overwrite, part, wordBytes};
+ghost use Rattle.disc.specs.Layout.{nameSize};
 ghost use Rattle.machine.specs.Area.{kernelOf, processBytes, processOf, registerBytes};
 ghost use Rattle.machine.specs.Limits.{areaLength, nextAt, recordSize, slotCount};
 ghost use Rattle.machine.specs.State.{processAt};
@@ -62,13 +63,33 @@ pub fn record_at(area: &[u8], slot: usize) -> &[u8]
     &area[at..end]
 }
 
+// The name's bytes one by one, which a machine of words reads four at once: a copy of so few costs more.
+fn name_of(bytes: &[u8]) -> [u8; NAME_SIZE]
+    requires { ⌜ length (now bytes) ≡ recordSize ⌝ }
+    ensures { λ r. ⌜ r ≡ take nameSize (now (bytes .entry)) ⌝ }
+{
+    [
+        bytes[0],
+        bytes[1],
+        bytes[2],
+        bytes[3],
+        bytes[4],
+        bytes[5],
+        bytes[6],
+        bytes[7],
+        bytes[8],
+        bytes[9],
+        bytes[10],
+        bytes[11],
+    ]
+}
+
 // The process that a record's bytes say.
 fn process_of(bytes: &[u8]) -> Process
     requires { ⌜ length (now bytes) ≡ recordSize ⌝ }
     ensures { λ r. ⌜ r ≡ processOf (now (bytes .entry)) ⌝ }
 {
-    let mut name = [0u8; NAME_SIZE];
-    buffer::bytes::copy_part(&mut name, bytes, 0);
+    let name = name_of(bytes);
     let mut stack = [0u8; STACK_SIZE];
     buffer::bytes::copy_part(&mut stack, bytes, STACK_AT);
     Process {

@@ -35,9 +35,6 @@ module _ (d s : List ℕ) (at : ℕ) (h : at + length s ≤ length d) where
   head-length : length (take at d ++ s) ≡ at + length s
   head-length = length-append (take at d) s ∙ ap (λ (k : ℕ). k + length s) (length-take-le at d (omega arith))
 
-  pub overwrite-head : take (at + length s) (overwrite d at s) ≡ take at d ++ s
-  overwrite-head = take-at (take at d ++ s) (drop (at + length s) d) (at + length s) head-length
-
   pub overwrite-length : length (overwrite d at s) ≡ length d
   overwrite-length =
       length-append (take at d ++ s) (drop (at + length s) d)

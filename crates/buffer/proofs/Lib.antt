@@ -3,9 +3,12 @@ pub mod Bools
 pub mod Buffer
 pub mod Disjunctions
 pub mod Equivalence
+pub mod FixedWidth
 pub mod Fours
 pub mod Kept
+pub mod Lines
 pub mod Lists
 pub mod Parts
+pub mod Runs
 pub mod Tables
-pub mod Texts
+pub mod Words

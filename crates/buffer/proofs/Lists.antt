@@ -211,6 +211,12 @@ unfolding flat
 flat-snoc f [] x = append-nil (f x)
 flat-snoc f (y ∷ l) x = rw (flat-snoc f l x) (sym (append-assoc (f y) (flat f l) (f x)))
 
+-- what is made of each element before one, of that one, and of each behind it
+pub flat-around : {A : Type 0} (f : A → List ℕ) (l : List A) (x : A) (m : List A) → flat f (l ++ (x ∷ m)) ≡ flat f l ++ f x ++ flat f m
+unfolding flat
+flat-around f [] x m = refl
+flat-around f (y ∷ l) x m = rw (flat-around f l x m) (simp append-assoc)
+
 -- one more turn of a loop that joins what f makes of each
 pub flat-tab-next : {A : Type 0} (f : A → List ℕ) (g : ℕ → A) (i : ℕ) → flat f (tab g (i + 1)) ≡ flat f (tab g i) ++ f (g i)
 flat-tab-next f g i = rw (tab-more g i) (flat-snoc f (tab g i) (g i))

@@ -3,6 +3,7 @@ ghost use mathlib.Core.Path.{_≡_};
 ghost use Prim.Native.Nat.{_+_, _*_, _/_, _%_, _≤_};
 ghost use lib.ListN.{length};
 ghost use Rattle.buffer.specs.Buffer.{fourAt, overwrite, part, wordAt, zeros};
+ghost use Rattle.buffer.specs.Laid.{Laid};
 ghost use Rattle.buffer.specs.Lists.{same};
 
 // Document 01: "Two-byte fields of both buffers are low byte first."
@@ -67,6 +68,15 @@ pub fn overwrite_at(dst: &mut [u8], at: usize, src: &[u8])
         dst[at + i] = src[i];
         i += 1;
     }
+}
+
+// The same, answering the place behind: a text is written piece after piece.
+pub fn put_bytes(dst: &mut [u8], at: usize, src: &[u8]) -> usize
+    requires { ⌜ at + length (now src) ≤ length (now dst) ⌝ }
+    ensures { λ r. ⌜ Laid (now (dst .entry)) at (now (src .entry)) (now (dst .exit)) r ⌝ }
+{
+    overwrite_at(dst, at, src);
+    at + src.len()
 }
 
 // Lays n zeros over dst from place at.

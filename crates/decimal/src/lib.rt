@@ -1,8 +1,8 @@
 // The decimal digits of a number, as every printed number has them.
-use buffer::text::Text;
 ghost use mathlib.Core.Path.{_≡_};
 ghost use Prim.Native.Nat.{_+_, _<_, _≤_};
-ghost use Rattle.buffer.specs.Text.{appended, textSize};
+ghost use lib.ListN.{length};
+ghost use Rattle.buffer.specs.Laid.{Laid};
 ghost use Rattle.decimal.specs.Decimal.{decimal, digitsOf, maxDigits};
 
 pub const MAX_DIGITS: usize = 10;
@@ -40,12 +40,20 @@ pub fn digits_of(n: u32) -> Digits
     }
 }
 
-pub fn append_decimal(text: Text, n: u32) -> Text
-    requires { ⌜ text .len + maxDigits ≤ textSize ⌝ }
-    ensures { λ r. ⌜ (r ≡ appended text (decimal n)) × (r .len ≤ text .len + maxDigits) ⌝ }
+pub fn decimal_length(n: u32) -> usize
+    ensures { λ r. ⌜ r ≡ length (decimal n) ⌝ }
+{
+    let digits = digits_of(n);
+    MAX_DIGITS - digits.start
+}
+
+// Lays the digits over out from place at, and answers the place behind them.
+pub fn put_decimal(out: &mut [u8], at: usize, n: u32) -> usize
+    requires { ⌜ at + length (decimal n) ≤ length (now out) ⌝ }
+    ensures { λ r. ⌜ Laid (now (out .entry)) at (decimal n) (now (out .exit)) r ⌝ }
 {
     let digits = digits_of(n);
     let bytes = digits.bytes;
     let start = digits.start;
-    buffer::text::append(text, &bytes[start..])
+    buffer::bytes::put_bytes(out, at, &bytes[start..])
 }

@@ -4,12 +4,12 @@ use Prim.Native.Nat.{ℕ, zero, suc, _+_, _-_, _≤_, _<_}
 use mathlib.Core.Path.{_≡_, refl, sym, ap, _∙_, subst}
 use mathlib.Core.Bool.{Bool, true, false, _&&_}
 use mathlib.Core.List.{List, [], _∷_, _++_}
-use native.Mathlib.Nat.{not-suc-le-zero, le-of-suc-le-suc}
+use native.Mathlib.Nat.{not-suc-le-zero, le-of-suc-le-suc, min-le-left}
 use native.Mathlib.Numerals.{add-one}
 use native.Mathlib.Omega.{arith}
 use lib.Dec.{eqb, leb}
-use lib.ListN.{length, getD, replicate, take, length-append, length-replicate}
-use lib.Seq.{take-suc}
+use lib.ListN.{length, getD, replicate, take, length-append, length-replicate, length-take}
+use lib.Seq.{length-take-le, take-suc}
 use borrow.Author.Tests.{eq-eqb, eqb-true, leb-true, le-leb, ne-eqb}
 use Rattle.buffer.specs.Lists.{all, same}
 use Rattle.buffer.proofs.Bools.{and-left, and-right, and-both}
@@ -42,8 +42,16 @@ by-text P none stop more (b ∷ l) = go (eqb b 0) refl (by-text P none stop more
 pub trimmed-short : (l : List ℕ) → length (trimmed l) ≤ length l
 trimmed-short = by-text (λ l t. length t ≤ length l) (omega arith) (λ l. omega arith) (λ b l h. omega arith)
 
+-- the text of bytes that begin with a name's field
+pub field-short : (l : List ℕ) → length (trimmed (take nameSize l)) ≤ nameSize
+field-short l = omega (arith, trimmed-short (take nameSize l), length-take nameSize l, min-le-left nameSize (length l))
+
 pub trimmed-first : (l : List ℕ) → take (length (trimmed l)) l ≡ trimmed l
 trimmed-first = by-text (λ l t. take (length t) l ≡ t) refl (λ l. refl) (λ b l h. ap (λ (m : List ℕ). b ∷ m) h)
+
+-- how long the text is, as code measures it
+pub text-measured : (l : List ℕ) (n : ℕ) → (n ≤ length l) × (take n l ≡ trimmed l) → n ≡ length (trimmed l)
+text-measured l n m = sym (length-take-le n l (m .0)) ∙ ap length (m .1)
 
 -- behind the text stands a zero, or nothing
 pub text-ends : (l : List ℕ) → getD l (length (trimmed l)) 0 ≡ 0

@@ -34,7 +34,3 @@ countAt = 160
 -- Document 01: "Data lie at 161 to 1023"; Q-2: "data ending at 1023 or 4095", which is where the disc ends
 abbrev pub dataStart : ℕ
 dataStart = 161
-
--- as long as a line of *files* may become: a name, a space, a number, a newline
-abbrev pub lineSize : ℕ
-lineSize = 24

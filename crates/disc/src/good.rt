@@ -1,6 +1,6 @@
 // The tests that every operation makes of the disc before it reads or writes a file. They run at every call, so they
-// read the bytes in place, and the loop over a name's bytes has no way out; the loops over entries leave at the first
-// that is not good or clashes: docs/DECISIONS.md says why.
+// read the bytes in place, and the loop over a name's bytes has no way out and counts in 32 bits, one register on a
+// small machine too; the loops over entries leave at the first that is not good or clashes: docs/DECISIONS.md says why.
 use crate::layout::DATA_START;
 use crate::layout::ENTRY_SIZE;
 use crate::layout::LONG_DISC;
@@ -44,9 +44,10 @@ fn is_good_field(disc: &[u8], at: usize) -> bool
     ensures { λ r. ⌜ r ≡ goodField (part (now (disc .entry)) at nameSize) ⌝ }
 {
     let mut good = (disc[at] != 0) & (disc[at + MAX_NAME] == 0);
-    let mut i: usize = 0;
-    while i < MAX_NAME {
-        good = good & is_field_byte(disc[at + i], disc[at + i + 1]);
+    let mut i: u32 = 0;
+    while (i as usize) < MAX_NAME {
+        let k = at + i as usize;
+        good = good & is_field_byte(disc[k], disc[k + 1]);
         i += 1;
     }
     good

@@ -1,11 +1,10 @@
 // File names: as they are given, and as the directory holds them.
 use crate::layout::MAX_NAME;
 use crate::layout::NAME_SIZE;
-use buffer::text::Text;
 ghost use mathlib.Core.Path.{_≡_};
 ghost use Prim.Native.Nat.{_+_, _≤_};
 ghost use lib.ListN.{length, take};
-ghost use Rattle.buffer.specs.Text.{appended, textSize};
+ghost use Rattle.buffer.specs.Laid.{Laid};
 ghost use Rattle.disc.specs.Layout.{nameSize};
 ghost use Rattle.disc.specs.Name.{goodName, isNameByte, padded, trimmed};
 
@@ -63,10 +62,11 @@ pub fn text_length(bytes: &[u8]) -> usize
     n
 }
 
-pub fn append_name(text: Text, field: [u8; NAME_SIZE]) -> Text
-    requires { ⌜ text .len + nameSize ≤ textSize ⌝ }
-    ensures { λ r. ⌜ (r ≡ appended text (trimmed field)) × (r .len ≤ text .len + nameSize) ⌝ }
+// Lays the bytes of field before its first zero over out from place at, and answers the place behind them.
+pub fn put_name(out: &mut [u8], at: usize, field: &[u8]) -> usize
+    requires { ⌜ at + length (trimmed (now field)) ≤ length (now out) ⌝ }
+    ensures { λ r. ⌜ Laid (now (out .entry)) at (trimmed (now (field .entry))) (now (out .exit)) r ⌝ }
 {
-    let n = text_length(&field);
-    buffer::text::append(text, &field[..n])
+    let n = text_length(field);
+    buffer::bytes::put_bytes(out, at, &field[..n])
 }

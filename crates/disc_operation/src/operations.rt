@@ -1,6 +1,5 @@
 // The operations on the disc alone, for every disc, name and buffer. A refused one writes nothing.
 use buffer::Found;
-use buffer::text::Text;
 use disc::Entry;
 use disc::layout::DATA_START;
 use place::Run;
@@ -9,11 +8,11 @@ use store::Answer;
 use store::Checked;
 use store::Refusal;
 ghost use mathlib.Core.Path.{_≡_};
-ghost use Prim.Native.Nat.{_+_, _*_, _≤_};
+ghost use Prim.Native.Nat.{_+_, _≤_};
+ghost use lib.ListN.{length};
+ghost use Rattle.buffer.specs.Laid.{Laid};
 ghost use Rattle.buffer.specs.Lists.{flat};
-ghost use Rattle.buffer.specs.Text.{appended, emptyText, textSize};
 ghost use Rattle.disc.specs.Directory.{Readable, files};
-ghost use Rattle.disc.specs.Layout.{lineSize, maxFiles};
 ghost use Rattle.store.specs.Answer.{answerNumber, checked, fileLine, filesAnswer, freeSpaceAnswer, reported};
 ghost use Rattle.store.specs.Answer.{retrieveAnswer, storeAnswer, updated};
 
@@ -74,48 +73,65 @@ pub fn retrieve(disc: &[u8], name: &[u8], out: &mut [u8]) -> Answer
     }
 }
 
-// Document 01: "a line per file, name, space, length, newline".
-fn with_line(text: Text, entry: Entry) -> Text
-    requires { ⌜ text .len + lineSize ≤ textSize ⌝ }
-    ensures { λ r. ⌜ (r ≡ appended text (fileLine entry)) × (r .len ≤ text .len + lineSize) ⌝ }
+// Document 01, Files: "a line per file, name, space, length, newline".
+fn line_length(entry: Entry) -> usize
+    ensures { λ r. ⌜ r ≡ length (fileLine entry) ⌝ }
 {
     let name = entry.name;
-    let named = disc::name::append_name(text, name);
-    let spaced = buffer::text::append(named, b" ");
-    let counted = decimal::append_decimal(spaced, entry.len as u32);
-    buffer::text::append(counted, b"\n")
+    disc::name::text_length(&name) + decimal::decimal_length(entry.len as u32) + 2
 }
 
-fn files_text(disc: &[u8]) -> Text
+fn put_line(out: &mut [u8], at: usize, entry: Entry) -> usize
+    requires { ⌜ at + length (fileLine entry) ≤ length (now out) ⌝ }
+    ensures { λ r. ⌜ Laid (now (out .entry)) at (fileLine entry) (now (out .exit)) r ⌝ }
+{
+    let name = entry.name;
+    let named = disc::name::put_name(out, at, &name);
+    let spaced = buffer::bytes::put_bytes(out, named, b" ");
+    let counted = decimal::put_decimal(out, spaced, entry.len as u32);
+    buffer::bytes::put_bytes(out, counted, b"\n")
+}
+
+fn files_length(disc: &[u8]) -> usize
     requires { ⌜ Readable (now disc) ⌝ }
-    ensures { λ r. ⌜ (r ≡ appended emptyText (flat fileLine (files (now (disc .entry)))))
-        × (r .len ≤ maxFiles * lineSize) ⌝ }
+    ensures { λ r. ⌜ r ≡ length (flat fileLine (files (now (disc .entry)))) ⌝ }
 {
     let count = disc::directory::file_count(disc);
-    let mut text = buffer::text::empty_text();
+    let mut len: usize = 0;
     let mut i: usize = 0;
     while i < count {
-        let entry = disc::directory::entry_at(disc, i);
-        text = with_line(text, entry);
+        len += line_length(disc::directory::entry_at(disc, i));
         i += 1;
     }
-    text
+    len
 }
 
+fn put_files(disc: &[u8], out: &mut [u8]) -> usize
+    requires { ⌜ Readable (now disc) ⌝ }
+    requires { ⌜ length (flat fileLine (files (now disc))) ≤ length (now out) ⌝ }
+    ensures { λ r. ⌜ Laid (now (out .entry)) 0 (flat fileLine (files (now (disc .entry)))) (now (out .exit)) r ⌝ }
+{
+    let count = disc::directory::file_count(disc);
+    let mut at: usize = 0;
+    let mut i: usize = 0;
+    while i < count {
+        at = put_line(out, at, disc::directory::entry_at(disc, i));
+        i += 1;
+    }
+    at
+}
+
+// Document 01, Files: "returns the bytes written". The length is tested before the first of them.
 pub fn files(disc: &[u8], out: &mut [u8]) -> Answer
     ensures { λ r. ⌜ reported r (now (out .exit)) ≡ filesAnswer (now (disc .entry)) (now (out .entry)) ⌝ }
 {
     if let Checked::Unusable(refusal) = check(disc) {
         return Answer::Refused(refusal);
     }
-    let text = files_text(disc);
-    let len = text.len;
-    if out.len() < len {
+    if out.len() < files_length(disc) {
         return Answer::Refused(Refusal::ShortOutput);
     }
-    let bytes = text.bytes;
-    buffer::bytes::overwrite_at(out, 0, &bytes[..len]);
-    Answer::Done(len as u16)
+    Answer::Done(put_files(disc, out) as u16)
 }
 
 // Document 01: "Free space: the longest free run, however many files there are."

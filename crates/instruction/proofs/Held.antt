@@ -1,20 +1,25 @@
 -- A variable that the table's lookup finds can be read.
-use Prim.Native.Nat.{ℕ, _+_, _≤_, _<_}
+use Prim.Native.Nat.{ℕ, _+_, _-_, _≤_, _<_}
 use mathlib.Core.Path.{_≡_, sym, ap, _∙_}
 use mathlib.Core.Bool.{true}
+use mathlib.Core.List.{List}
 use native.Mathlib.Omega.{arith}
 use lib.Dec.{leb}
-use lib.ListN.{getD}
+use lib.ListN.{getD, take, drop}
 use borrow.Author.Tests.{leb-true}
+use Rattle.buffer.specs.Buffer.{part}
 use Rattle.buffer.specs.declared.Found.the-variants.{At}
 use Rattle.buffer.proofs.Bools.{and-left, and-right}
 use Rattle.buffer.proofs.Lists.{all-at}
+use Rattle.buffer.proofs.Parts.{part-of-take, part-to}
 use Rattle.buffer.proofs.Tables.{index-at}
 use Rattle.variable.specs.Limits.{maxVariables, memorySize, valueSize}
 use Rattle.variable.specs.Table.{counted, find, isOf, noVariable}
 use Rattle.variable.specs.declared.Variable.{Variable}
 use Rattle.variable.specs.declared.Variables.{Variables}
 use Rattle.variable.proofs.Reading.{find-counted}
+use Rattle.variable.specs.Bytes.{variablesOf}
+use Rattle.machine.specs.Area.{kernelOf}
 use Rattle.instruction.specs.Readable.{Readable, isHeld}
 
 abbrev entryAt : Variables → ℕ → Variable
@@ -39,3 +44,14 @@ found-held v name id i h e =
       short = leb-true _ _ (and-right (leb (d .address + d .size) memorySize) (leb (d .size) valueSize) g);
       same = n .1;
     }
+
+-- its bytes, as they lie in the work area
+pub held-bytes : (area : List ℕ) (i : ℕ) (e : Variable) → let v = kernelOf area .variables in
+    Held v i → e ≡ entryAt v i
+    → take (e .address + e .size - e .address) (drop (e .address) area) ≡ part (v .memory) (entryAt v i .address) (entryAt v i .size)
+unfolding kernelOf variablesOf
+held-bytes area i e h q =
+    let d = entryAt (kernelOf area .variables) i in
+    part-to area (e .address) (e .size)
+    ∙ ap (λ (x : Variable). part area (x .address) (x .size)) q
+    ∙ sym (part-of-take area memorySize (d .address) (d .size) (h .inside))

@@ -6,7 +6,6 @@ use crate::values::print;
 use crate::values::push_literal;
 use crate::values::push_text;
 use crate::values::set_variable;
-use area::variables::variables_of;
 use control::clock::delay;
 use control::clock::push_clock;
 use control::flow::drop_number;
@@ -51,9 +50,7 @@ fn perform(
         Instruction::Literal(kind) => push_literal(code, stack, at, loopstart, kind),
         Instruction::StringLiteral => push_text(code, stack, at, loopstart),
         Instruction::SetVariable => set_variable(code, stack, at, loopstart),
-        Instruction::GetVariable => {
-            get_variable(code, stack, at, loopstart, variables_of(area), owner)
-        }
+        Instruction::GetVariable => get_variable(code, stack, at, loopstart, area, owner),
         Instruction::Operate(operator) => operate(code, stack, at, loopstart, operator),
         Instruction::DelayUntil => delay(code, stack, at, loopstart, clock),
         Instruction::Millis => push_clock(code, stack, at, loopstart, clock),

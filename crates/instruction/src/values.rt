@@ -1,4 +1,6 @@
 // Literals, variables and output.
+use area::variables::find_in;
+use area::variables::variable_at;
 use buffer::Found;
 use disc::name::text_length;
 use operator::instruction::Types;
@@ -14,9 +16,6 @@ use stack::ends::with_part;
 use stack::tops::number_of;
 use stack::tops::top_value;
 use stack::tops::wide;
-use variable::Variables;
-use variable::table::find_variable;
-use variable::table::value_of;
 ghost use mathlib.Core.List.{_++_};
 ghost use mathlib.Core.Path.{_≡_};
 ghost use Prim.Native.Nat.{_≤_, _<_};
@@ -25,7 +24,8 @@ ghost use Rattle.instruction.specs.Printing.{Printable};
 ghost use Rattle.instruction.specs.Readable.{Readable};
 ghost use Rattle.machine.specs.Effect.{newline, printed};
 ghost use Rattle.machine.specs.Exec.{gets, prints, pushLiteral, pushText, sets};
-ghost use Rattle.machine.specs.Limits.{stackSize};
+ghost use Rattle.machine.specs.Area.{kernelOf};
+ghost use Rattle.machine.specs.Limits.{areaLength, stackSize};
 ghost use Rattle.stack.specs.Steps.{Means, Ready, maxCode, stepOf};
 ghost use Rattle.variable.specs.Table.{owned};
 
@@ -101,25 +101,33 @@ pub fn get_variable(
     stack: &[u8],
     at: usize,
     loopstart: u16,
-    v: Variables,
+    area: &[u8],
     owner: u16,
 ) -> Step
-    requires { ⌜ Ready (now code) (now stack) at × Readable v ⌝ }
-    ensures { λ r. ⌜ Means (now (stack .entry)) r
-        (gets (now (code .entry)) (now (stack .entry)) loopstart at (owned v owner)) ⌝ }
+    requires { ⌜ Ready (now code) (now stack) at × (length (now area) ≡ areaLength)
+        × Readable (kernelOf (now area) .variables) ⌝ }
+    ensures { λ r. ⌜ Means (now (stack .entry)) r (gets (now (code .entry)) (now (stack .entry)) loopstart at
+        (owned (kernelOf (now (area .entry)) .variables) owner)) ⌝ }
 {
     let from = at + 1;
     let to = from + 1;
     if code.len() < to {
         return last_step(Action::Fault(2));
     }
-    match find_variable(v, code[from], owner) {
+    match find_in(area, code[from], owner) {
         Found::At(i) => {
-            let entries = v.entries;
-            let x = value_of(v, entries[i]);
-            let bytes = x.bytes;
-            let n = x.size as usize;
-            push_item(code, stack, stack.len(), x.kind, &bytes[..n], to, loopstart)
+            let e = variable_at(area, i);
+            let start = e.address as usize;
+            let end = start + e.size as usize;
+            push_item(
+                code,
+                stack,
+                stack.len(),
+                e.kind,
+                &area[start..end],
+                to,
+                loopstart,
+            )
         }
         Found::Nowhere => last_step(Action::Fault(9)),
     }

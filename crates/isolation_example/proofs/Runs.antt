@@ -30,8 +30,9 @@ use Rattle.store.specs.File.{admission, entered, erased, placeOf, readAt, writt
 use Rattle.variable.specs.Assign.{assignedCells, added, assigned, placeFor, placing}
 use Rattle.variable.specs.Good.{beside as besideVariable, goodSize, goodVariable, goodVariables}
 use Rattle.variable.specs.Table.{freed, owned}
+use Rattle.variable.specs.Bytes.{variablesOf}
 use Rattle.machine.specs.Answer.{answer, files, goodArea, other, otherAnswer}
-use Rattle.machine.specs.Area.{kernelBytes, kernelOf, variablesOf}
+use Rattle.machine.specs.Area.{kernelBytes, kernelOf}
 use Rattle.machine.specs.Beyond.{answered}
 use Rattle.machine.specs.Effect.{operates, settle}
 use Rattle.isolation_example.specs.Example.{Example, alone, beside, empty, fed, hours, printed, restAlone, restBeside}

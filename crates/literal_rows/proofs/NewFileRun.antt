@@ -16,8 +16,9 @@ use Rattle.store.specs.Answer.{checked, storeAnswer}
 use Rattle.store.specs.File.{admission, entered, erased, placeOf, writtenAt}
 use Rattle.variable.specs.Good.{goodVariables}
 use Rattle.variable.specs.Table.{owned}
+use Rattle.variable.specs.Bytes.{variablesOf}
 use Rattle.machine.specs.Answer.{answer, formatAnswer, goodArea, otherAnswer}
-use Rattle.machine.specs.Area.{kernelBytes, kernelOf, variablesOf}
+use Rattle.machine.specs.Area.{kernelBytes, kernelOf}
 use Rattle.machine.specs.Beyond.{answered}
 use Rattle.machine.specs.Effect.{settle}
 use Rattle.machine.specs.Exec.{exec, performs}

@@ -2,6 +2,5 @@
 pub mod Each
 pub mod ByteLists
 pub mod Sizes
-pub mod FixedWidth
 pub mod Records
 pub mod Area

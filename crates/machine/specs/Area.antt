@@ -7,12 +7,10 @@ use lib.Dec.{eqb}
 use lib.ListN.{getD, take}
 use Rattle.buffer.specs.Buffer.{part, wordAt, wordBytes}
 use Rattle.buffer.specs.Lists.{flat, tab}
-use Rattle.variable.specs.declared.Variable.{Variable}
-use Rattle.variable.specs.declared.Variables.{Variables}
 use Rattle.disc.specs.Layout.{nameSize}
-use Rattle.variable.specs.Limits.{maxVariables, memorySize}
-use Rattle.machine.specs.Limits.{areaLength, countAt, entriesAt, entrySize, nextAt, recordSize, recordsAt}
-use Rattle.machine.specs.Limits.{slotCount, stackSize, zerosAt, zerosSize}
+use Rattle.variable.specs.Bytes.{variablesBytes, variablesOf}
+use Rattle.machine.specs.Limits.{areaLength, nextAt, recordSize, recordsAt, slotCount, stackSize, zerosAt}
+use Rattle.machine.specs.Limits.{zerosSize}
 use Rattle.machine.specs.declared.Kernel.{Kernel}
 use Rattle.machine.specs.declared.Process.{Process}
 
@@ -23,13 +21,6 @@ isAreaLength n = eqb n areaLength
 -- every element is a byte
 abbrev pub AreBytes : List ℕ → Type 0
 AreBytes l = (i : ℕ) → getD l i 0 < 256
-
-abbrev pub variableOf : List ℕ → Variable
-variableOf b =
-    record { name = getD b 0 0; kind = getD b 1 0; address = getD b 2 0; size = getD b 3 0; owner = wordAt b 4 }
-
-abbrev pub variableBytes : Variable → List ℕ
-variableBytes e = e .name ∷ e .kind ∷ e .address ∷ e .size ∷ wordBytes (e .owner)
 
 -- where a record's stack begins
 abbrev pub stackAt : ℕ
@@ -64,15 +55,7 @@ registerBytes p =
 abbrev pub processBytes : Process → List ℕ
 processBytes p = p .name ++ registerBytes p ++ p .stack
 
-unfoldable pub variablesOf : List ℕ → Variables
-variablesOf area = record {
-  memory = take memorySize area;
-  entries = tab (λ i. variableOf (part area (entriesAt + i * entrySize) entrySize)) maxVariables;
-  count = getD area countAt 0;
-}
-
 unfoldable pub kernelOf : List ℕ → Kernel
-unfolding variablesOf
 kernelOf area =
     record {
       variables = variablesOf area;
@@ -83,9 +66,7 @@ kernelOf area =
 
 unfoldable pub kernelBytes : Kernel → List ℕ
 kernelBytes k =
-    k .variables .memory ++ flat variableBytes (k .variables .entries) ++ (k .variables .count ∷ [])
-    ++ wordBytes (k .next) ++ k .zeros
-    ++ flat processBytes (k .processes)
+    variablesBytes (k .variables) ++ wordBytes (k .next) ++ k .zeros ++ flat processBytes (k .processes)
 
 -- the area's bytes are those of the state that it says
 abbrev pub Whole : List ℕ → Type 0

@@ -1,8 +1,6 @@
 -- The work area in numbers, and how much output turns and rounds ask for.
 --
---     0    variable memory, 256
---     256  25 variable entries of 6: name 1, type 1, address 1, size 1, process ID 2
---     406  variable count
+--     0    variable memory, entries and count, 407 (crate variable)
 --     407  next ID, 2
 --     409  seven zeros
 --     416  ten process records of 64: name 12, ID 2, state 1, fault 1, code start 2, code length 2, PC 2, loop 2,
@@ -12,15 +10,6 @@ use Prim.Native.Nat.{ℕ, _*_}
 -- Document 01: "Work area, 1,056 bytes."
 abbrev pub areaLength : ℕ
 areaLength = 1056
-
-abbrev pub entriesAt : ℕ
-entriesAt = 256
-
-abbrev pub entrySize : ℕ
-entrySize = 6
-
-abbrev pub countAt : ℕ
-countAt = 406
 
 abbrev pub nextAt : ℕ
 nextAt = 407

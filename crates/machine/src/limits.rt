@@ -1,12 +1,6 @@
 // The work area in numbers; specs/Limits.antt has the layout and the sentences of document 01.
 pub const AREA_LENGTH: usize = 1056;
 
-pub const ENTRIES_AT: usize = 256;
-
-pub const ENTRY_SIZE: usize = 6;
-
-pub const COUNT_AT: usize = 406;
-
 pub const NEXT_AT: usize = 407;
 
 pub const ZEROS_AT: usize = 409;

@@ -1,48 +1,48 @@
--- The lines of list: how long one is, and that those of all processes are the text.
-use Prim.Native.Nat.{ℕ, suc, _+_, _/_, _%_, _≤_, _<_}
+-- The lines of list: how long they are, and that those of all processes are the text.
+use Prim.Native.Nat.{ℕ, _+_, _*_, _≤_}
 use mathlib.Core.Path.{_≡_, refl, ap, _∙_}
 use mathlib.Core.Bool.{Bool, true, false, cond}
 use mathlib.Core.List.{List, [], _∷_, _++_}
 use native.Mathlib.Omega.{arith}
-use lib.Dec.{leb}
-use lib.ListN.{length, length-append}
-use lib.Seq.{paste-zero}
-use borrow.Author.Tests.{lt-leb}
+use lib.ListN.{length}
+use Rattle.buffer.specs.Buffer.{part}
 use Rattle.buffer.specs.Lists.{consIf, flat, keep}
-use Rattle.buffer.specs.Text.{appended}
-use Rattle.buffer.specs.declared.text.Text.{Text}
-use Rattle.decimal.specs.Decimal.{decimal, ifMore, lastDigits}
+use Rattle.buffer.proofs.Lines.{line-long, lines, lines-short}
+use Rattle.decimal.specs.Decimal.{decimal, maxDigits}
+use Rattle.decimal.proofs.Laws.{digits-few}
+use Rattle.disc.specs.Layout.{nameSize}
+use Rattle.disc.specs.Name.{trimmed}
+use Rattle.disc.proofs.Names.{field-short}
+use Rattle.machine.specs.Area.{kernelOf}
+use Rattle.machine.specs.Limits.{recordSize, slotCount}
 use Rattle.machine.specs.Operations.{listText, processLine}
 use Rattle.machine.specs.State.{isLive}
-use Rattle.machine.specs.declared.Kernel.{Kernel}
 use Rattle.machine.specs.declared.Process.{Process}
+use Rattle.area.specs.Parts.{processIn, recordAt}
 use Rattle.operation.specs.Lines.{lineOf}
 
--- ---- the digits of an ID
--- a number has at most one digit more than its tenth
-digit-more : (f n m : ℕ) → length (lastDigits f (n / 10)) ≤ m → length (lastDigits (suc f) n) ≤ m + 1
-unfolding lastDigits
-digit-more f n m h = go (leb 10 n)
+-- ---- how long
+pub process-line-long : (p : Process) → length (processLine p) ≡ length (decimal (p .id)) + length (trimmed (p .name)) + 4
+unfolding processLine
+process-line-long p = line-long (decimal (p .id)) (32 ∷ p .state ∷ 32 ∷ []) (trimmed (p .name)) (10 ∷ []) ∙ omega arith
+
+-- the digits of a number, a name's field, state, two spaces and newline: the most that a line takes
+pub list-short : (area : List ℕ) (n : ℕ) → length (lines lineOf (processIn area) n) ≤ n * (maxDigits + nameSize + 4)
+list-short area = lines-short lineOf (processIn area) (maxDigits + nameSize + 4) (λ i.
+    let p = processIn area i in
+    either p (isLive p) (field-short (part area (recordAt i) recordSize)))
   where
-    go : (more : Bool) → length (ifMore more (lastDigits f (n / 10)) ++ ((48 + n % 10) ∷ [])) ≤ m + 1
-    go true = simp length-append (omega arith)
-    go false = omega arith
+    either : (p : Process) (live : Bool) → length (trimmed (p .name)) ≤ nameSize
+        → length (cond live (processLine p) []) ≤ maxDigits + nameSize + 4
+    either p true h = omega (arith, process-line-long p, digits-few maxDigits (p .id))
+    either p false h = omega arith
 
-one-digit : (f n : ℕ) → n < 10 → length (lastDigits (suc f) n) ≤ 1
-unfolding lastDigits
-one-digit f n h = rw (lt-leb 10 n h) (omega arith)
+-- ---- which
+pub ended-line : (p : Process) → isLive p ≡ false → lineOf p ≡ []
+ended-line p h = rw h
 
-pub id-digits : (n : ℕ) → n < 65536 → length (decimal n) ≤ 5
-id-digits n h =
-    digit-more 9 n 4 (digit-more 8 (n / 10) 3 (digit-more 7 (n / 10 / 10) 2 (digit-more 6 (n / 10 / 10 / 10) 1
-    (one-digit 5 (n / 10 / 10 / 10 / 10) (omega arith)))))
-
--- ---- lines
--- an ended process adds nothing
-pub nothing-appended : (t : Text) → t ≡ appended t []
-nothing-appended t =
-    let n : t .len ≡ t .len + 0 = omega arith in
-    λ i. record { bytes = paste-zero (t .bytes) (t .len) [] i; len = n i }
+pub live-line : (p : Process) → isLive p ≡ true → lineOf p ≡ processLine p
+live-line p h = rw h
 
 -- the lines of all are those of the live
 flat-live : (l : List Process) → flat lineOf l ≡ flat processLine (keep isLive l)
@@ -55,6 +55,6 @@ flat-live (p ∷ l) = ap (λ (t : List ℕ). lineOf p ++ t) (flat-live l) ∙ fi
     first true = refl
     first false = refl
 
-pub live-lines : (k : Kernel) → flat lineOf (k .processes) ≡ listText k
-unfolding listText
-live-lines k = flat-live (k .processes)
+pub live-lines : (area : List ℕ) → lines lineOf (processIn area) slotCount ≡ listText (kernelOf area)
+unfolding listText kernelOf
+live-lines area = flat-live (kernelOf area .processes)

@@ -53,10 +53,9 @@ fn run_file(disc: &[u8], area: &mut [u8], name: &[u8]) -> Answer
 {
     match request::start::find_start(disc, area, name) {
         Starting::Starts(slot, i) => {
-            let k = area::kernel::kernel_of(area);
-            let entry = disc::directory::entry_at(disc, i);
-            area::kernel::put_kernel(area, request::start::start(k, slot, entry));
-            Answer::Done(k.next)
+            let next = area::records::next_id(area);
+            request::start::start(area, slot, disc::directory::entry_at(disc, i));
+            Answer::Done(next)
         }
         Starting::NoSlot => Answer::Refused(Refusal::NoSlot),
         Starting::NoFile => Answer::Refused(Refusal::NoSuchFile),

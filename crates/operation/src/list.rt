@@ -3,65 +3,80 @@ use crate::Answer;
 use crate::Checked;
 use crate::Refusal;
 use crate::checks::check;
-use area::records::PAUSED;
-use area::records::RUNNING;
-use area::records::process_at;
-use buffer::text::Text;
-use machine::Process;
+use area::processes::is_live;
+use area::records::ID_AT;
+use area::records::STATE_AT;
+use area::records::record_at;
+use disc::layout::NAME_SIZE;
 use machine::limits::SLOT_COUNT;
 ghost use mathlib.Core.Path.{_≡_};
-ghost use Prim.Native.Nat.{_+_, _*_, _≤_};
+ghost use Prim.Native.Nat.{_+_, _≤_};
 ghost use lib.ListN.{length};
-ghost use Rattle.buffer.specs.Text.{appended, emptyText, textSize};
+ghost use Rattle.buffer.specs.Laid.{Laid};
 ghost use Rattle.machine.specs.Answer.{answer, list, other};
-ghost use Rattle.machine.specs.Area.{kernelOf};
-ghost use Rattle.machine.specs.Limits.{areaLength, slotCount};
-ghost use Rattle.machine.specs.Operations.{listText, processLine};
+ghost use Rattle.machine.specs.Area.{kernelOf, processOf};
+ghost use Rattle.machine.specs.Limits.{areaLength, recordSize};
+ghost use Rattle.machine.specs.Operations.{listText};
 ghost use Rattle.operation.specs.Answers.{answered, lent};
-ghost use Rattle.operation.specs.Lines.{lineOf, lineRoom, lineSize};
+ghost use Rattle.operation.specs.Lines.{lineOf};
 
-// Document 01: "ID, space, 'r' or 'p', space, name, newline per live process in slot order".
-fn with_line(text: Text, p: Process) -> Text
-    requires { ⌜ text .len + lineRoom ≤ textSize ⌝ }
-    ensures { λ r. ⌜ (r ≡ appended text (processLine p)) × (r .len ≤ text .len + lineSize) ⌝ }
+// Document 01, List: "ID, space, 'r' or 'p', space, name, newline per live process". Nothing for one that has ended.
+fn line_length(bytes: &[u8]) -> usize
+    requires { ⌜ length (now bytes) ≡ recordSize ⌝ }
+    ensures { λ r. ⌜ r ≡ length (lineOf (processOf (now (bytes .entry)))) ⌝ }
 {
-    let name = p.name;
-    let counted = decimal::append_decimal(text, p.id as u32);
-    let state = [b' ', p.state, b' '];
-    let stated = buffer::text::append(counted, &state);
-    let named = disc::name::append_name(stated, name);
-    buffer::text::append(named, b"\n")
+    if !is_live(bytes) {
+        return 0;
+    }
+    let id = buffer::bytes::word_at(bytes, ID_AT);
+    decimal::decimal_length(id as u32) + disc::name::text_length(&bytes[..NAME_SIZE]) + 4
 }
 
-// Nothing for a process that has ended.
-fn with_process(text: Text, p: Process) -> Text
-    requires { ⌜ text .len + lineRoom ≤ textSize ⌝ }
-    ensures { λ r. ⌜ (r ≡ appended text (lineOf p)) × (r .len ≤ text .len + lineSize) ⌝ }
+fn put_line(out: &mut [u8], at: usize, bytes: &[u8]) -> usize
+    requires { ⌜ length (now bytes) ≡ recordSize ⌝ }
+    requires { ⌜ at + length (lineOf (processOf (now bytes))) ≤ length (now out) ⌝ }
+    ensures { λ r. ⌜ Laid (now (out .entry)) at (lineOf (processOf (now (bytes .entry)))) (now (out .exit)) r ⌝ }
 {
-    if p.state == RUNNING {
-        return with_line(text, p);
+    if !is_live(bytes) {
+        return at;
     }
-    if p.state == PAUSED {
-        return with_line(text, p);
-    }
-    text
+    let id = buffer::bytes::word_at(bytes, ID_AT);
+    let counted = decimal::put_decimal(out, at, id as u32);
+    let state = [b' ', bytes[STATE_AT], b' '];
+    let stated = buffer::bytes::put_bytes(out, counted, &state);
+    let named = disc::name::put_name(out, stated, &bytes[..NAME_SIZE]);
+    buffer::bytes::put_bytes(out, named, b"\n")
 }
 
-fn list_text(area: &[u8]) -> Text
+// Document 01, List: "in slot order".
+fn list_length(area: &[u8]) -> usize
     requires { ⌜ length (now area) ≡ areaLength ⌝ }
-    ensures { λ r. ⌜ (r ≡ appended emptyText (listText (kernelOf (now (area .entry)))))
-        × (r .len ≤ slotCount * lineSize) ⌝ }
+    ensures { λ r. ⌜ r ≡ length (listText (kernelOf (now (area .entry)))) ⌝ }
 {
-    let mut text = buffer::text::empty_text();
+    let mut len: usize = 0;
     let mut slot: usize = 0;
     while slot < SLOT_COUNT {
-        let p = process_at(area, slot);
-        text = with_process(text, p);
+        len += line_length(record_at(area, slot));
         slot += 1;
     }
-    text
+    len
 }
 
+fn put_list(area: &[u8], out: &mut [u8]) -> usize
+    requires { ⌜ length (now area) ≡ areaLength ⌝ }
+    requires { ⌜ length (listText (kernelOf (now area))) ≤ length (now out) ⌝ }
+    ensures { λ r. ⌜ Laid (now (out .entry)) 0 (listText (kernelOf (now (area .entry)))) (now (out .exit)) r ⌝ }
+{
+    let mut at: usize = 0;
+    let mut slot: usize = 0;
+    while slot < SLOT_COUNT {
+        at = put_line(out, at, record_at(area, slot));
+        slot += 1;
+    }
+    at
+}
+
+// Document 01, List: "returns the bytes written". The length is tested before the first of them.
 pub fn list(disc: &[u8], area: &[u8], out: &mut [u8]) -> Answer
     ensures { λ r. ⌜ answered r (now (disc .entry)) (now (area .entry)) (now (out .exit))
         ≡ answer (other list) (lent (now (disc .entry)) (now (area .entry)) (now (out .entry))) ⌝ }
@@ -69,12 +84,8 @@ pub fn list(disc: &[u8], area: &[u8], out: &mut [u8]) -> Answer
     if let Checked::Unusable(refusal) = check(disc, area) {
         return Answer::Refused(refusal);
     }
-    let text = list_text(area);
-    let len = text.len;
-    if out.len() < len {
+    if out.len() < list_length(area) {
         return Answer::Refused(Refusal::ShortOutput);
     }
-    let bytes = text.bytes;
-    buffer::bytes::overwrite_at(out, 0, &bytes[..len]);
-    Answer::Done(len as u16)
+    Answer::Done(put_list(area, out) as u16)
 }

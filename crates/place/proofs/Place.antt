@@ -1,5 +1,5 @@
 -- Laws of places: what is found is free and inside, none found means none fits; and the longest free run. That it is the
--- shortest run that fits is in FreeRuns.
+-- shortest run that fits is in ShortestFit.
 use Prim.Native.Nat.{ℕ, zero, suc, _+_, _-_, _≤_, _<_}
 use mathlib.Core.Path.{_≡_, refl, sym, ap, _∙_}
 use mathlib.Core.Bool.{Bool, true, false, not, _&&_, _||_, and-false}
@@ -56,14 +56,6 @@ pub record Meet (u v : Run) : Type 0 where
   pub left : v .start < u .start + u .len
   pub right : u .start < v .start + v .len
 
-pub meet-is : (u v : Run) → apart u v ≡ false → Meet u v
-unfolding apart
-meet-is u v e = go (leb (u .start + u .len) (v .start)) refl e
-  where
-    go : (b : Bool) → leb (u .start + u .len) (v .start) ≡ b → b || leb (v .start + v .len) (u .start) ≡ false → Meet u v
-    go true k h = absurd (true-not-false refl h)
-    go false k h = record { left = leb-false _ _ k; right = leb-false _ _ h }
-
 pub is-meet : (u v : Run) → Meet u v → apart u v ≡ false
 unfolding apart
 is-meet u v m = rw (lt-leb _ _ (m .left), lt-leb _ _ (m .right))
@@ -96,6 +88,13 @@ module _ (runs : List Run) (lo hi n : ℕ) where
   pub fits-above : (s : ℕ) → hi < s + n → fits runs lo hi n s ≡ false
   unfolding fits
   fits-above s h = rw (lt-leb _ _ h) (and-false (leb lo s))
+
+  pub fits-no-room : hi < lo + n → (s : ℕ) → fits runs lo hi n s ≡ false
+  fits-no-room h s = go (leb lo s) refl
+    where
+      go : (b : Bool) → leb lo s ≡ b → fits runs lo hi n s ≡ false
+      go true k = let up : lo ≤ s = leb-true _ _ k in fits-above s (omega arith)
+      go false k = fits-below s (leb-false _ _ k)
 
 module _ (runs : List Run) (lo hi n s : ℕ) (e : fits runs lo hi n s ≡ true) where
   -- bytes among those that fit do
@@ -162,7 +161,7 @@ module _ (runs : List Run) (lo hi n : ℕ) where
   unfolding lowestFit
   lowest-fit-nowhere f = lowest-nowhere (fits runs lo hi n) lo (suc hi - lo) f
 
-  lowest-fit-some : (s : ℕ) → fits runs lo hi n s ≡ true → isAt (lowestFit runs lo hi n) ≡ true
+  pub lowest-fit-some : (s : ℕ) → fits runs lo hi n s ≡ true → isAt (lowestFit runs lo hi n) ≡ true
   lowest-fit-some s e = go (lowestFit runs lo hi n) refl
     where
       go : (f : Found) → lowestFit runs lo hi n ≡ f → isAt f ≡ true

@@ -1,54 +1,21 @@
-// A process's record after a step, and back into the work area.
+// A process's record after a step, in the work area.
+use area::records::PC_AT;
+use area::records::STACK_AT;
 use machine::OpenFile;
 use machine::Process;
+use machine::limits::RECORD_SIZE;
+use machine::limits::RECORDS_AT;
 use machine::limits::STACK_SIZE;
-use stack::Step;
 ghost use mathlib.Core.List.{_++_};
 ghost use mathlib.Core.Path.{_≡_};
-ghost use Prim.Native.Nat.{_+_, _<_, _≤_};
-ghost use lib.ListN.{length, take};
-ghost use Rattle.machine.specs.Area.{kernelBytes, kernelOf};
+ghost use Prim.Native.Nat.{_+_, _-_, _<_, _≤_};
+ghost use lib.ListN.{length};
+ghost use Rattle.area.specs.Parts.{recordAt};
+ghost use Rattle.buffer.specs.Buffer.{overwrite, zeros};
+ghost use Rattle.machine.specs.Area.{kernelBytes, kernelOf, stackAt};
 ghost use Rattle.machine.specs.Limits.{areaLength, slotCount, stackSize};
-ghost use Rattle.machine.specs.State.{stackBytes, withFile, withLocal, withProcess};
-ghost use Rattle.process.specs.Stepping.{Room, pushing};
-
-// The first `kept` bytes of the old stack, then these. Document 01: "After its turn, stack bytes above SP are zero."
-fn new_stack(old: [u8; STACK_SIZE], kept: usize, head: &[u8], tail: &[u8]) -> [u8; STACK_SIZE]
-    requires { ⌜ kept + (length (now head) + length (now tail)) ≤ stackSize ⌝ }
-    ensures { λ r. ⌜ r ≡ stackBytes (take kept old ++ now (head .entry) ++ now (tail .entry)) ⌝ }
-{
-    let mut stack = [0u8; STACK_SIZE];
-    buffer::bytes::overwrite_at(&mut stack, 0, &old[..kept]);
-    buffer::bytes::overwrite_at(&mut stack, kept, head);
-    buffer::bytes::overwrite_at(&mut stack, kept + head.len(), tail);
-    stack
-}
-
-// The process on at the step's place, with what it keeps of the stack, these bytes above it, and this file.
-pub fn moved(p: Process, d: Step, head: &[u8], tail: &[u8], file: OpenFile) -> Process
-    requires { ⌜ Room p d (length (now head) + length (now tail)) ⌝ }
-    ensures { λ r. ⌜ r ≡ withFile (withLocal p (pushing p d (now (head .entry)) (now (tail .entry)))) file ⌝ }
-{
-    let name = p.name;
-    let code = p.code;
-    let old = p.stack;
-    let kept = d.kept as usize;
-    let sp = kept + head.len() + tail.len();
-    let stack = new_stack(old, kept, head, tail);
-    Process {
-        name: name,
-        id: p.id,
-        state: p.state,
-        fault: p.fault,
-        code: code,
-        pc: d.pc,
-        loopstart: d.loopstart,
-        file: file,
-        sp: sp as u8,
-        share: p.share,
-        stack: stack,
-    }
-}
+ghost use Rattle.machine.specs.State.{processAt, withProcess};
+ghost use Rattle.process.specs.Stepping.{Room, pcAt, registersFrom, wentOn};
 
 // Its record's 64 bytes and no other.
 pub fn put_back(area: &mut [u8], slot: usize, p: Process)
@@ -58,19 +25,63 @@ pub fn put_back(area: &mut [u8], slot: usize, p: Process)
     area::records::put_process(area, slot, p);
 }
 
+// PC, loop, open file and SP, which stand one behind the other.
+fn put_registers(area: &mut [u8], slot: usize, pc: u16, loopstart: u16, file: OpenFile, sp: u8)
+    requires { ⌜ (length (now area) ≡ areaLength) × (slot < slotCount) ⌝ }
+    ensures { λ _. ⌜ now (area .exit)
+        ≡ overwrite (now (area .entry)) (recordAt slot + pcAt) (registersFrom pc loopstart file sp) ⌝ }
+{
+    let bytes = [
+        buffer::bytes::low(pc),
+        buffer::bytes::high(pc),
+        buffer::bytes::low(loopstart),
+        buffer::bytes::high(loopstart),
+        buffer::bytes::low(file.start),
+        buffer::bytes::high(file.start),
+        buffer::bytes::low(file.len),
+        buffer::bytes::high(file.len),
+        buffer::bytes::low(file.offset),
+        buffer::bytes::high(file.offset),
+        sp,
+    ];
+    buffer::bytes::overwrite_at(area, RECORDS_AT + slot * RECORD_SIZE + PC_AT, &bytes);
+}
+
+// These bytes above the first `kept` of the stack. Document 01: "After its turn, stack bytes above SP are zero."
+fn put_stack(area: &mut [u8], slot: usize, kept: usize, head: &[u8], tail: &[u8])
+    requires { ⌜ (length (now area) ≡ areaLength) × (slot < slotCount)
+        × (kept + length (now head) + length (now tail) ≤ stackSize) ⌝ }
+    ensures { λ _. ⌜ now (area .exit) ≡ overwrite (now (area .entry)) (recordAt slot + stackAt + kept)
+        (now (head .entry) ++ now (tail .entry)
+        ++ zeros (stackSize - (kept + length (now (head .entry)) + length (now (tail .entry))))) ⌝ }
+{
+    let bottom = RECORDS_AT + slot * RECORD_SIZE + STACK_AT;
+    let middle = kept + head.len();
+    let sp = middle + tail.len();
+    buffer::bytes::overwrite_at(area, bottom + kept, head);
+    buffer::bytes::overwrite_at(area, bottom + middle, tail);
+    buffer::bytes::zero_at(area, bottom + sp, STACK_SIZE - sp);
+}
+
+// The process of that slot goes on: at pc, with the first `kept` bytes of its stack, these above them, and this file.
+// Only what changes is written.
 pub fn go_on(
     area: &mut [u8],
     slot: usize,
-    p: Process,
-    d: Step,
+    kept: u8,
+    pc: u16,
+    loopstart: u16,
     head: &[u8],
     tail: &[u8],
     file: OpenFile,
 )
     requires { ⌜ (length (now area) ≡ areaLength) × (slot < slotCount)
-        × Room p d (length (now head) + length (now tail)) ⌝ }
-    ensures { λ _. ⌜ now (area .exit) ≡ kernelBytes (withProcess (kernelOf (now (area .entry))) slot
-        (withFile (withLocal p (pushing p d (now (head .entry)) (now (tail .entry)))) file)) ⌝ }
+        × Room (processAt (kernelOf (now area)) slot) kept (length (now head) + length (now tail)) ⌝ }
+    ensures { λ _. ⌜ now (area .exit) ≡ kernelBytes (wentOn (kernelOf (now (area .entry))) slot kept pc loopstart
+        (now (head .entry)) (now (tail .entry)) file) ⌝ }
 {
-    put_back(area, slot, moved(p, d, head, tail, file));
+    let below = kept as usize;
+    let sp = below + head.len() + tail.len();
+    put_registers(area, slot, pc, loopstart, file, sp as u8);
+    put_stack(area, slot, below, head, tail);
 }

@@ -1,4 +1,5 @@
 // A process's end, on the work area.
+use crate::advance::put_back;
 ghost use mathlib.Core.Path.{_≡_};
 ghost use Prim.Native.Nat.{_<_, _≤_};
 ghost use lib.ListN.{length};
@@ -14,7 +15,7 @@ pub fn finish(area: &mut [u8], slot: usize, fault: u8)
         × (kernelOf (now area) .variables .count ≤ maxVariables) ⌝ }
     ensures { λ _. ⌜ now (area .exit) ≡ kernelBytes (ended (kernelOf (now (area .entry))) slot fault) ⌝ }
 {
-    let k = area::kernel::kernel_of(area);
-    let after = area::ending::end_process(k, slot, fault);
-    area::kernel::put_kernel(area, after);
+    let p = area::records::process_at(area, slot);
+    area::variables::free_in(area, true, 0, p.id);
+    put_back(area, slot, area::ending::ended_process(p, fault));
 }

@@ -1,11 +1,10 @@
 // SET: the variable, and its process on behind the instruction.
 use crate::advance::go_on;
 use crate::ending::finish;
+use area::variables::assign_in;
 use machine::Process;
 use stack::Step;
 use variable::Placing;
-use variable::Value;
-use variable::assign::assign;
 use variable::assign::placing_fault;
 ghost use mathlib.Core.List.{List};
 ghost use mathlib.Core.Path.{_≡_};
@@ -17,7 +16,7 @@ ghost use Rattle.process.specs.Stepping.{Stepping, left, leftBy, stackOf
 ghost use Rattle.stack.specs.Steps.{about, keeping};
 
 // Document 01: "SET first frees the old variable"; fault 10: "no variable entry or run". Its place is that of document
-// 02, Q-10. A SET that finds no place ends its process and changes no variable but its own.
+// 02, Q-10. A SET that finds no place ends its process.
 pub fn set_variable(area: &mut [u8], slot: usize, p: Process, d: Step, name: u8, kind: u8)
     requires { ⌜ Stepping (now area) slot p d × (1 ≤ d .len) ⌝ }
     ensures { λ _. ⌜ ((disc : List ℕ) → left disc (now (area .exit))
@@ -25,20 +24,11 @@ pub fn set_variable(area: &mut [u8], slot: usize, p: Process, d: Step, name: u8,
         (assigns name kind (about d) (keeping (stackOf p) d)))) ⌝ }
 {
     let bytes = d.bytes;
-    let x = Value {
-        kind: kind,
-        size: d.len,
-        bytes: bytes,
-    };
-    let a = assign(area::variables::variables_of(area), name, p.id, x);
-    let placing = a.placing;
+    let n = d.len as usize;
+    let file = p.file;
+    let placing = assign_in(area, name, kind, p.id, &bytes[..n]);
     match placing {
-        Placing::Address(_) => {
-            let file = p.file;
-            let v = a.variables;
-            go_on(area, slot, p, d, b"", b"", file);
-            area::variables::put_variables(area, v);
-        }
+        Placing::Address(_) => go_on(area, slot, d.kept, d.pc, d.loopstart, b"", b"", file),
         Placing::NoEntry => finish(area, slot, placing_fault(placing)),
         Placing::NoRun => finish(area, slot, placing_fault(placing)),
     }

@@ -20,7 +20,7 @@ use Rattle.machine.specs.declared.Kernel.{Kernel}
 use Rattle.machine.specs.declared.OpenFile.{OpenFile}
 use Rattle.machine.specs.declared.Process.{Process}
 use Rattle.machine.proofs.Bytes.Sizes.{decoded-sized}
-use Rattle.process.specs.Stepping.{Stepping, stackOf}
+use Rattle.process.specs.Stepping.{Stepping, ownAt, stackOf}
 use Rattle.stack.specs.Steps.{about, keeping}
 use Rattle.stack.specs.declared.Step.{Step}
 use Rattle.stack.proofs.Steps.{pushed-length}
@@ -156,6 +156,15 @@ module _ {area : List ℕ} {slot : ℕ} {p : Process} {d : Step} (s : Stepping a
   has-room tail l g =
       rw (le-leb (length (readOnto tail)) stackSize (omega (arith, onto-length tail)))
       (ap (λ (q : Process). continues (kernelOf area) slot disc (pushed l (readOnto tail)) (advanced (q .file) n) disc) (sym (s .own)))
+
+-- bytes read onto the stack of the process as it was copied out
+pub own-received : {area : List ℕ} {slot : ℕ} {p : Process} {d : Step} (s : Stepping area slot p d) (disc bytes tail : List ℕ) (n : ℕ)
+    → received (kernelOf area) slot disc (take (d .kept) (stackOf (ownAt area slot)) ++ bytes ++ tail) n
+    (keeping (stackOf (ownAt area slot)) d)
+    ≡ received (kernelOf area) slot disc (take (d .kept) (stackOf p) ++ bytes ++ tail) n (keeping (stackOf p) d)
+own-received {area} {slot} {d = d} s disc bytes tail n =
+    ap (λ (q : Process). received (kernelOf area) slot disc (take (d .kept) (stackOf q) ++ bytes ++ tail) n (keeping (stackOf q) d))
+    (sym (s .own))
 
 -- ---- a text that is read
 module _ {area : List ℕ} {slot : ℕ} {p : Process} {d : Step} (s : Stepping area slot p d) (disc : List ℕ) where

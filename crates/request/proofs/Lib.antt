@@ -2,3 +2,4 @@
 pub mod Answering
 pub mod Accesses
 pub mod Slots
+pub mod Started

@@ -1,12 +1,14 @@
 -- Starting in code: what the answer stands for, and the bounds that come with it.
 use Prim.Native.Nat.{ℕ, _<_}
+use mathlib.Core.Path.{_≡_}
+use mathlib.Core.Bool.{false}
 use mathlib.Core.List.{List}
 use Rattle.machine.specs.Area.{kernelOf}
 use Rattle.machine.specs.Limits.{idLimit, slotCount}
 use Rattle.machine.specs.Start.{starts, refuses}
 use Rattle.machine.specs.Start.{Starting as StartOf}
+use Rattle.machine.specs.State.{isLive, processAt}
 use Rattle.disc.specs.Directory.{entryAt, fileCount}
-use mathlib.Core.Path.{_≡_}
 use Rattle.request.specs.declared.Starting.{Starting}
 use Rattle.request.specs.declared.Starting.the-variants.{Starts, NoSlot, NoFile, NoId}
 
@@ -17,9 +19,10 @@ startingOf disc NoSlot = refuses 12
 startingOf disc NoFile = refuses 10
 startingOf disc NoId = refuses 13
 
--- a slot of the ten, a file of the directory, and an ID left
+-- an ended slot of the ten, a file of the directory, and an ID left
 pub record Startable (disc area : List ℕ) (slot i : ℕ) : Type 0 where
   pub slot-low : slot < slotCount
+  pub ended : isLive (processAt (kernelOf area) slot) ≡ false
   pub file-low : i < fileCount disc
   pub left : kernelOf area .next ≡ idLimit → ⊥
 

@@ -15,7 +15,7 @@ ghost use lib.ListN.{length, take};
 ghost use Rattle.machine.specs.Area.{kernelOf};
 ghost use Rattle.machine.specs.Beyond.{advanced, answered, fileRun, received};
 ghost use Rattle.machine.specs.Effect.{reads, readsString, writes};
-ghost use Rattle.process.specs.Stepping.{Stepping, left, stackOf};
+ghost use Rattle.process.specs.Stepping.{Stepping, left, ownAt, stackOf};
 ghost use Rattle.request.specs.Answers.{Ahead, Lies, accessTo, after, textRead};
 ghost use Rattle.stack.specs.Steps.{about, keeping};
 ghost use Rattle.store.specs.File.{readAt};
@@ -75,7 +75,16 @@ pub fn write_file(disc: &mut [u8], area: &mut [u8], slot: usize, p: Process, d: 
         Access::Inside => {
             let bytes = d.bytes;
             store::file::write_at(disc, file_run(file), file.offset as usize, &bytes[..n]);
-            go_on(area, slot, p, d, b"", b"", advanced(file, n));
+            go_on(
+                area,
+                slot,
+                d.kept,
+                d.pc,
+                d.loopstart,
+                b"",
+                b"",
+                advanced(file, n),
+            );
         }
         Access::NoFile => finish(area, slot, NO_OPEN_FILE),
         Access::PastEnd => finish(area, slot, PAST_END),
@@ -83,21 +92,39 @@ pub fn write_file(disc: &mut [u8], area: &mut [u8], slot: usize, p: Process, d: 
 }
 
 // The next n bytes of the file go onto the stack, and then the tail.
-fn push_read(disc: &[u8], area: &mut [u8], slot: usize, p: Process, d: Step, n: usize, tail: &[u8])
-    requires { ⌜ Stepping (now area) slot p d × Ahead (now disc) (p .file) n × (length (now tail) ≤ 2) ⌝ }
+fn push_read(
+    disc: &[u8],
+    area: &mut [u8],
+    slot: usize,
+    file: OpenFile,
+    d: Step,
+    n: usize,
+    tail: &[u8],
+)
+    requires { ⌜ Stepping (now area) slot (ownAt (now area) slot) d × (file ≡ ownAt (now area) slot .file)
+        × Ahead (now disc) file n × (length (now tail) ≤ 2) ⌝ }
     ensures { λ _. ⌜ left (now (disc .entry)) (now (area .exit)) ≡ after (now (disc .entry)) (now (area .entry)) slot
-        (received (kernelOf (now (area .entry))) slot (now (disc .entry)) (take (d .kept) (stackOf p)
-        ++ readAt (now (disc .entry)) (fileRun (p .file)) (p .file .offset) n ++ now (tail .entry)) n
-        (keeping (stackOf p) d)) ⌝ }
+        (received (kernelOf (now (area .entry))) slot (now (disc .entry))
+        (take (d .kept) (stackOf (ownAt (now (area .entry)) slot))
+        ++ readAt (now (disc .entry)) (fileRun file) (file .offset) n ++ now (tail .entry)) n
+        (keeping (stackOf (ownAt (now (area .entry)) slot)) d)) ⌝ }
 {
     if STACK_SIZE < d.kept as usize + n + tail.len() {
         finish(area, slot, STACK_FULL);
         return;
     }
-    let file = p.file;
     let mut bytes = [0u8; STACK_SIZE];
     store::file::read_at(disc, file_run(file), file.offset as usize, &mut bytes[..n]);
-    go_on(area, slot, p, d, &bytes[..n], tail, advanced(file, n));
+    go_on(
+        area,
+        slot,
+        d.kept,
+        d.pc,
+        d.loopstart,
+        &bytes[..n],
+        tail,
+        advanced(file, n),
+    );
 }
 
 // READCHAR, READINT and READFLOAT, by the type read.
@@ -106,11 +133,12 @@ pub fn read_number(disc: &[u8], area: &mut [u8], slot: usize, p: Process, d: Ste
     ensures { λ _. ⌜ left (now (disc .entry)) (now (area .exit)) ≡ after (now (disc .entry)) (now (area .entry)) slot
         (answered (kernelOf (now (area .entry))) slot (now (disc .entry)) (reads kind (keeping (stackOf p) d))) ⌝ }
 {
+    let file = p.file;
     let n = kind as usize;
-    match access(p.file, n) {
+    match access(file, n) {
         Access::Inside => {
             let tail = [kind];
-            push_read(disc, area, slot, p, d, n, &tail);
+            push_read(disc, area, slot, file, d, n, &tail);
         }
         Access::NoFile => finish(area, slot, NO_OPEN_FILE),
         Access::PastEnd => finish(area, slot, PAST_END),
@@ -128,8 +156,9 @@ fn push_text(disc: &[u8], area: &mut [u8], slot: usize, p: Process, d: Step, n: 
         finish(area, slot, STACK_FULL);
         return;
     }
+    let file = p.file;
     let tail = [n as u8, STRING_KIND];
-    push_read(disc, area, slot, p, d, n, &tail);
+    push_read(disc, area, slot, file, d, n, &tail);
 }
 
 // Document 01: "READSTRING seeks its zero before testing the stack."

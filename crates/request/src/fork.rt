@@ -2,9 +2,9 @@
 use crate::Starting;
 use crate::start::find_start;
 use crate::start::start;
+use machine::OpenFile;
 use machine::Process;
 use process::advance::go_on;
-use process::advance::moved;
 use stack::Step;
 ghost use mathlib.Core.Path.{_≡_};
 ghost use mathlib.Core.List.{List};
@@ -14,7 +14,7 @@ ghost use Rattle.machine.specs.Beyond.{answered, forked};
 ghost use Rattle.machine.specs.Effect.{forks};
 ghost use Rattle.machine.specs.Limits.{idLimit, stackSize};
 ghost use Rattle.machine.specs.Start.{refuses, starts};
-ghost use Rattle.process.specs.Stepping.{Stepping, left, stackOf};
+ghost use Rattle.process.specs.Stepping.{Stepping, left, ownAt, stackOf};
 ghost use Rattle.request.specs.Answers.{after};
 ghost use Rattle.request.specs.Starts.{Startable};
 ghost use Rattle.stack.specs.Steps.{about, keeping};
@@ -23,15 +23,16 @@ ghost use Rattle.disc.specs.Directory.{Readable, entryAt};
 const INT_KIND: u8 = 2;
 
 // Document 01: "FORK pushes INT 0 where run would refuse."
-fn push_zero(area: &mut [u8], slot: usize, p: Process, d: Step)
-    requires { ⌜ Stepping (now area) slot p d × (d .kept + 3 ≤ stackSize) ⌝ }
+fn push_zero(area: &mut [u8], slot: usize, file: OpenFile, d: Step)
+    requires { ⌜ Stepping (now area) slot (ownAt (now area) slot) d × (file ≡ ownAt (now area) slot .file)
+        × (d .kept + 3 ≤ stackSize) ⌝ }
     ensures { λ _. ⌜ ((disc : List ℕ) (n : ℕ) → left disc (now (area .exit)) ≡ after disc (now (area .entry)) slot
-        (forked (kernelOf (now (area .entry))) slot disc (refuses n) (keeping (stackOf p) d))) ⌝ }
+        (forked (kernelOf (now (area .entry))) slot disc (refuses n)
+        (keeping (stackOf (ownAt (now (area .entry)) slot)) d))) ⌝ }
 {
-    let file = p.file;
     let id = [0u8, 0u8];
     let tail = [INT_KIND];
-    go_on(area, slot, p, d, &id, &tail, file);
+    go_on(area, slot, d.kept, d.pc, d.loopstart, &id, &tail, file);
 }
 
 // The child in its slot, next ID on the stack. It started from the file at place i of the directory.
@@ -39,25 +40,23 @@ fn push_child(
     disc: &[u8],
     area: &mut [u8],
     slot: usize,
-    p: Process,
+    file: OpenFile,
     d: Step,
     child: usize,
     i: usize,
 )
-    requires { ⌜ Stepping (now area) slot p d × Readable (now disc) × (d .kept + 3 ≤ stackSize)
+    requires { ⌜ Stepping (now area) slot (ownAt (now area) slot) d × (file ≡ ownAt (now area) slot .file)
+        × (d .kept + 3 ≤ stackSize) × Readable (now disc)
         × Startable (now disc) (now area) child i × (kernelOf (now area) .next ≤ idLimit) ⌝ }
     ensures { λ _. ⌜ left (now (disc .entry)) (now (area .exit)) ≡ after (now (disc .entry)) (now (area .entry)) slot
         (forked (kernelOf (now (area .entry))) slot (now (disc .entry)) (starts child (entryAt (now (disc .entry)) i))
-        (keeping (stackOf p) d)) ⌝ }
+        (keeping (stackOf (ownAt (now (area .entry)) slot)) d)) ⌝ }
 {
-    let k = area::kernel::kernel_of(area);
-    let file = p.file;
-    let id = [buffer::bytes::high(k.next), buffer::bytes::low(k.next)];
+    let next = area::records::next_id(area);
+    let id = [buffer::bytes::high(next), buffer::bytes::low(next)];
     let tail = [INT_KIND];
-    let parent = moved(p, d, &id, &tail, file);
-    let mut after = start(k, child, disc::directory::entry_at(disc, i));
-    after.processes[slot] = parent;
-    area::kernel::put_kernel(area, after);
+    start(area, child, disc::directory::entry_at(disc, i));
+    go_on(area, slot, d.kept, d.pc, d.loopstart, &id, &tail, file);
 }
 
 pub fn fork(disc: &[u8], area: &mut [u8], slot: usize, p: Process, d: Step)
@@ -66,12 +65,13 @@ pub fn fork(disc: &[u8], area: &mut [u8], slot: usize, p: Process, d: Step)
     ensures { λ _. ⌜ left (now (disc .entry)) (now (area .exit)) ≡ after (now (disc .entry)) (now (area .entry)) slot
         (answered (kernelOf (now (area .entry))) slot (now (disc .entry)) (forks (about d) (keeping (stackOf p) d))) ⌝ }
 {
+    let file = p.file;
     let bytes = d.bytes;
     let len = d.len as usize;
     match find_start(disc, area, &bytes[..len]) {
-        Starting::Starts(child, i) => push_child(disc, area, slot, p, d, child, i),
-        Starting::NoSlot => push_zero(area, slot, p, d),
-        Starting::NoFile => push_zero(area, slot, p, d),
-        Starting::NoId => push_zero(area, slot, p, d),
+        Starting::Starts(child, i) => push_child(disc, area, slot, file, d, child, i),
+        Starting::NoSlot => push_zero(area, slot, file, d),
+        Starting::NoFile => push_zero(area, slot, file, d),
+        Starting::NoId => push_zero(area, slot, file, d),
     }
 }

@@ -37,7 +37,7 @@ fn open_run(area: &mut [u8], slot: usize, p: Process, d: Step, start: u16, len: 
         len: len,
         offset: 0,
     };
-    go_on(area, slot, p, d, b"", b"", file);
+    go_on(area, slot, d.kept, d.pc, d.loopstart, b"", b"", file);
 }
 
 // A new file of n bytes. Document 02, Q-8: "OPEN now fills a file it creates with zeros."

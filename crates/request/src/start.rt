@@ -3,14 +3,15 @@ use crate::Starting;
 use area::ending::started_process;
 use area::processes::ended_slot;
 use area::records::next_id;
+use area::records::put_next_id;
 use buffer::Found;
 use disc::Entry;
-use machine::Kernel;
 use machine::limits::ID_LIMIT;
+use process::advance::put_back;
 ghost use mathlib.Core.Path.{_≡_};
 ghost use Prim.Native.Nat.{_<_};
 ghost use lib.ListN.{length};
-ghost use Rattle.machine.specs.Area.{kernelOf};
+ghost use Rattle.machine.specs.Area.{kernelBytes, kernelOf};
 ghost use Rattle.machine.specs.Limits.{areaLength, slotCount};
 ghost use Rattle.machine.specs.Start.{started, starting};
 ghost use Rattle.request.specs.Starts.{Inside, startingOf};
@@ -37,12 +38,12 @@ pub fn find_start(disc: &[u8], area: &[u8], name: &[u8]) -> Starting
     }
 }
 
-pub fn start(k: Kernel, slot: usize, e: Entry) -> Kernel
-    requires { ⌜ (slot < slotCount) × (k .next < 65535) ⌝ }
-    ensures { λ r. ⌜ r ≡ started k slot e ⌝ }
+// The record filled, and next ID counted on.
+pub fn start(area: &mut [u8], slot: usize, e: Entry)
+    requires { ⌜ (length (now area) ≡ areaLength) × (slot < slotCount) × (kernelOf (now area) .next < 65535) ⌝ }
+    ensures { λ _. ⌜ now (area .exit) ≡ kernelBytes (started (kernelOf (now (area .entry))) slot e) ⌝ }
 {
-    let mut after = k;
-    after.processes[slot] = started_process(e, k.next);
-    after.next = k.next + 1;
-    after
+    let next = next_id(area);
+    put_back(area, slot, started_process(e, next));
+    put_next_id(area, next + 1);
 }

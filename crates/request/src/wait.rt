@@ -49,12 +49,8 @@ pub fn wait(area: &mut [u8], slot: usize, p: Process, d: Step, id: Number)
 {
     let file = p.file;
     if is_awaited(area, id) {
-        let mut stay = d;
-        stay.kept = p.sp;
-        stay.pc = p.pc;
-        stay.loopstart = p.loopstart;
-        go_on(area, slot, p, stay, b"", b"", file);
+        go_on(area, slot, p.sp, p.pc, p.loopstart, b"", b"", file);
         return;
     }
-    go_on(area, slot, p, d, b"", b"", file);
+    go_on(area, slot, d.kept, d.pc, d.loopstart, b"", b"", file);
 }

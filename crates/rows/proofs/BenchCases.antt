@@ -24,6 +24,7 @@ use Rattle.disc.specs.Name.{goodField, goodName, trimmed}
 use Rattle.store.specs.Answer.{checked, storeAnswer}
 use Rattle.store.specs.File.{admission, entered, erased, placeOf, writtenAt}
 use Rattle.variable.specs.Assign.{assignedCells, added, assigned, placeFor, placing}
+use Rattle.variable.specs.Bytes.{variablesOf}
 use Rattle.variable.specs.Good.{goodVariables}
 use Rattle.variable.specs.Table.{freed, owned}
 use Rattle.machine.specs.Answer.{answer, formatAnswer, goodArea, otherAnswer}
@@ -48,7 +49,7 @@ unfolding turns after single exec instructionOf operatorOf lookupOperator includ
     storeAnswer checked isDiscLength lookup index entryAt tab flat goodDisc goodFiles goodEntry goodField goodName beside all pairs
     apart begins fits freeFrom greatest least place placeOf admission entered erased writtenAt goodArea goodKernel goodHeader
     goodProcess otherId
-    goodVariables kernelOf inUse any
+    goodVariables kernelOf variablesOf inUse any
     keep ended turned owned freed assigned placeFor placing added assignedCells
 rows-hold = (
   (

@@ -11,6 +11,7 @@ use Rattle.operator.specs.Unary.{unary}
 use Rattle.number.specs.Value.{numberOf}
 use Rattle.place.specs.Place.{apart, begins, fits, freeFrom, greatest, least, place}
 use Rattle.variable.specs.Assign.{added, assigned, placeFor, placing}
+use Rattle.variable.specs.Bytes.{variablesOf}
 use Rattle.variable.specs.Table.{freed, owned}
 use Rattle.machine.specs.Area.{kernelOf}
 use Rattle.machine.specs.Effect.{operates, settle}
@@ -27,7 +28,7 @@ use Rattle.rows.specs.ShareRows.{ShareRowHolds, Shares, loading, rounds,
 rows-hold : Every ShareRowHolds shareRows
 unfolding loading rounds inOrder shareOfTurns shared slotOf turnIfRunning exec instructionOf operatorOf lookupOperator includes
     operates settle pop wellFormed unary binary whole wrapped numberOf textOf lastDigits index tab flat all apart begins fits
-    freeFrom greatest least place kernelOf any keep ended turned owned freed assigned placeFor placing added
+    freeFrom greatest least place kernelOf variablesOf any keep ended turned owned freed assigned placeFor placing added
 rows-hold = ((refl, refl), ((refl, refl), ((refl, refl), ((refl, refl), ((refl, refl), tt)))))
 
 pub shares-hold : Shares

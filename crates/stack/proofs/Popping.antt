@@ -1,12 +1,12 @@
 -- Popping, from what the code answers: the value or the number on top, or the fault.
-use Prim.Native.Nat.{ℕ, zero, suc, _+_, _-_, _≤_}
+use Prim.Native.Nat.{ℕ, zero, _+_, _-_, _≤_}
 use mathlib.Core.Path.{_≡_, refl, sym, ap, _∙_, subst, subst⁻¹}
 use mathlib.Core.Bool.{Bool, true, false, cond, _||_}
-use mathlib.Core.List.{List, [], _∷_, _++_}
+use mathlib.Core.List.{List, [], _∷_}
 use mathlib.Core.Logic.{⊎-elim}
 use native.Mathlib.Omega.{arith}
 use lib.Dec.{eqb}
-use lib.ListN.{length, getD, take, drop, replicate, length-append}
+use lib.ListN.{length, take, drop, length-append}
 use lib.Seq.{length-take-le, take-at, take-take}
 use borrow.Author.Tests.{eqb-true}
 use Rattle.buffer.specs.Buffer.{part}
@@ -201,14 +201,3 @@ operand-numeric (OfOne o) place = unary-numeric o
 operand-numeric (OfTwo o) place = binary-numeric o
 operand-numeric (Scale o) place = scaling-numeric o place
 operand-numeric NotAnOperator place = refl
-
--- ---- bytes with zeros behind them
-zero-at : (m i : ℕ) → _≡_ {A = ℕ} (getD (replicate m 0) i 0) 0
-zero-at zero i = refl
-zero-at (suc m) zero = refl
-zero-at (suc m) (suc i) = zero-at m i
-
-pub padded-at : (l : List ℕ) (m i : ℕ) → getD (l ++ replicate m 0) i 0 ≡ getD l i 0
-padded-at [] m i = zero-at m i
-padded-at (x ∷ l) m zero = refl
-padded-at (x ∷ l) m (suc i) = padded-at l m i

@@ -38,12 +38,13 @@ pub enum Action {
 }
 
 // One step of a process: it keeps the first `kept` bytes of its stack, the first `len` bytes are for the action, and it
-// goes on at pc. An enum holds no array, so the bytes stand beside the action.
+// goes on at pc. An enum holds no array, so the bytes stand beside the action; they come first, so that a machine of
+// words copies them by words.
 pub struct Step {
-    pub action: Action,
-    pub kept: u8,
     pub bytes: [u8; STACK_SIZE],
-    pub len: u8,
+    pub action: Action,
     pub pc: u16,
     pub loopstart: u16,
+    pub kept: u8,
+    pub len: u8,
 }

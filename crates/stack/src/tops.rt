@@ -9,7 +9,7 @@ use operator::instruction::takes;
 ghost use mathlib.Core.Bool.{true};
 ghost use mathlib.Core.Path.{_≡_};
 ghost use Prim.Native.Nat.{_≤_};
-ghost use lib.ListN.{length};
+ghost use lib.ListN.{getD, length};
 ghost use Rattle.machine.specs.Stack.{pop, popNumber, popString};
 ghost use Rattle.number.specs.Value.{numberOf};
 ghost use Rattle.stack.specs.Tops.{bytesBelow, isNumeric, nextNumbered, numberIn, numberOn};
@@ -75,14 +75,28 @@ pub fn top_value(stack: &[u8], types: Types) -> TopValue
     number_on_top(stack, kind)
 }
 
-// The number of these bytes, which may be fewer than four.
+// The byte at that place, 0 where there is none.
+fn byte_at(bytes: &[u8], i: usize) -> u8
+    ensures { λ r. ⌜ r ≡ getD (now (bytes .entry)) i 0 ⌝ }
+{
+    if i < bytes.len() {
+        return bytes[i];
+    }
+    0
+}
+
+// The number of these bytes, which may be fewer than four: read one by one, since a copy of so few costs more.
 pub fn number_of(kind: u8, bytes: &[u8]) -> Number
     requires { ⌜ length (now bytes) ≤ 4 ⌝ }
     ensures { λ r. ⌜ r ≡ numberOf kind (now (bytes .entry)) ⌝ }
 {
-    let mut b = [0u8; 4];
-    buffer::bytes::overwrite_at(&mut b, 0, bytes);
-    number::value::decode(kind, b[0], b[1], b[2], b[3])
+    number::value::decode(
+        kind,
+        byte_at(bytes, 0),
+        byte_at(bytes, 1),
+        byte_at(bytes, 2),
+        byte_at(bytes, 3),
+    )
 }
 
 pub fn top_number(stack: &[u8], types: Types) -> TopNumber

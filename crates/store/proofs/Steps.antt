@@ -1,16 +1,13 @@
--- What the steps of the code come to: entering, erasing, a line of the listing.
+-- What the steps of the code come to: entering, erasing.
 use Prim.Native.Nat.{ℕ, _+_, _*_, _-_, _≤_, _<_}
-use mathlib.Core.Path.{_≡_, sym, ap, ap₂, _∙_}
-use mathlib.Core.List.{List, _++_}
+use mathlib.Core.Path.{_≡_, sym, ap₂, _∙_}
+use mathlib.Core.List.{List}
 use native.Mathlib.Nat.{add-zero}
 use native.Mathlib.Omega.{arith}
-use lib.ListN.{length, set, replicate, length-append, length-replicate}
+use lib.ListN.{length, set, replicate, length-replicate}
 use Rattle.buffer.specs.Buffer.{part, overwrite, zeros}
-use Rattle.buffer.specs.Text.{appended}
-use Rattle.buffer.specs.declared.text.Text.{Text}
 use Rattle.buffer.proofs.Buffer.{overwrite-joined, overwrite-set}
 use Rattle.buffer.proofs.Parts.{part-length}
-use Rattle.buffer.proofs.Texts.{appended-joined}
 use Rattle.disc.specs.Directory.{entryBytes, fileCount}
 use Rattle.disc.specs.Layout.{countAt, dataStart, entrySize, maxFiles}
 use Rattle.store.specs.File.{entered, erased, newEntry, stored, writtenAt}
@@ -36,11 +33,3 @@ pub created-steps : (d name : List ℕ) (n s : ℕ) → overwrite (entered d nam
 unfolding writtenAt
 created-steps d name n s =
     ap₂ (λ (m start : ℕ). overwrite (entered d name m s) start (zeros n)) (sym (length-replicate n 0)) (sym (add-zero s))
-
--- a line that is appended piece by piece
-pub line-appended : (t : Text) (a b c d : List ℕ) → t .len + length a + length b + length c ≤ length (t .bytes)
-    → appended (appended (appended (appended t a) b) c) d ≡ appended t (((a ++ b) ++ c) ++ d)
-line-appended t a b c d h =
-    ap (λ (u : Text). appended u d) (ap (λ (u : Text). appended u c) (appended-joined t a (omega arith) b)
-    ∙ appended-joined t (a ++ b) (simp length-append (omega arith)) c)
-    ∙ appended-joined t ((a ++ b) ++ c) (simp length-append (omega arith)) d

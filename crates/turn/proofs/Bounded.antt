@@ -133,6 +133,7 @@ module _ (disc area : List ℕ) (passes : Passes disc area) where
               size = area-size passes;
               low = low;
               own = refl;
+              running = running;
               few = few-variables passes;
               sp = sp-low;
               kept = omega (arith, means .kept, stack-size);

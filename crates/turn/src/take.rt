@@ -34,17 +34,20 @@ fn carry_out(disc: &mut [u8], area: &mut [u8], slot: usize, p: Process, d: Step)
         (now (disc .entry)) (effectOf (stackOf p) d)) ⌝ }
 {
     let file = p.file;
-    let bytes = d.bytes;
-    let len = d.len as usize;
     let action = d.action;
     match action {
-        Action::Push => go_on(area, slot, p, d, &bytes[..len], b"", file),
-        Action::Print => go_on(area, slot, p, d, b"", b"", file),
+        Action::Push => {
+            let bytes = d.bytes;
+            let len = d.len as usize;
+            let pushed = &bytes[..len];
+            go_on(area, slot, d.kept, d.pc, d.loopstart, pushed, b"", file);
+        }
+        Action::Print => go_on(area, slot, d.kept, d.pc, d.loopstart, b"", b"", file),
         Action::Assign(name, kind) => set_variable(area, slot, p, d, name, kind),
         Action::Stop => finish(area, slot, 0),
         Action::Fault(n) => finish(area, slot, n),
         Action::Open(size) => open_file(disc, area, slot, p, d, size),
-        Action::Close => go_on(area, slot, p, d, b"", b"", file),
+        Action::Close => go_on(area, slot, d.kept, d.pc, d.loopstart, b"", b"", file),
         Action::Write => write_file(disc, area, slot, p, d),
         Action::Read(kind) => read_number(disc, area, slot, p, d, kind),
         Action::ReadString => read_string(disc, area, slot, p, d),

@@ -2,30 +2,30 @@
 -- clashes with any.
 use Prim.Native.Nat.{ℕ, _+_, _*_, _-_, _≤_, _<_}
 use mathlib.Core.Path.{_≡_, refl, sym, _∙_, subst}
-use mathlib.Core.Bool.{Bool, true, false, _&&_, _||_, not, and-false}
+use mathlib.Core.Bool.{Bool, true, false, _&&_, _||_, cond, not, and-false}
 use mathlib.Core.List.{List}
 use native.Mathlib.Omega.{arith}
 use native.Mathlib.Nat.{add-assoc}
 use lib.Dec.{eqb, leb, ltb}
 use lib.ListN.{length, getD, replicate, getD-replicate}
-use borrow.Author.Tests.{eqb-false, eqb-true, lt-leb, le-leb, le-ltb, ltb-false, ltb-true, ne-eqb, not-false, not-true}
+use borrow.Author.Tests.{eqb-false, eqb-true, leb-true, lt-leb, le-leb, le-ltb, ltb-false, ltb-true, ne-eqb, not-false, not-true}
 use Rattle.buffer.specs.Buffer.{overwrite, part, wordAt}
 use Rattle.buffer.specs.Lists.{any, pairs, tab}
 use Rattle.buffer.proofs.Bools.{not-true-is-false, true-not-false}
 use Rattle.buffer.proofs.Buffer.{overwrite-length}
+use Rattle.buffer.proofs.Equivalence.{both-ways}
 use Rattle.buffer.proofs.Fours.{Bytes}
 use Rattle.buffer.proofs.Lists.{pairs-each, tab-at, tab-length}
 use Rattle.buffer.proofs.Parts.{part-byte}
 use Rattle.buffer.proofs.Tables.{pairs-tab-at}
 use Rattle.place.specs.Place.{apart}
 use Rattle.variable.specs.Good.{beside}
-use Rattle.variable.specs.Limits.{maxVariables}
+use Rattle.variable.specs.Limits.{entriesAt, entrySize, maxVariables}
 use Rattle.variable.specs.declared.Variable.{Variable}
-use Rattle.machine.specs.Limits.{entriesAt, entrySize}
-use Rattle.area.specs.Parts.{variableIn}
-use Rattle.validation.specs.Columns.{bytesOf, clash, endsOf, firsts, places, wordsOf}
+use Rattle.validation.specs.Columns.{bytesOf, clash, endsOf, few, firsts, places, reach, wordsOf}
 use Rattle.validation.proofs.Columns.{column-at, column-behind}
 use Rattle.validation.proofs.Files.{SomeAt, any-tab-at, any-tab-is}
+use Rattle.variable.specs.Bytes.{variableIn}
 
 -- ---- the columns
 abbrev pub startColumn : List ℕ → ℕ → List ℕ
@@ -88,7 +88,7 @@ pairs-tab-each r f n h =
 any-tab-false : {A : Type 0} (p : A → Bool) (f : ℕ → A) (n : ℕ) → any p (tab f n) ≡ false → (i : ℕ) → i < n → p (f i) ≡ false
 any-tab-false p f n e i h = not-true-is-false (p (f i)) (λ t. true-not-false (any-tab-at p f n i h t) e)
 
-module _ (area : List ℕ) (count : ℕ) (few : count ≤ maxVariables) where
+module _ (area : List ℕ) (count : ℕ) (fits : count ≤ maxVariables) where
   -- ---- what stands in the columns
   module _ (i : ℕ) (h : i < count) where
     start-at : getD (startColumn area count) i 0 ≡ variableIn area i .address
@@ -168,6 +168,41 @@ module _ (area : List ℕ) (count : ℕ) (few : count ≤ maxVariables) where
           ne-eqb _ _ (name-other i j l k h),
         )
 
+    -- ---- the places behind the last variable may be left out
+    module _ (d : ℕ) (l : 1 ≤ d) (m : d < count) where
+      abbrev test : ℕ → Bool
+      test i = clashIn area count i (i + d)
+
+      enough : (n : ℕ) → n ≤ firsts → count ≤ n + d → any test (tab (λ i. i) n) ≡ clashBy area count d
+      enough n h k = both-ways (any test (tab (λ i. i) n)) (clashBy area count d) more less
+        where
+          more : any test (tab (λ i. i) n) ≡ true → clashBy area count d ≡ true
+          more t =
+              let s = any-tab-is test (λ i. i) n t in
+              let x = s .inside in
+              any-tab-at test (λ i. i) firsts (s .place) (omega arith) (s .holds)
+
+          less : clashBy area count d ≡ true → any test (tab (λ i. i) n) ≡ true
+          less t = go (any-tab-is test (λ i. i) firsts t)
+            where
+              go : SomeAt test (λ i. i) firsts → any test (tab (λ i. i) n) ≡ true
+              go s = other (ltb (s .place) n) refl
+                where
+                  other : (b : Bool) → ltb (s .place) n ≡ b → any test (tab (λ i. i) n) ≡ true
+                  other true b = any-tab-at test (λ i. i) n (s .place) (ltb-true _ _ b) (s .holds)
+                  other false b =
+                      let x = s .inside in
+                      let y : n ≤ s .place = ltb-false _ _ b in
+                      absurd (true-not-false (s .holds) (none-behind (s .place) (s .place + d) (omega arith) (omega arith) (omega arith)))
+
+      pub reach-enough : any test (tab (λ i. i) (reach (count - d))) ≡ clashBy area count d
+      unfolding reach
+      reach-enough = go (leb (count - d) few) refl
+        where
+          go : (b : Bool) → leb (count - d) few ≡ b → any test (tab (λ i. i) (cond b few firsts)) ≡ clashBy area count d
+          go true b = let h : count - d ≤ few = leb-true _ _ b in enough few (omega arith) (omega arith)
+          go false b = enough firsts (omega arith) (omega arith)
+
     -- ---- every two
     pub clash-stops : (d : ℕ) → 1 ≤ d → d < count → clashBy area count d ≡ true → pairs beside (tab (variableIn area) count) ≡ false
     clash-stops d l m t = go (any-tab-is (λ i. clashIn area count i (i + d)) (λ i. i) firsts t)
@@ -202,8 +237,9 @@ module _ (area : List ℕ) (count : ℕ) (few : count ≤ maxVariables) where
 -- ---- the loop over the distances
 module _ (area : List ℕ) (count : ℕ) where
   pub clash-in-columns : (s e n o : List ℕ) → s ≡ startColumn area count → e ≡ endColumn area count → n ≡ nameColumn area count
-      → o ≡ ownerColumn area count → (d : ℕ) → any (λ i. clash s e n o i (i + d)) (tab (λ i. i) firsts) ≡ clashBy area count d
-  clash-in-columns s e n o p q r t d = rw (p, q, r, t)
+      → o ≡ ownerColumn area count → (d m : ℕ)
+      → any (λ i. clash s e n o i (i + d)) (tab (λ i. i) m) ≡ any (λ i. clashIn area count i (i + d)) (tab (λ i. i) m)
+  clash-in-columns s e n o p q r t d m = rw (p, q, r, t)
 
   pub clash-next : (d : ℕ) → ((k : ℕ) → 1 ≤ k → k < d → clashBy area count k ≡ false) → clashBy area count d ≡ false
       → (k : ℕ) → 1 ≤ k → k < d + 1 → clashBy area count k ≡ false

@@ -8,8 +8,9 @@ use Rattle.buffer.specs.Lists.{all, keep, pairs}
 use Rattle.buffer.proofs.Lists.{map-tab}
 use Rattle.disc.specs.Directory.{files}
 use Rattle.variable.specs.Good.{goodVariables}
+use Rattle.variable.specs.Bytes.{variablesOf}
 use Rattle.machine.specs.Answer.{goodArea}
-use Rattle.machine.specs.Area.{kernelOf, variablesOf}
+use Rattle.machine.specs.Area.{kernelOf}
 use Rattle.machine.specs.GoodArea.{goodHeader, goodKernel, goodProcess, otherId}
 use Rattle.machine.specs.Limits.{slotCount}
 use Rattle.machine.specs.State.{isLive, liveIds}

@@ -8,7 +8,7 @@ use native.Mathlib.Omega.{arith}
 use lib.Dec.{eqb}
 use lib.ListN.{getD, length, take}
 use lib.Seq.{getD-take, length-take-le, take-suc}
-use borrow.Author.Tests.{eqb-false, eqb-true, ne-eqb}
+use borrow.Author.Tests.{eq-eqb, eqb-false, eqb-true, ne-eqb}
 use Rattle.buffer.specs.Lists.{all, any, consIf, keep, pairs}
 use Rattle.buffer.proofs.Bools.{and-both, and-left, and-right, not-true-is-false, true-not-false}
 use Rattle.buffer.proofs.Lists.{all-each, pairs-at, pairs-snoc}
@@ -17,12 +17,16 @@ use Rattle.machine.specs.State.{isLive}
 use Rattle.machine.specs.declared.Process.{Process}
 use Rattle.validation.specs.Columns.{differs, isId, slotId}
 
--- whatever a test of the rest says
-pub or-all : {A : Type 0} (b : Bool) (p : A → Bool) (l : List A) → b || all p l ≡ all (λ x. b || p x) l
-unfolding all
-or-all true p [] = refl
-or-all true p (x ∷ l) = or-all true p l
-or-all false p l = refl
+-- ---- a slot beside others
+abbrev pub other : ℕ → ℕ → Bool
+other id d = not (eqb d id)
+
+-- one without an ID passes whatever stands there, one with an ID where no other has it
+pub none-differs : (id : ℕ) (l : List ℕ) → id ≡ 0 → true ≡ all (λ d. differs d id) l
+none-differs id l z = sym (all-each (λ d. differs d id) l 0 (λ i h. rw (eq-eqb id 0 z)))
+
+pub some-differs : (id : ℕ) (l : List ℕ) → (id ≡ 0 → ⊥) → all (other id) l ≡ all (λ d. differs d id) l
+some-differs id l n = rw (ne-eqb id 0 n)
 
 -- ---- owners
 -- 0 is among the slots, and no owner

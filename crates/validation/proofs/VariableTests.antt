@@ -1,7 +1,7 @@
 -- The test of the variables in the parts that the code tests one after the other.
 use Prim.Native.Nat.{ℕ, _+_, _*_, _≤_, _<_}
 use mathlib.Core.Path.{_≡_, sym, ap, _∙_}
-use mathlib.Core.Bool.{Bool, false, _&&_, and-assoc}
+use mathlib.Core.Bool.{Bool, true, false, _&&_, and-assoc}
 use mathlib.Core.List.{List}
 use native.Mathlib.Omega.{arith}
 use lib.Dec.{eqb, leb}
@@ -13,12 +13,10 @@ use Rattle.buffer.specs.Lists.{all, any, pairs, tab}
 use Rattle.buffer.proofs.Equivalence.{all-both, all-tab-same}
 use Rattle.buffer.proofs.Lists.{tab-at, tab-length}
 use Rattle.variable.specs.Good.{beside, goodSize, goodVariable, goodVariables}
-use Rattle.variable.specs.Limits.{maxVariables, memorySize}
-use Rattle.machine.specs.Area.{variablesOf}
-use Rattle.machine.specs.Limits.{countAt, entriesAt, entrySize}
-use Rattle.area.specs.Parts.{variableIn}
+use Rattle.variable.specs.Limits.{countAt, entriesAt, entrySize, maxVariables, memorySize}
 use Rattle.validation.specs.Columns.{places, sized, wordsOf}
 use Rattle.validation.proofs.Clashes.{ownerColumn, word-of-part}
+use Rattle.variable.specs.Bytes.{variableIn, variablesOf}
 
 take-of-tab : {A : Type 0} (f : ℕ → A) (n m : ℕ) → m ≤ n → take m (tab f n) ≡ tab f m
 take-of-tab f n m h =
@@ -41,6 +39,10 @@ module _ (live area : List ℕ) where
   pub too-many : maxVariables < variableCount area → goodVariables live (variablesOf area) ≡ false
   unfolding goodVariables variablesOf
   too-many h = rw (lt-leb (variableCount area) maxVariables h)
+
+  pub no-variables : variableCount area ≡ 0 → goodVariables live (variablesOf area) ≡ true
+  unfolding goodVariables variablesOf all pairs
+  no-variables z = rw z
 
   module _ (few : variableCount area ≤ maxVariables) where
     -- the owners in their column

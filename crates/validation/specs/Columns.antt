@@ -10,12 +10,13 @@ use Rattle.buffer.specs.Lists.{tab}
 use Rattle.disc.specs.Directory.{Readable, fileCount, goodDisc}
 use Rattle.disc.specs.Layout.{entrySize as fileEntrySize, maxFiles, nameSize}
 use Rattle.variable.specs.Good.{goodSize}
-use Rattle.variable.specs.Limits.{memorySize}
+use Rattle.variable.specs.Limits.{entriesAt, entrySize, memorySize}
 use Rattle.variable.specs.declared.Variable.{Variable}
-use Rattle.machine.specs.Limits.{entriesAt, entrySize, slotCount}
+use Rattle.variable.specs.Bytes.{variableIn}
+use Rattle.machine.specs.Limits.{slotCount}
 use Rattle.machine.specs.State.{isLive}
 use Rattle.machine.specs.declared.Process.{Process}
-use Rattle.area.specs.Parts.{processIn, variableIn}
+use Rattle.area.specs.Parts.{processIn}
 
 -- ---- files
 -- start and length of each file as one number; behind the last file 0, which is none of a good disc
@@ -53,6 +54,14 @@ differs earlier later = eqb later 0 || not (eqb earlier later)
 -- every two of 25 by their distance: the first stands below 24, the second up to 24 behind it
 abbrev pub firsts : ℕ
 firsts = 24
+
+-- as many as one step of the compiled code compares
+abbrev pub few : ℕ
+few = 8
+
+-- at how many places the first is sought where so many are left for it
+unfoldable pub reach : ℕ → ℕ
+reach left = cond (leb left few) few firsts
 
 abbrev pub places : ℕ
 places = 48

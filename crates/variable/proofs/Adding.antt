@@ -9,7 +9,7 @@ use native.Mathlib.Omega.{arith}
 use lib.ListN.{length, length-set}
 use lib.Seq.{take-suc-set}
 use borrow.Author.Tests.{eq-eqb, ne-eqb}
-use Rattle.buffer.specs.Buffer.{part}
+use Rattle.buffer.specs.Buffer.{overwrite, part}
 use Rattle.buffer.specs.Lists.{all, consIf, keep}
 use Rattle.buffer.proofs.Bools.{and-left, and-right}
 use Rattle.buffer.proofs.Buffer.{overwrite-length, overwrite-part}
@@ -19,10 +19,12 @@ use Rattle.buffer.proofs.Tables.{all-map}
 use Rattle.place.specs.Place.{apart, runFrom}
 use Rattle.place.proofs.Place.{Fits, apart-is}
 use Rattle.variable.specs.Assign.{added, highEnd, lowEnd, takenRuns}
-use Rattle.variable.specs.Limits.{maxVariables}
+use Rattle.variable.specs.Bytes.{variablesBytes, variablesOf, withCount, withEntry, withMemory}
+use Rattle.variable.specs.Limits.{maxVariables, memorySize}
 use Rattle.variable.specs.Table.{Cell, Shaped, cellOf, counted, owned, ownedBy, runOf}
 use Rattle.variable.specs.declared.Variable.{Variable}
 use Rattle.variable.specs.declared.Variables.{Variables}
+use Rattle.variable.proofs.Bytes.{variables-said}
 
 module _ (v : Variables) (e : Variable) (bytes : List ℕ) (shaped : Shaped v) (room : v .count < maxVariables)
     (run : Fits (takenRuns v) lowEnd highEnd (e .size) (e .address)) (sized : length bytes ≡ e .size) where
@@ -103,3 +105,20 @@ module _ (v : Variables) (e : Variable) (bytes : List ℕ) (shaped : Shaped v) (
       ++ (record { name = e .name; kind = e .kind; bytes = bytes } ∷ [])
   owned-added-own = owned-added (e .owner) ∙ rw (eq-eqb (e .owner) (e .owner) refl, added-bytes)
   -- ---- lookup
+
+-- ---- written in three parts: memory, the entry, the count
+pub added-written : (v : Variables) → Shaped v → (e : Variable) (bytes : List ℕ) {used : ℕ} {one two three : List ℕ} → used ≡ v .count
+    → e .address + length bytes ≤ memorySize
+    → one ≡ variablesBytes (withMemory v (overwrite (v .memory) (e .address) bytes))
+    → two ≡ variablesBytes (withEntry (variablesOf one) used e) → three ≡ variablesBytes (withCount (variablesOf two) (used + 1))
+    → three ≡ variablesBytes (added v e bytes)
+unfolding added
+added-written v shaped e bytes {used} {one} {two} {three} u h x y z =
+    let m : List ℕ = overwrite (v .memory) (e .address) bytes in
+    let size : length m ≡ memorySize =
+    overwrite-length (v .memory) bytes (e .address) (omega (arith, shaped .memory)) ∙ shaped .memory in
+    let laid = variables-said (withMemory v m) (record { memory = size; entries = shaped .entries }) x in
+    let entered = variables-said (withEntry (withMemory v m) (v .count) e)
+    (record { memory = size; entries = length-set (v .entries) (v .count) e ∙ shaped .entries })
+    (y ∙ (λ t. variablesBytes (withEntry (laid t) (u t) e))) in
+    z ∙ (λ t. variablesBytes (withCount (entered t) (u t + 1)))

@@ -1,5 +1,5 @@
 -- Freeing: the entries that stay close up, zeros behind; memory and the variables of others are as they were.
-use Prim.Native.Nat.{ℕ, _-_, _≤_}
+use Prim.Native.Nat.{ℕ, _+_, _-_, _≤_}
 use mathlib.Core.Path.{_≡_, refl, sym, ap, ap₂, _∙_}
 use mathlib.Core.Bool.{Bool, true, false, _&&_, not, and-false, and-true}
 use mathlib.Core.List.{List, [], _++_, map, append-assoc}

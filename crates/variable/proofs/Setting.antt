@@ -3,21 +3,21 @@ use Prim.Native.Nat.{ℕ, _+_, _-_, _≤_, _<_}
 use mathlib.Core.Path.{_≡_, refl, sym, ap, subst, _∙_}
 use mathlib.Core.Bool.{Bool, true, false}
 use mathlib.Core.List.{List, [], _∷_, _++_}
-use native.Mathlib.Omega.{arith}
 use lib.Dec.{ltb}
-use lib.ListN.{length, replicate, take, length-map}
-use lib.Seq.{length-take-le, take-at}
+use lib.ListN.{length}
 use borrow.Author.Tests.{ltb-true, ltb-false}
 use Rattle.buffer.specs.Buffer.{part}
 use Rattle.buffer.specs.declared.Found.{Found}
 use Rattle.buffer.specs.declared.Found.the-variants.{At, Nowhere}
-use Rattle.place.specs.Place.{filled, fits, maxRuns, noRun, place}
+use Rattle.place.specs.Place.{fits, place}
 use Rattle.place.specs.declared.Run.{Run}
 use Rattle.place.proofs.Place.{Fits, no-place-none-fits, place-fits}
 use Rattle.variable.specs.Assign.{added, addressOr, assignAt, assigned, entryLimit, highEnd, ifEntry, lowEnd, newCell, newVariable}
-use Rattle.variable.specs.Assign.{placeFor, placing, takenRuns, valueBytes, assignedCells}
-use Rattle.variable.specs.Limits.{maxVariables}
-use Rattle.variable.specs.Table.{Cell, Shaped, counted, freed, isOf, owned, runOf}
+use Rattle.variable.specs.Assign.{placeFor, placing, takenRuns, valueBytes, valueOf, assignedCells}
+use Rattle.variable.specs.Bytes.{variablesBytes, variablesOf}
+use Rattle.variable.specs.Closing.{SetLeaves}
+use Rattle.variable.specs.Limits.{maxVariables, memorySize}
+use Rattle.variable.specs.Table.{Cell, Shaped, freed, isOf, owned}
 use Rattle.variable.specs.declared.Placing.{Placing}
 use Rattle.variable.specs.declared.Placing.the-variants.{Address, NoEntry, NoRun}
 use Rattle.variable.specs.declared.Value.{Value}
@@ -25,14 +25,15 @@ use Rattle.variable.specs.declared.Variable.{Variable}
 use Rattle.variable.specs.declared.Variables.{Variables}
 use Rattle.variable.proofs.Adding.{added-bytes, added-shaped, owned-added-other}
 use Rattle.variable.proofs.Adding.{owned-added-own}
+use Rattle.variable.proofs.Bytes.{variables-said}
+use Rattle.variable.proofs.Reading.{value-made}
 use Rattle.variable.proofs.Freeing.{freed-shaped, owned-freed-name, owned-freed-other}
 
--- ---- the runs in an array: the first of them are all that are taken
-pub taken-runs-first : (v : Variables) → v .count ≤ maxVariables → length (v .entries) ≡ maxVariables
-    → take (v .count) (filled (takenRuns v)) ≡ takenRuns v
-taken-runs-first v few size =
-    take-at (takenRuns v) (replicate (maxRuns - length (takenRuns v)) noRun) (v .count)
-    (length-map (counted v) runOf ∙ length-take-le (v .count) (v .entries) (omega arith))
+-- no place was found
+abbrev pub NotPlaced : Placing → Type 0
+NotPlaced (Address a) = ⊥
+NotPlaced NoEntry = Unit {0}
+NotPlaced NoRun = Unit {0}
 
 -- ---- placing
 module _ (runs : List Run) (low high used limit n : ℕ) where
@@ -103,6 +104,16 @@ module _ (v : Variables) (name id : ℕ) (x : Value) where
       go NoEntry e = old
       go NoRun e = old
 
+  -- a SET that finds no place leaves the variables as they were
+  pub assigned-refused : (p : Placing) → NotPlaced p → assigned v name id x .placing ≡ p → assigned v name id x .variables ≡ v
+  unfolding assigned
+  assigned-refused p n e = go p n (sym assigned-placing ∙ e)
+    where
+      go : (p : Placing) → NotPlaced p → placeFor rest (x .size) ≡ p → assigned v name id x .variables ≡ v
+      go (Address a) none h = absurd none
+      go NoEntry none h = rw h
+      go NoRun none h = rw h
+
   -- "no entry" only with as many variables as there can be left after freeing the old one
   pub assigned-no-entry : assigned v name id x .placing ≡ NoEntry → maxVariables ≤ rest .count
   assigned-no-entry e = place-no-entry rest (x .size) (sym assigned-placing ∙ e)
@@ -157,3 +168,33 @@ module _ (v : Variables) (name id : ℕ) (x : Value) where
       pub assigned-bytes : part (assigned v name id x .variables .memory) a (x .size) ≡ valueBytes x
       assigned-bytes = ap (λ (w : Variables). part (w .memory) a (x .size)) assigned-is
           ∙ added-bytes rest new (valueBytes x) left room assigned-run sized
+
+-- ---- what a SET leaves of the bytes
+module _ (v : Variables) (shaped : Shaped v) (few : v .count ≤ maxVariables) (name id kind : ℕ) (bytes : List ℕ) where
+  abbrev value : Value
+  value = valueOf kind bytes
+
+  abbrev others : Variables
+  others = freed v (isOf name id)
+
+  pub set-refused : (p : Placing) {left : List ℕ} → NotPlaced p → placeFor others (length bytes) ≡ p → left ≡ variablesBytes v
+      → SetLeaves p left (assigned v name id value)
+  unfolding assigned
+  set-refused (Address a) n h x = absurd n
+  set-refused NoEntry n h x = rw h (record { placing = refl; variables = x })
+  set-refused NoRun n h x = rw h (record { placing = refl; variables = x })
+
+  module _ (a : ℕ) (h : placeFor others (length bytes) ≡ Address a) where
+    pub set-room : (others .count < maxVariables) × (a + length bytes ≤ memorySize)
+    set-room = let r = place-address others (length bytes) a h in
+        (r .0, r .1 .high)
+
+    pub set-done : {one two : List ℕ} → one ≡ variablesBytes others
+        → two ≡ variablesBytes (added (variablesOf one) (newVariable name id value a) bytes)
+        → SetLeaves (Address a) two (assigned v name id value)
+    unfolding assigned
+    set-done {one} {two} x y =
+        let rest : variablesOf one ≡ others = variables-said others (freed-shaped v (isOf name id) few shaped) x in
+        let made : bytes ≡ valueBytes value = sym (value-made kind bytes) in
+        rw h
+        (record { placing = refl; variables = y ∙ (λ t. variablesBytes (added (rest t) (newVariable name id value a) (made t))) })

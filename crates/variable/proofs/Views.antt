@@ -1,9 +1,9 @@
 -- The counted entries: as a table of their places, and what a search among them found.
 use Prim.Native.Nat.{ℕ, zero, suc, _≤_}
-use mathlib.Core.Path.{_≡_, refl, sym, ap, _∙_}
-use mathlib.Core.List.{List, [], _∷_, _++_, map}
+use mathlib.Core.Path.{_≡_, refl, ap, _∙_}
+use mathlib.Core.List.{List, [], _∷_, _++_}
 use native.Mathlib.Omega.{arith}
-use lib.ListN.{length, getD, take, length-map}
+use lib.ListN.{length, getD, take}
 use lib.Seq.{take-suc}
 use Rattle.buffer.specs.Lists.{tab}
 
@@ -16,7 +16,3 @@ pub take-bound : {A : Type 0} (n : ℕ) (l : List A) → length (take n l) ≤ n
 take-bound zero l = omega arith
 take-bound (suc n) [] = omega arith
 take-bound (suc n) (x ∷ l) = let h = take-bound n l in omega arith
-
--- for `search`: what is known of an array of structs in a struct stands at `map` over its list
-pub length-mapped : (X Y : Type 0) (f : X → Y) (l : List X) (n : ℕ) → length (map f l) ≡ n → length l ≡ n
-length-mapped X Y f l n e = sym (length-map l f) ∙ e

@@ -1,10 +1,22 @@
-// Variable memory: 256 bytes and 25 entries that all processes share, by value.
+// Variable memory: 256 bytes and 25 entries that all processes share, in the 407 bytes at the front of the work area.
 pub mod assign;
+pub mod free;
 pub mod table;
+
+use place::MAX_RUNS;
+use place::Run;
 
 pub const MEMORY_SIZE: usize = 256;
 
 pub const MAX_VARIABLES: usize = 25;
+
+pub const ENTRIES_AT: usize = 256;
+
+pub const ENTRY_SIZE: usize = 6;
+
+pub const COUNT_AT: usize = 406;
+
+pub const VARIABLES_SIZE: usize = 407;
 
 pub const MAX_STRING: u16 = 30;
 
@@ -19,7 +31,8 @@ pub struct Variable {
     pub owner: u16,
 }
 
-// The first count entries are variables; the others are not read and keep their bytes.
+// The first count entries are variables; the others are not read and keep their bytes. Only the definitions have it
+// whole: the functions read and write its bytes.
 pub struct Variables {
     pub memory: [u8; MEMORY_SIZE],
     pub entries: [Variable; MAX_VARIABLES],
@@ -44,4 +57,10 @@ pub enum Placing {
 pub struct Assigned {
     pub placing: Placing,
     pub variables: Variables,
+}
+
+// The runs that some variables take: the first count.
+pub struct Taken {
+    pub runs: [Run; MAX_RUNS],
+    pub count: usize,
 }

@@ -6,7 +6,9 @@ use crate::sets;
 pub fn twenty_six() {
     let full = sets::several(25, 1);
     sets::try_set(b"26th:", full, 25, 1);
+    sets::try_write(b"26th:", full, 25, 1);
     sets::try_set(b"third again:", full, 2, 1);
+    sets::try_write(b"third again:", full, 2, 1);
 }
 
 // Eight strings of 30 bytes and one of 16 fill the memory, so that only the place of a string that is set again is
@@ -17,6 +19,7 @@ pub fn full_memory() {
     sets::try_set(b"one byte more:", full, 9, 1);
     sets::try_set(b"fifth again:", full, 4, 30);
     sets::try_set(b"fifth longer:", full, 4, 31);
+    sets::try_write(b"fifth longer:", full, 4, 31);
     let holed = sets::freed(full, 8);
     sets::try_set(b"30 bytes, 16 free:", holed, 9, 30);
     sets::try_set(b"16 bytes, 16 free:", holed, 9, 16);

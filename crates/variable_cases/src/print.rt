@@ -1,10 +1,10 @@
 // What the program prints: texts, places, and the table with its memory.
 use libc::STDOUT_FILENO;
-use variable::MAX_VARIABLES;
-use variable::MEMORY_SIZE;
 use variable::Placing;
+use variable::VARIABLES_SIZE;
 use variable::Variable;
-use variable::Variables;
+use variable::table::count_of;
+use variable::table::entry_at;
 
 pub fn text(bytes: &[u8]) {
     io::write_all(STDOUT_FILENO, bytes);
@@ -41,16 +41,16 @@ fn entry_line(e: Variable) {
 }
 
 // The first six entries, those behind the count too.
-fn entry_lines(entries: [Variable; MAX_VARIABLES]) {
+fn entry_lines(variables: [u8; VARIABLES_SIZE]) {
     let mut i: usize = 0;
     while i < 6 {
-        entry_line(entries[i]);
+        entry_line(entry_at(&variables, i));
         i += 1;
     }
 }
 
 // The first 16 bytes of memory.
-fn memory_line(memory: [u8; MEMORY_SIZE]) {
+fn memory_line(memory: [u8; VARIABLES_SIZE]) {
     text(b"memory");
     let mut i: usize = 0;
     while i < 16 {
@@ -64,12 +64,10 @@ fn wide(byte: u8) -> u64 {
     byte as u64
 }
 
-pub fn table_lines(v: Variables) {
-    let entries = v.entries;
-    let memory = v.memory;
+pub fn table_lines(v: [u8; VARIABLES_SIZE]) {
     text(b"count");
-    number(v.count as u64);
+    number(count_of(&v) as u64);
     text(b"\n");
-    entry_lines(entries);
-    memory_line(memory);
+    entry_lines(v);
+    memory_line(v);
 }

@@ -15,8 +15,8 @@ use Rattle.disc.specs.declared.Entry.{Entry}
 use Rattle.variable.specs.Table.{Shaped}
 use Rattle.variable.specs.declared.Variables.{Variables}
 use Rattle.disc.specs.Layout.{nameSize}
-use Rattle.variable.specs.Limits.{memorySize}
-use Rattle.machine.specs.Area.{kernelOf, processOf, stackAt, variablesOf}
+use Rattle.variable.proofs.Bytes.{decoded-shaped}
+use Rattle.machine.specs.Area.{kernelOf, processOf, stackAt}
 use Rattle.machine.specs.Limits.{areaLength, recordSize, recordsAt, slotCount, stackSize, zerosAt, zerosSize}
 use Rattle.machine.specs.Start.{started, startedProcess}
 use Rattle.machine.specs.Ended.{endedProcess}
@@ -40,10 +40,10 @@ pub decoded-process-sized : (l : List ℕ) → length l ≡ recordSize → Sized
 decoded-process-sized l h = record { name = length-take-le nameSize l (omega arith); stack = part-length l stackAt stackSize (omega arith) }
 
 pub decoded-sized : (area : List ℕ) → length area ≡ areaLength → Sized (kernelOf area)
-unfolding kernelOf variablesOf
+unfolding kernelOf
 decoded-sized area h =
     record {
-      variables = record { memory = length-take-le memorySize area (omega arith); entries = simp tab-length };
+      variables = decoded-shaped area (omega arith);
       zeros = part-length area zerosAt zerosSize (omega arith);
       processes = simp tab-length;
       each = λ i m. rw (tab-at recordAt slotCount i noProcess m)

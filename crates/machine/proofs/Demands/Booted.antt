@@ -9,8 +9,9 @@ use Rattle.buffer.proofs.Bools.{and-both, and-left, and-right}
 use Rattle.disc.specs.Directory.{goodDisc, goodFiles, isDiscLength}
 use Rattle.variable.specs.Good.{goodVariables}
 use Rattle.disc.specs.Layout.{countAt}
+use Rattle.variable.specs.Bytes.{variablesOf}
 use Rattle.machine.specs.Answer.{Buffers, bootAnswer, booted, formatAnswer, goodArea}
-use Rattle.machine.specs.Area.{isAreaLength, kernelOf, variablesOf}
+use Rattle.machine.specs.Area.{isAreaLength, kernelOf}
 use Rattle.machine.specs.GoodArea.{goodHeader, goodKernel, goodProcess, otherId}
 use Rattle.machine.specs.Refusals.{Passes}
 

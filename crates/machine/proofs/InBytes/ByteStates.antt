@@ -7,12 +7,12 @@ use Rattle.buffer.specs.Buffer.{part, wordBytes}
 use Rattle.buffer.specs.Lists.{flat}
 use Rattle.place.specs.declared.Run.{Run}
 use Rattle.disc.specs.Layout.{nameSize}
-use Rattle.variable.specs.Limits.{maxVariables, memorySize}
+use Rattle.variable.specs.Limits.{countAt, entriesAt, entrySize, maxVariables, memorySize}
 use Rattle.variable.specs.declared.Variable.{Variable}
 use Rattle.variable.specs.declared.Variables.{Variables}
-use Rattle.machine.specs.Area.{kernelBytes, kernelOf, processBytes, processOf, registerBytes, stackAt, variableBytes, variableOf}
-use Rattle.machine.specs.Area.{variablesOf}
-use Rattle.machine.specs.Limits.{countAt, entriesAt, entrySize, nextAt, recordSize, recordsAt, slotCount, stackSize, zerosAt}
+use Rattle.variable.specs.Bytes.{variableBytes, variableOf, variablesOf}
+use Rattle.machine.specs.Area.{kernelBytes, kernelOf, processBytes, processOf, registerBytes, stackAt}
+use Rattle.machine.specs.Limits.{nextAt, recordSize, recordsAt, slotCount, stackSize, zerosAt}
 use Rattle.machine.specs.Limits.{zerosSize}
 use Rattle.machine.specs.State.{noProcess, processAt}
 use Rattle.machine.specs.declared.Kernel.{Kernel}

@@ -1,18 +1,21 @@
 // The variable table by columns of 16 bits, which the compiled code compares eight at a time.
 use buffer::bytes::word_at;
-use machine::limits::ENTRIES_AT;
-use machine::limits::ENTRY_SIZE;
+use variable::ENTRIES_AT;
+use variable::ENTRY_SIZE;
 ghost use mathlib.Core.Path.{_≡_};
 ghost use Prim.Native.Nat.{_+_, _<_, _≤_};
 ghost use lib.ListN.{length};
 ghost use Rattle.buffer.specs.Buffer.{overwrite};
 ghost use Rattle.buffer.specs.Lists.{tab};
-ghost use Rattle.machine.specs.Limits.{areaLength, entrySize};
-ghost use Rattle.variable.specs.Limits.{maxVariables};
+ghost use Rattle.machine.specs.Limits.{areaLength};
+ghost use Rattle.variable.specs.Limits.{entrySize, maxVariables};
 ghost use Rattle.validation.specs.Columns.{bytesOf, endsOf, places, wordsOf};
 
 // Every two of 25 by their distance: the first stands below 24, the second up to 24 behind it.
-pub const FIRSTS: usize = 24;
+pub const FIRSTS: u32 = 24;
+
+// As many as one step of the compiled code compares.
+pub const FEW: u32 = 8;
 
 pub const PLACES: usize = 48;
 

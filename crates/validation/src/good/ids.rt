@@ -29,10 +29,11 @@ pub fn live_ids(area: &[u8]) -> [u16; SLOT_COUNT]
     ensures { λ r. ⌜ r ≡ slotIds (now (area .entry)) ⌝ }
 {
     let mut ids = [0u16; SLOT_COUNT];
-    let mut i: usize = 0;
-    while i < SLOT_COUNT {
-        let id = live_id(record_at(area, i));
-        ids[i] = id;
+    let mut i: u32 = 0;
+    while (i as usize) < SLOT_COUNT {
+        let slot = i as usize;
+        let id = live_id(record_at(area, slot));
+        ids[slot] = id;
         i += 1;
     }
     ids
@@ -44,13 +45,16 @@ fn is_new(ids: &[u16; SLOT_COUNT], i: usize) -> bool
     ensures { λ r. ⌜ r ≡ all (λ d. differs d (getD (now (ids .entry)) i 0)) (take i (now (ids .entry))) ⌝ }
 {
     let id = ids[i];
+    if id == 0 {
+        return true;
+    }
     let mut new = true;
     let mut j: usize = 0;
     while j < i {
         new = new & (ids[j] != id);
         j += 1;
     }
-    (id == 0) | new
+    new
 }
 
 // "distinct live IDs"
@@ -58,9 +62,9 @@ pub fn are_distinct(ids: &[u16; SLOT_COUNT]) -> bool
     requires { ⌜ length (now ids) ≡ slotCount ⌝ }
     ensures { λ r. ⌜ r ≡ pairs differs (now (ids .entry)) ⌝ }
 {
-    let mut i: usize = 0;
-    while i < SLOT_COUNT {
-        if !is_new(ids, i) {
+    let mut i: u32 = 0;
+    while (i as usize) < SLOT_COUNT {
+        if !is_new(ids, i as usize) {
             return false;
         }
         i += 1;

@@ -157,9 +157,9 @@ pub fn are_good(disc: &[u8], runs: &[u32; MAX_FILES], area: &[u8]) -> bool
         (kernelOf (now (area .entry)) .processes) ⌝ }
 {
     let next = word_at(area, NEXT_AT);
-    let mut i: usize = 0;
-    while i < SLOT_COUNT {
-        if !is_good_record(disc, runs, next, record_at(area, i)) {
+    let mut i: u32 = 0;
+    while (i as usize) < SLOT_COUNT {
+        if !is_good_record(disc, runs, next, record_at(area, i as usize)) {
             return false;
         }
         i += 1;

@@ -1,5 +1,6 @@
 // The variables, tested on their entries' bytes.
 use super::columns::ADDRESS_AT;
+use super::columns::FEW;
 use super::columns::FIRSTS;
 use super::columns::KIND_AT;
 use super::columns::NAME_AT;
@@ -11,10 +12,10 @@ use super::columns::fill_ends;
 use super::columns::fill_words;
 use super::columns::no_names;
 use super::columns::wide;
-use machine::limits::COUNT_AT;
-use machine::limits::ENTRIES_AT;
-use machine::limits::ENTRY_SIZE;
 use machine::limits::SLOT_COUNT;
+use variable::COUNT_AT;
+use variable::ENTRIES_AT;
+use variable::ENTRY_SIZE;
 use variable::MAX_STRING;
 use variable::MAX_VARIABLES;
 ghost use mathlib.Core.Path.{_≡_};
@@ -23,12 +24,11 @@ ghost use lib.Dec.{eqb, leb};
 ghost use lib.ListN.{length, replicate, take};
 ghost use Rattle.buffer.specs.Buffer.{overwrite};
 ghost use Rattle.buffer.specs.Lists.{all, any, keep, pairs, tab};
-ghost use Rattle.machine.specs.Area.{variablesOf};
+ghost use Rattle.variable.specs.Bytes.{variableIn, variablesOf};
 ghost use Rattle.machine.specs.Limits.{areaLength, slotCount};
 ghost use Rattle.variable.specs.Good.{beside, goodSize, goodVariables};
 ghost use Rattle.variable.specs.Limits.{maxVariables, memorySize};
-ghost use Rattle.area.specs.Parts.{variableIn};
-ghost use Rattle.validation.specs.Columns.{clash, firsts, isId, places, sized, wordsOf};
+ghost use Rattle.validation.specs.Columns.{clash, firsts, isId, places, reach, sized, wordsOf};
 
 const MEMORY_SIZE: u16 = 256;
 
@@ -75,9 +75,10 @@ fn is_owner(ids: &[u16; SLOT_COUNT], id: u16) -> bool
     ensures { λ r. ⌜ r ≡ any (eqb id) (keep isId (now (ids .entry))) ⌝ }
 {
     let mut hit = false;
-    let mut i: usize = 0;
-    while i < SLOT_COUNT {
-        hit = hit | (id == ids[i]);
+    let mut i: u32 = 0;
+    while (i as usize) < SLOT_COUNT {
+        let slot = i as usize;
+        hit = hit | (id == ids[slot]);
         i += 1;
     }
     (id != 0) & hit
@@ -96,37 +97,63 @@ fn are_owned(owners: &[u16; PLACES], ids: &[u16; SLOT_COUNT], count: usize) -> b
     good
 }
 
-// Whether two variables d places from each other clash. No way out of the loop, and as many turns at every call: so it
-// is compiled to vector code.
+// Whether two variables d places from each other clash, the first of them below n. No way out of the loop, and n is one
+// of two numbers that the compiler knows: so it is compiled to vector code.
 fn is_clash(
     starts: &[u16; PLACES],
     ends: &[u16; PLACES],
     names: &[u16; PLACES],
     owners: &[u16; PLACES],
     d: usize,
+    n: u32,
 ) -> bool
-    requires { ⌜ d ≤ firsts ⌝ }
+    requires { ⌜ (d ≤ firsts) × (n ≤ firsts) ⌝ }
     ensures { λ r. ⌜ r ≡ any
         (λ i. clash (now (starts .entry)) (now (ends .entry)) (now (names .entry)) (now (owners .entry)) i (i + d))
-        (tab (λ i. i) firsts) ⌝ }
+        (tab (λ i. i) n) ⌝ }
 {
     let mut hit = false;
-    let mut i: usize = 0;
-    while i < FIRSTS {
+    let mut i: u32 = 0;
+    while i < n {
+        let a = i as usize;
+        let b = a + d;
         hit = hit
-            | (((starts[i] < ends[i + d]) & (starts[i + d] < ends[i]))
-                | ((names[i] == names[i + d]) & (owners[i] == owners[i + d])));
+            | (((starts[a] < ends[b]) & (starts[b] < ends[a]))
+                | ((names[a] == names[b]) & (owners[a] == owners[b])));
         i += 1;
     }
     hit
 }
 
-// "disjoint [..], have distinct (name, ID)"
+// The same, where so many places are left for the first: some more may be read, none behind the last one clashes.
+fn is_clash_at(
+    starts: &[u16; PLACES],
+    ends: &[u16; PLACES],
+    names: &[u16; PLACES],
+    owners: &[u16; PLACES],
+    d: usize,
+    left: usize,
+) -> bool
+    requires { ⌜ d ≤ firsts ⌝ }
+    ensures { λ r. ⌜ r ≡ any
+        (λ i. clash (now (starts .entry)) (now (ends .entry)) (now (names .entry)) (now (owners .entry)) i (i + d))
+        (tab (λ i. i) (reach left)) ⌝ }
+{
+    if left <= FEW as usize {
+        return is_clash(starts, ends, names, owners, d, FEW);
+    }
+    is_clash(starts, ends, names, owners, d, FIRSTS)
+}
+
+// "disjoint [..], have distinct (name, ID)": fewer than two need no columns.
 fn are_beside(area: &[u8], owners: &[u16; PLACES], count: usize) -> bool
     requires { ⌜ (length (now area) ≡ areaLength) × (count ≤ maxVariables)
         × (now owners ≡ overwrite (replicate places 0) 0 (wordsOf (now area) 4 count)) ⌝ }
     ensures { λ r. ⌜ r ≡ pairs beside (tab (variableIn (now (area .entry))) count) ⌝ }
 {
+    if count < 2 {
+        return true;
+    }
     let mut starts = [NOWHERE; PLACES];
     let mut ends = [0u16; PLACES];
     let mut names = no_names();
@@ -135,7 +162,7 @@ fn are_beside(area: &[u8], owners: &[u16; PLACES], count: usize) -> bool
     fill_bytes(&mut names, area, NAME_AT, count);
     let mut d: usize = 1;
     while d < count {
-        if is_clash(&starts, &ends, &names, owners, d) {
+        if is_clash_at(&starts, &ends, &names, owners, d, count - d) {
             return false;
         }
         d += 1;
@@ -151,6 +178,9 @@ pub fn are_good(area: &[u8], ids: &[u16; SLOT_COUNT]) -> bool
     let count = area[COUNT_AT] as usize;
     if MAX_VARIABLES < count {
         return false;
+    }
+    if count == 0 {
+        return true;
     }
     if !are_sized(area, count) {
         return false;

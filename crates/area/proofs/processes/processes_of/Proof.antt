@@ -1,13 +1,11 @@
 -- The loop: the first processes of the array are those of the area.
 use Prim.Native.Nat.{_-_}
-use mathlib.Core.Path.{refl, ap, _∙_}
-use mathlib.Core.List.{[], _∷_}
+use mathlib.Core.Path.{refl, _∙_}
 use native.Mathlib.Omega.{arith}
 use borrow.Author.Needs.{needs}
 use Rattle.buffer.specs.Lists.{tab}
 use Rattle.machine.specs.Area.{kernelOf}
 use Rattle.machine.specs.Limits.{slotCount}
-use Rattle.machine.specs.declared.Process.{Process}
 use Rattle.area.specs.Parts.{processIn}
 use Rattle.area.proofs.Reading.{process-read}
 use Rattle.area.proofs.Tables.{Filled, filled-all, filled-next}
@@ -22,14 +20,12 @@ abbrev μ-loop : tie.MeasureT-loop
 
 loop-holds : tie.Need-loop-holds Inv-loop μ-loop
 unfolding tab
-loop-holds c =
-    let first = c .process-at .ensures ∙ process-read _ 0 (omega arith) in
-    record { few = omega arith; size = refl; first = ap (λ (p : Process). p ∷ []) first }
+loop-holds c = record { few = omega arith; size = refl; first = refl }
 
 loop-again : tie.Need-loop-again Inv-loop μ-loop
 loop-again c =
     let l = c .before .before in
-    filled-next _ _ (l .loop .inv) (omega arith) (c .process-at2 .ensures ∙ process-read _ (l .loop .slot) (omega arith))
+    filled-next _ _ (l .loop .inv) (omega arith) (c .process-at .ensures ∙ process-read _ (l .loop .slot) (omega arith))
 
 returns : tie.Need-returns Inv-loop μ-loop
 unfolding kernelOf

@@ -10,7 +10,6 @@ pub process-of-spec : {M : Type 1} → statement M
 process-of-spec =
     tie.close
     (tie.spec
-    (λ c. search needs)
     (λ c κs. search needs)
     (λ c. search needs)
     (λ c κs. search needs)

@@ -9,7 +9,7 @@ use Rattle.disc.specs.Layout.{nameSize}
 use Rattle.machine.specs.Area.{registerBytes, stackAt}
 use Rattle.machine.specs.Limits.{stackSize}
 use Rattle.area.specs.Parts.{recordAt}
-use Rattle.area.proofs.Runs.{three-laid}
+use Rattle.buffer.proofs.Runs.{three-laid}
 use Rattle.area.proofs.records.put_process.Statement.{statement}
 use Rattle.area.proofs.records.put_process.Tie as tie
 

@@ -1,34 +1,22 @@
--- The fields of the entry's six bytes.
-use Prim.Native.Nat.{_+_, _*_}
-use borrow.Author.Needs.{needs}
-use Rattle.buffer.proofs.Parts.{part-to}
-use Rattle.machine.specs.Limits.{entriesAt, entrySize}
+-- The entry that the front says.
+use mathlib.Core.Path.{ap, sym, _∙_}
+use lib.ListN.{getD}
+use Rattle.variable.specs.Table.{noVariable}
+use Rattle.variable.specs.declared.Variables.{Variables}
+use Rattle.area.proofs.Front.{front-length, variables-front}
 use Rattle.area.proofs.variables.variable_at.Statement.{statement}
 use Rattle.area.proofs.variables.variable_at.Tie as tie
 
-abbrev start : tie.After-bytes → tie.Start
-start c = c .before .before
-
 returns : tie.Need-returns
 returns c =
-    let read = c .before .before in
-    let a = start (read .before .before .before) .args in
-    let e = part-to (a .area .now) (entriesAt + a .i * entrySize) entrySize in
-    cc
+    let s = c .before .before .before in
+    c .entry-at .ensures
+    ∙ ap (λ (v : Variables). getD (v .entries) (s .args .i) noVariable) (variables-front (s .args .area .now))
 
 pub variable-at-spec : {M : Type 1} → statement M
 variable-at-spec =
     tie.close
     (tie.spec
-    (λ c. search needs)
-    (λ c. search needs)
-    (λ c. search needs)
-    (λ c. search needs)
-    (λ c. search needs)
-    (λ c. search needs)
-    (λ c. search needs)
-    (λ c. search needs)
-    (λ c. search needs)
-    (λ c. search needs)
-    (λ c κs. search needs)
+    (λ c. let s = c .before .before in sym (front-length (s .args .area .now) (s .pre .0)))
+    (λ c κs. let s = c .before .before in (front-length (s .args .area .now) (s .pre .0), s .pre .1))
     returns)

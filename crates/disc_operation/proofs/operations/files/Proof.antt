@@ -1,35 +1,28 @@
--- `operations::files` meets its contract: behind the tests of the disc, the lines of all files, if the output has room.
-use Prim.Native.Nat.{ℕ}
-use mathlib.Core.Path.{_≡_, sym, ap, _∙_}
+-- Behind the tests of the disc, the lines of all files, if the output has room.
+use Prim.Native.Nat.{ℕ, _<_}
+use mathlib.Core.Path.{_≡_, sym, _∙_}
 use mathlib.Core.List.{List}
-use lib.ListN.{length}
-use Rattle.buffer.specs.Buffer.{overwrite}
+use native.Mathlib.Omega.{arith}
+use borrow.Author.Needs.{needs}
 use Rattle.buffer.specs.Lists.{flat}
-use Rattle.buffer.specs.Text.{textSize, written}
-use Rattle.buffer.specs.declared.text.Text.{Text}
-use Rattle.buffer.proofs.Texts.{only-written}
-use Rattle.disc.specs.Directory.{files}
+use Rattle.disc.specs.Directory.{fileCount, files}
 use Rattle.store.specs.Answer.{checked, fileLine, filesAnswer}
 use Rattle.store.specs.declared.Checked.the-variants.{Usable}
 use Rattle.disc_operation.proofs.Checks.{Fit, usable}
+use Rattle.disc_operation.proofs.Lines.{files-short}
 use Rattle.disc_operation.proofs.Outputs.{text-done, text-short}
-use native.Mathlib.Omega.{arith}
-use borrow.Author.Needs.{needs}
 use Rattle.disc_operation.proofs.operations.files.Statement.{statement}
 use Rattle.disc_operation.proofs.operations.files.Tie as tie
 
--- the states: the start, the disc tested, found usable, the text put together, and found short enough
+-- the states: the start, the disc tested, found usable, the lines counted, and written
 abbrev start : tie.After-check → tie.Start
 start c = c .before .before .before
 
 abbrev tested : tie.After-enum-told → tie.After-check
 tested c = c .before .before
 
-abbrev whole : tie.After-overwrite-at-arg → tie.After-files-text
-whole c = c .before .before .before
-
-abbrev lent : tie.After-slice-known2 → tie.After-bytes2
-lent c = c .before .before .before
+abbrev counted : tie.After-put-files → tie.After-files-length
+counted c = c .before .before .before
 
 -- the disc, the output, and the lines of all files
 abbrev disc : tie.After-enum-told → List ℕ
@@ -48,16 +41,6 @@ passed c = sym (tested c .check .ensures) ∙ c .enum-told .given .1
 fit : (c : tie.After-enum-told) → Fit (disc c)
 fit c = usable (disc c) (passed c)
 
-sizes : (c : tie.After-files-text) → length (c .files-text .result .bytes) ≡ textSize
-sizes c = search needs
-
--- the text put together is that of all lines
-len-is : (c : tie.After-files-text) → length (lines (c .before)) ≡ c .files-text .result .len
-len-is c = omega (arith, ap (λ (t : Text). t .len) (c .files-text .ensures .0))
-
-text-is : (c : tie.After-files-text) → written (c .files-text .result) ≡ lines (c .before)
-text-is c = only-written _ (lines (c .before)) (c .files-text .ensures .0) (omega (arith, len-is c, c .files-text .ensures .1))
-
 returns : tie.Need-returns
 unfolding filesAnswer
 returns c = rw (sym (c .before .before .before .check .ensures) ∙ c .before .refusal .given .1)
@@ -65,30 +48,30 @@ returns c = rw (sym (c .before .before .before .check .ensures) ∙ c .before .r
 returns-2 : tie.Need-returns-2
 unfolding filesAnswer
 returns-2 c =
-    let t = c .before in
-    rw (passed (t .before)) (text-short (lines (t .before)) (out (t .before)) (t .files-text .result .len) (len-is t) (c .if1 .taken))
+    let n = c .before in
+    rw (passed (n .before))
+    (text-short (lines (n .before)) (out (n .before)) (n .files-length .result) (sym (n .files-length .ensures)) (c .if1 .taken))
 
-array-share-prefix-bytes : tie.Need-array-share-prefix-bytes
-array-share-prefix-bytes c =
-    let z = sizes (whole c) in
-    omega (arith, whole c .files-text .ensures .1)
+put-files-requires : tie.Need-put-files-requires
+put-files-requires c κs =
+    let n = c .before .before in
+    (fit (n .before) .ready, omega (arith, n .files-length .ensures))
 
-slice-aggregate-overwrite-at : tie.Need-slice-aggregate-overwrite-at
-slice-aggregate-overwrite-at c = let t = whole (c .before) in sym (ap length (text-is t) ∙ len-is t)
-
-overwrite-at-requires : tie.Need-overwrite-at-requires
-overwrite-at-requires c κs =
-    let t = whole (c .before) in
-    omega (arith, ap length (text-is t), len-is t)
+-- ten lines are short of what 16 bits hold
+short : (c : tie.After-put-files) → c .put-files .result < 65536
+short c =
+    let e = counted c .before in
+    let d = disc e in
+    omega (arith, c .put-files .ensures .place, files-short d (fileCount d), fit e .ready .few)
 
 returns-3 : tie.Need-returns-3
 unfolding filesAnswer
 returns-3 c =
-    let t = whole (lent c .before) in
-    let e = t .before in
+    let put = c .before .before in
+    let e = counted put .before in
     rw (passed e)
-    (text-done (lines e) (out e) _ (t .files-text .result .len) (len-is t) (lent c .before .before .before .if1 .left)
-    (c .before .before .overwrite-at .ensures ∙ ap (λ (l : List ℕ). overwrite (out e) 0 l) (text-is t)))
+    (text-done (lines e) (out e) _ (put .put-files .result) (omega (arith, put .put-files .ensures .place))
+    (omega (arith, counted put .files-length .ensures, put .put-files .ensures .place)) (put .put-files .ensures .bytes))
 
 pub files-spec : {M : Type 1} → statement M
 files-spec =
@@ -100,9 +83,7 @@ files-spec =
     (λ c. search needs)
     (λ c κs. fit c .ready)
     returns-2
-    array-share-prefix-bytes
-    slice-aggregate-overwrite-at
-    overwrite-at-requires
-    (λ c. omega (arith, whole (lent c .before) .files-text .ensures .1))
+    put-files-requires
+    (λ c. omega (arith, short (c .before .before)))
     (λ c. search needs)
     returns-3)

@@ -1,27 +1,16 @@
 -- Each instruction by its own function.
-use mathlib.Core.Path.{subst⁻¹}
 use Rattle.machine.specs.Exec.{performs}
-use Rattle.variable.specs.declared.Variables.{Variables}
-use Rattle.instruction.specs.Readable.{Readable}
 use Rattle.stack.proofs.Steps.{last-means}
 use borrow.Author.Needs.{needs}
 use Rattle.instruction.proofs.execute.perform.Statement.{statement}
 use Rattle.instruction.proofs.execute.perform.Tie as tie
 
--- ---- the states: the variables read; an instruction that ends the process
-abbrev start : tie.After-variables-of → tie.Start
-start c = let known = c .before .before .before in known .before .before .before
-
+-- ---- the states: an instruction that ends the process
 abbrev stopped : tie.After-enum-told11 → tie.Start
 stopped c = let known = c .before .before in known .before .before .before
 
 abbrev unknown : tie.After-enum-told12 → tie.Start
 unknown c = let known = c .before .before in known .before .before .before
-
-get-variable-requires : tie.Need-get-variable-requires
-get-variable-requires c κs =
-    let s = start c in
-    (s .pre .0, subst⁻¹ (λ (v : Variables). Readable v) (c .variables-of .ensures) (s .pre .2))
 
 pub perform-spec : {M : Type 1} → statement M
 unfolding performs
@@ -36,7 +25,6 @@ perform-spec =
     (λ c κs. search needs)
     (λ c. search needs)
     (λ c κs. search needs)
-    get-variable-requires
     (λ c. search needs)
     (λ c κs. search needs)
     (λ c. search needs)
@@ -66,7 +54,7 @@ perform-spec =
     (λ c. rw (c .before .before .i .given .1) (c .push-literal .ensures))
     (λ c. rw (c .before .enum-told .given .1) (c .push-text .ensures))
     (λ c. rw (c .before .enum-told2 .given .1) (c .set-variable .ensures))
-    (λ c. let v = c .before in rw (v .before .enum-told3 .given .1, ← v .variables-of .ensures) (c .get-variable .ensures))
+    (λ c. rw (c .before .enum-told3 .given .1) (c .get-variable .ensures))
     (λ c. rw (c .before .before .i2 .given .1) (c .operate .ensures))
     (λ c. rw (c .before .enum-told4 .given .1) (c .delay .ensures))
     (λ c. rw (c .before .enum-told5 .given .1) (c .push-clock .ensures))

@@ -9,7 +9,6 @@ use Rattle.machine.specs.Answer.{Answer, runAt}
 use Rattle.machine.specs.Area.{kernelBytes, kernelOf}
 use Rattle.machine.specs.Start.{started, starting}
 use Rattle.machine.specs.Start.{Starting as StartOf}
-use Rattle.machine.specs.declared.Kernel.{Kernel}
 use Rattle.request.specs.Starts.{Inside, Startable, startingOf}
 use Rattle.request.specs.declared.Starting.{Starting}
 use Rattle.turn.proofs.Passing.{area-size, disc-readable, next-low}
@@ -39,29 +38,29 @@ startable c = subst (Inside (disc (sought c)) (area (sought c))) (c .slot .given
 
 entry-at-requires : tie.Need-entry-at-requires
 entry-at-requires c κs =
-    let f = c .before .before .before in
+    let f = c .before .before .before .before in
     let r = disc-readable (start (sought f .before) .pre) in
     (r .low, omega (arith, startable f .file-low, r .few))
 
--- ---- the kernel read, the entry read, the program started
-abbrev found : tie.After-kernel-of → tie.After-slot
+-- ---- next ID read, the entry read, the program started
+abbrev found : tie.After-next-id → tie.After-slot
 found c = c .before .before .before
 
-abbrev read : tie.After-start → tie.After-kernel-of
+abbrev read : tie.After-start → tie.After-next-id
 read c = c .before .before .before
 
 start-requires : tie.Need-start-requires
 start-requires c κs =
-    let k = c .before .before in
-    let f = found k in
-    let e = ap (λ (j : Kernel). j .next) (k .kernel-of .ensures) in
-    (startable f .slot-low, omega (arith, next-low (start (sought f .before) .pre)))
+    let f = found (c .before .before) in
+    let pre = start (sought f .before) .pre in
+    (area-size pre, startable f .slot-low, omega (arith, next-low pre))
 
 begun : (c : tie.After-start) → let f = found (read c) in
-    c .start .result ≡ started (kernelOf (area (sought f))) (f .slot .given .0 .0) (entryAt (disc (sought f)) (f .slot .given .0 .1 .0))
+    c .start .last .0
+    ≡ kernelBytes (started (kernelOf (area (sought f))) (f .slot .given .0 .0) (entryAt (disc (sought f)) (f .slot .given .0 .1 .0)))
 begun c =
     let f = found (read c) in
-    c .start .ensures ∙ (λ i. started (read c .kernel-of .ensures i) (f .slot .given .0 .0) (c .before .before .entry-at .ensures i))
+    c .start .ensures ∙ (λ i. kernelBytes (started (kernelOf (area (sought f))) (f .slot .given .0 .0) (c .before .entry-at .ensures i)))
 
 -- what the answer to the search stands for
 answers : (t : tie.After-find-start) (out : List ℕ) {r : Starting} → t .find-start .result ≡ r
@@ -71,13 +70,11 @@ answers t out told =
 
 returns : tie.Need-returns
 returns c out =
-    let put = c .before .before in
-    let b = put .before in
-    let k = read b in
-    let f = found k in
+    let b = c .before .before in
+    let n = read b in
+    let f = found n in
     let t = sought f in
-    (λ i. answered (Done (k .kernel-of .ensures i .next)) (disc t) ((put .put-kernel .ensures ∙ ap kernelBytes (begun b)) i) out)
-    ∙ answers t out (f .slot .given .1)
+    (λ i. answered (Done (n .next-id .ensures i)) (disc t) (begun b i) out) ∙ answers t out (f .slot .given .1)
 
 returns-2 : tie.Need-returns-2
 returns-2 c out = answers (c .before .before) out (c .enum-told .given .1)
@@ -97,7 +94,6 @@ run-file-spec =
     (λ c κs. area-size (start (sought (c .before .before) .before) .pre))
     entry-at-requires
     start-requires
-    (λ c κs. area-size (start (sought (found (read c)) .before) .pre))
     (λ c. search needs)
     (λ c. search needs)
     (λ c. search needs)

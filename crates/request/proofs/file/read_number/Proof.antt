@@ -1,14 +1,18 @@
 -- A READ: the number's bytes and its type go onto the stack where the file grants them; else a fault ends the process.
 use mathlib.Core.Path.{sym, _∙_}
+use mathlib.Core.List.{[], _∷_}
 use borrow.Author.Needs.{needs}
-use Rattle.request.proofs.Accesses.{ahead, read-granted}
+use Rattle.machine.specs.Beyond.{fileRun}
+use Rattle.process.proofs.Advancing.{own-file, own-stepping}
+use Rattle.store.specs.File.{readAt}
+use Rattle.request.proofs.Accesses.{ahead, own-received, read-granted}
 use Rattle.request.proofs.Answering.{answers, breaks-off}
 use Rattle.request.proofs.file.read_number.Statement.{statement}
 use Rattle.request.proofs.file.read_number.Tie as tie
 
 -- ---- the states: the access asked for, granted, the bytes pushed
 abbrev start : tie.After-access → tie.Start
-start c = c .before .before .before
+start c = c .before .before .before .before
 
 abbrev asked : tie.After-enum-told → tie.After-access
 asked c = c .before .before
@@ -22,7 +26,7 @@ push-read-requires c κs =
     let s = start (asked t) in
     let a = s .args in
     let h = ahead (a .p .file) (a .kind) (s .pre .1) (sym (asked t .access .ensures) ∙ t .enum-told .given .1) in
-    (s .pre .0, h, search needs)
+    (own-stepping (s .pre .0), own-file (s .pre .0), h, search needs)
 
 returns : tie.Need-returns
 returns c =
@@ -31,8 +35,10 @@ returns c =
     let s = start (asked t) in
     let a = s .args in
     let disc = a .disc .now in
+    let f = a .p .file in
     answers (s .pre .0) disc (pushed .push-read .ensures)
-    (sym (read-granted (s .pre .0) disc (a .kind) (sym (asked t .access .ensures) ∙ t .enum-told .given .1)))
+    (own-received (s .pre .0) disc (readAt disc (fileRun f) (f .offset) (a .kind)) (a .kind ∷ []) (a .kind)
+    ∙ sym (read-granted (s .pre .0) disc (a .kind) (sym (asked t .access .ensures) ∙ t .enum-told .given .1)))
 
 returns-2 : tie.Need-returns-2
 returns-2 c =

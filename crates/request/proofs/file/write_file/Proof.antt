@@ -10,9 +10,10 @@ use Rattle.place.specs.declared.Run.{Run}
 use Rattle.process.specs.Stepping.{left}
 use Rattle.stack.specs.Steps.{about}
 use Rattle.store.specs.File.{writtenAt}
+use Rattle.process.proofs.Advancing.{may-keep, own-keeping}
 use Rattle.request.specs.Answers.{Ahead}
 use Rattle.request.proofs.Accesses.{ahead, write-granted}
-use Rattle.request.proofs.Answering.{about-inside, about-length, breaks-off, goes-on, none-pushed}
+use Rattle.request.proofs.Answering.{about-inside, about-length, breaks-off, goes-on}
 use Rattle.request.proofs.file.write_file.Statement.{statement}
 use Rattle.request.proofs.file.write_file.Tie as tie
 
@@ -31,11 +32,8 @@ told c = c .before .before .before
 abbrev lent : tie.After-write-at → tie.After-file-run
 lent c = c .before .before .before
 
-abbrev wrote : tie.After-go-on → tie.After-write-at
-wrote c =
-    let lent = c .before .before in
-    let known = lent .before .before in
-    known .before .before .before
+abbrev wrote : tie.After-advanced → tie.After-write-at
+wrote c = let lent = c .before .before .before in lent .before .before .before
 
 size : (s : tie.Start) → length (s .args .d .bytes) ≡ stackSize
 size s = search needs
@@ -69,10 +67,13 @@ advanced-requires c κs =
     let written = read .before .before .before in
     inside (told (lent written)) .within
 
+go-on-requires : tie.Need-go-on-requires
+go-on-requires c κs = may-keep (start (asked (told (lent (wrote c)))) .pre .0)
+
 returns : tie.Need-returns
 returns c =
     let gone = c .before .before in
-    let written = wrote gone in
+    let written = wrote (gone .before) in
     let run = lent written in
     let t = told run in
     let s = start (asked t) in
@@ -82,7 +83,7 @@ returns c =
     ∙ ap (λ (r : Run). writtenAt disc r (a .p .file .offset) (about (a .d))) (run .file-run .ensures) in
     ap (λ (l : List ℕ). left l (gone .go-on .last .0)) e
     ∙ goes-on (s .pre .0) disc (write-granted (s .pre .0) disc (size s) (sym (asked t .access .ensures) ∙ t .enum-told .given .1))
-    (none-pushed (a .p) (a .d)) (gone .before .advanced .ensures) (gone .go-on .ensures)
+    (own-keeping (s .pre .0)) (gone .before .advanced .ensures) (gone .go-on .ensures)
 
 returns-2 : tie.Need-returns-2
 returns-2 c =
@@ -117,7 +118,7 @@ write-file-spec =
     (λ c. search needs)
     (λ c. search needs)
     advanced-requires
-    (λ c κs. search needs)
+    go-on-requires
     (λ c. search needs)
     (λ c κs. search needs)
     (λ c. search needs)

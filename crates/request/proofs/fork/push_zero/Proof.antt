@@ -2,24 +2,26 @@
 use mathlib.Core.Path.{refl}
 use borrow.Author.Needs.{needs}
 use Rattle.machine.specs.Beyond.{pushId}
-use Rattle.process.specs.Stepping.{stackOf}
+use Rattle.process.specs.Stepping.{ownAt, stackOf}
+use Rattle.process.proofs.Advancing.{may-go-on}
 use Rattle.stack.specs.Steps.{keeping}
-use Rattle.request.proofs.Answering.{steps-on}
+use Rattle.request.proofs.Answering.{goes-on}
 use Rattle.request.proofs.fork.push_zero.Statement.{statement}
 use Rattle.request.proofs.fork.push_zero.Tie as tie
 
-abbrev start : tie.After-go-on → tie.Start
-start c =
-    let lent = c .before .before in
-    let copied = lent .before .before in
-    copied .before .before
+abbrev start : tie.After-tail → tie.Start
+start c = c .before .before .before .before
+
+go-on-requires : tie.Need-go-on-requires
+go-on-requires c κs = let s = start c in may-go-on (s .pre .0) 3 (s .pre .2)
 
 returns : tie.Need-returns
 returns c disc n =
     let gone = c .before .before in
-    let s = start gone in
-    let a = s .args in
-    steps-on (s .pre .0) disc (pushId (keeping (stackOf (a .p)) (a .d)) 0) refl refl (gone .go-on .ensures)
+    let s = start (gone .before) in
+    goes-on (s .pre .0) disc {m = pushId (keeping (stackOf (ownAt (s .args .area .now) (s .args .slot))) (s .args .d)) 0}
+    refl refl (s .pre .1)
+    (gone .go-on .ensures)
 
 pub push-zero-spec : {M : Type 1} → statement M
 push-zero-spec =
@@ -27,6 +29,6 @@ push-zero-spec =
     (tie.spec
     (λ c. search needs)
     (λ c. search needs)
-    (λ c κs. search needs)
+    go-on-requires
     (λ c. search needs)
     returns)

@@ -1,19 +1,22 @@
 -- The process goes on with nothing pushed.
 use mathlib.Core.Path.{refl}
 use borrow.Author.Needs.{needs}
-use Rattle.request.proofs.Answering.{goes-on, none-pushed}
+use Rattle.process.proofs.Advancing.{may-keep, own-keeping}
+use Rattle.request.proofs.Answering.{goes-on}
 use Rattle.request.proofs.open.open_run.Statement.{statement}
 use Rattle.request.proofs.open.open_run.Tie as tie
 
-abbrev start : tie.After-go-on → tie.Start
-start c = let lent = c .before .before in lent .before .before .before
+abbrev start : tie.After-go-on-arg3 → tie.Start
+start c = let lent = c .before .before in lent .before .before
+
+go-on-requires : tie.Need-go-on-requires
+go-on-requires c κs = may-keep (start c .pre)
 
 returns : tie.Need-returns
 returns c disc after =
     let gone = c .before .before in
-    let s = start gone in
-    let a = s .args in
-    goes-on (s .pre) disc refl (none-pushed (a .p) (a .d)) refl (gone .go-on .ensures)
+    let s = start (gone .before) in
+    goes-on (s .pre) disc refl (own-keeping (s .pre)) refl (gone .go-on .ensures)
 
 pub open-run-spec : {M : Type 1} → statement M
 open-run-spec =
@@ -21,6 +24,6 @@ open-run-spec =
     (tie.spec
     (λ c. search needs)
     (λ c. search needs)
-    (λ c κs. search needs)
+    go-on-requires
     (λ c. search needs)
     returns)

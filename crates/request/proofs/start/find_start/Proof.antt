@@ -8,7 +8,7 @@ use Rattle.machine.specs.Limits.{idLimit}
 use Rattle.machine.specs.State.{endedSlot}
 use Rattle.disc.specs.Directory.{lookup}
 use Rattle.disc.proofs.Lookups.{lookup-at}
-use Rattle.request.proofs.Slots.{ended-slot-low, starting-by}
+use Rattle.request.proofs.Slots.{ended-slot-is, starting-by}
 use Rattle.request.proofs.start.find_start.Statement.{statement}
 use Rattle.request.proofs.start.find_start.Tie as tie
 
@@ -62,7 +62,8 @@ returns-4 c =
     let left : kernelOf (a .area .now) .next ≡ idLimit → ⊥ = λ h. c .if1 .left (n .next-id .ensures ∙ h) in (
       sym (starting-by (a .area .now) (a .disc .now) (a .name .now) (slot-found o) (file-found f) (ne-eqb _ idLimit left)),
       record {
-        slot-low = ended-slot-low (a .area .now) (slot-found o);
+        slot-low = ended-slot-is (a .area .now) (slot-found o) .0;
+        ended = ended-slot-is (a .area .now) (slot-found o) .1;
         file-low = lookup-at (a .disc .now) (a .name .now) (f .before .i .given .0 .0) (file-found f) .inside;
         left = left;
       },

@@ -1,5 +1,5 @@
 -- Each action is the effect that its step stands for: what is done of it leaves disc and area as that effect does.
-use Prim.Native.Nat.{ℕ}
+use Prim.Native.Nat.{ℕ, _+_}
 use mathlib.Core.Path.{_≡_, sym, ap, subst, _∙_}
 use mathlib.Core.List.{List, [], _++_, append-nil}
 use native.Mathlib.Omega.{arith}
@@ -10,21 +10,25 @@ use Rattle.machine.specs.Area.{kernelBytes, kernelOf}
 use Rattle.machine.specs.Effect.{Effect, asks, awaits}
 use Rattle.machine.specs.Limits.{stackSize}
 use Rattle.machine.specs.Beyond.{answered}
-use Rattle.machine.specs.State.{Local, localOf, processAt, withLocal, withProcess}
+use Rattle.machine.specs.State.{Local, localOf, processAt, withFile, withLocal, withProcess}
 use Rattle.number.specs.declared.Number.{Number}
 use Rattle.machine.specs.Turn.{carriedOut}
 use Rattle.machine.specs.declared.Process.{Process}
 use Rattle.process.specs.Stepping.{Left, left, leftBy, pushing, stackOf}
-use Rattle.stack.specs.Steps.{about, effectBy, effectOf, keeping}
+use Rattle.process.proofs.Advancing.{may-go-on, may-keep, own-keeping, own-pushing}
+use Rattle.stack.specs.Steps.{about, effectBy, effectOf, keeping, placed}
 use Rattle.stack.specs.declared.Action.{Action}
 use Rattle.stack.specs.declared.Action.the-variants.{Await}
 use Rattle.turn.specs.Turns.{Bounds}
 use Rattle.turn.proofs.take.carry_out.Statement.{statement}
 use Rattle.turn.proofs.take.carry_out.Tie as tie
 
--- ---- the states: the parts of the step at hand, where every arm begins
-abbrev start : tie.After-struct-known → tie.Start
-start c = let read = c .before .before .before in read .before .before
+-- ---- the states: where every arm begins, and where the bytes of a push are lent
+abbrev start : tie.After-file → tie.Start
+start c = c .before .before .before
+
+abbrev pushing-told : tie.After-go-on-arg2 → tie.After-enum-told
+pushing-told c = let lent = c .before .before in lent .before .before .before
 
 abbrev disc : tie.Start → List ℕ
 disc s = s .args .disc .now
@@ -36,6 +40,9 @@ area s = s .args .area .now
 module _ (s : tie.Start) where
   abbrev p : Process
   p = s .args .p
+
+  abbrev own : Process
+  own = processAt (kernelOf (area s)) (s .args .slot)
 
   abbrev does : Effect → Left
   does e = leftBy (carriedOut (kernelOf (area s)) (s .args .slot) (disc s) e)
@@ -51,14 +58,14 @@ module _ (s : tie.Start) where
   bounds : {a : Action} → s .args .d .action ≡ a → Bounds a p (s .args .d)
   bounds told = subst (λ (a : Action). Bounds a p (s .args .d)) told (s .pre .bounds)
 
-  -- a record put back is the process of its slot, moved
-  put-back : {after : List ℕ} {l m : Local} → after ≡ kernelBytes (withProcess (kernelOf (area s)) (s .args .slot) (withLocal p l)) → l ≡ m
-      → left (disc s) after
-      ≡ left (disc s) (kernelBytes (withProcess (kernelOf (area s)) (s .args .slot)
-      (withLocal (processAt (kernelOf (area s)) (s .args .slot)) m)))
-  put-back {after} {l} {m} h e =
-      let own = s .pre .stepping .own in
-      ap (left (disc s)) (h ∙ λ t. kernelBytes (withProcess (kernelOf (area s)) (s .args .slot) (withLocal (own t) (e t))))
+  -- the process of its slot, gone on with the file that it has
+  went-on : {after : List ℕ} {l m : Local}
+      → after ≡ kernelBytes (withProcess (kernelOf (area s)) (s .args .slot) (withFile (withLocal own l) (p .file))) → l ≡ m
+      → left (disc s) after ≡ left (disc s) (kernelBytes (withProcess (kernelOf (area s)) (s .args .slot) (withLocal own m)))
+  went-on h e =
+      let same = s .pre .stepping .own in
+      ap (left (disc s))
+      (h ∙ λ t. kernelBytes (withProcess (kernelOf (area s)) (s .args .slot) (withFile (withLocal own (e t)) (same t .file))))
 
   -- a wait stays in the state that its process has
   stays : {after : Left} (id : Number) → Bounds (Await id) p (s .args .d)
@@ -71,52 +78,44 @@ module _ (s : tie.Start) where
   about-size : length (about (s .args .d)) ≡ s .args .d .len
   about-size = let h = bytes-size in length-take-le (s .args .d .len) (s .args .d .bytes) (omega (arith, s .pre .stepping .len))
 
--- nothing above what is kept
-kept-alone : (s : tie.Start) → pushing (p s) (s .args .d) [] [] ≡ keeping (stackOf (p s)) (s .args .d)
-kept-alone s =
-    let d = s .args .d in
-    λ t. record {
-      stack = (append-nil (take (d .kept) (stackOf (p s)) ++ []) ∙ append-nil (take (d .kept) (stackOf (p s)))) t;
-      pc = d .pc;
-      loopstart = d .loopstart;
-    }
-
 pushes : (s : tie.Start) → let d = s .args .d in
-    pushing (p s) d (about d) [] ≡ record { stack = take (d .kept) (stackOf (p s)) ++ about d; pc = d .pc; loopstart = d .loopstart }
+    pushing (own s) (d .kept) (d .pc) (d .loopstart) (about d) []
+    ≡ placed (take (d .kept) (stackOf (p s)) ++ about d) (d .pc) (d .loopstart)
 pushes s =
     let d = s .args .d in
-    λ t. record {
-      stack = append-nil (take (d .kept) (stackOf (p s)) ++ about d) t;
-      pc = d .pc;
-      loopstart = d .loopstart;
-    }
+    own-pushing (s .pre .stepping) (d .kept) (d .pc) (d .loopstart) (about d) []
+    ∙ ap (λ (l : List ℕ). placed l (d .pc) (d .loopstart)) (append-nil (take (d .kept) (stackOf (p s)) ++ about d))
 
 -- ---- Push
 prefix : tie.Need-array-share-prefix-bytes
 prefix c =
-    let s = start (c .before .before .before) in
+    let told = c .before .before in
+    let s = start (told .before .before) in
     let h = bytes-size s in
     omega (arith, s .pre .stepping .len)
 
-aggregate : tie.Need-slice-aggregate-go-on
-aggregate c = let told = c .before .before in sym (about-size (start (told .before .before)))
+aggregate : tie.Need-slice-aggregate-pushed
+aggregate c = let told = c .before .before .before in sym (about-size (start (told .before .before)))
 
 push-room : tie.Need-go-on-requires
 push-room c κs =
-    let told = c .before .before .before in
+    let told = pushing-told c in
     let s = start (told .before .before) in
-    let q = s .pre .stepping in
-    let b = bounds s (told .enum-told .given .1) in
-    (q .size, q .low, record { sp = q .sp; kept = q .kept; fits = omega (arith, about-size s, b) })
+    may-go-on (s .pre .stepping) (length (about (s .args .d)) + 0) (omega (arith, about-size s, bounds s (told .enum-told .given .1)))
+
+print-room : tie.Need-go-on-requires-2
+print-room c κs = let told = c .before .before .before in may-keep (start (told .before .before) .pre .stepping)
+
+close-room : tie.Need-go-on-requires-3
+close-room c κs = let told = c .before .before .before in may-keep (start (told .before .before) .pre .stepping)
 
 returns : tie.Need-returns
 unfolding carriedOut
 returns c =
     let put = c .before .before in
-    let lent = put .before .before in
-    let told = lent .before .before in
+    let told = pushing-told (put .before) in
     let s = start (told .before .before) in
-    done-as s (told .enum-told .given .1) (put-back s (put .go-on .ensures) (pushes s))
+    done-as s (told .enum-told .given .1) (went-on s (put .go-on .ensures) (pushes s))
 
 returns-2 : tie.Need-returns-2
 unfolding carriedOut
@@ -125,7 +124,7 @@ returns-2 c =
     let lent = put .before .before in
     let told = lent .before .before in
     let s = start (told .before .before) in
-    done-as s (told .enum-told2 .given .1) (put-back s (put .go-on2 .ensures) (kept-alone s))
+    done-as s (told .enum-told2 .given .1) (went-on s (put .go-on2 .ensures) (own-keeping (s .pre .stepping)))
 
 -- ---- SET
 set-room : tie.Need-set-variable-requires
@@ -177,7 +176,7 @@ returns-7 c =
     let lent = put .before .before in
     let told = lent .before .before in
     let s = start (told .before .before) in
-    done-as s (told .enum-told4 .given .1) (put-back s (put .go-on3 .ensures) (kept-alone s))
+    done-as s (told .enum-told4 .given .1) (went-on s (put .go-on3 .ensures) (own-keeping (s .pre .stepping)))
 
 returns-8 : tie.Need-returns-8
 unfolding carriedOut
@@ -241,7 +240,7 @@ carry-out-spec =
     (λ c. search needs)
     (λ c. search needs)
     (λ c. search needs)
-    (λ c κs. search needs)
+    print-room
     (λ c. search needs)
     set-room
     (λ c. search needs)
@@ -253,7 +252,7 @@ carry-out-spec =
     (λ c. search needs)
     (λ c. search needs)
     (λ c. search needs)
-    (λ c κs. search needs)
+    close-room
     (λ c. search needs)
     (λ c κs. search needs)
     (λ c. search needs)

@@ -8,7 +8,8 @@ use borrow.Author.Tests.{not-true, not-false}
 use Rattle.buffer.specs.Lists.{all, keep, pairs}
 use Rattle.disc.specs.Directory.{files}
 use Rattle.variable.specs.Good.{goodVariables}
-use Rattle.machine.specs.Area.{kernelOf, variablesOf}
+use Rattle.variable.specs.Bytes.{variablesOf}
+use Rattle.machine.specs.Area.{kernelOf}
 use Rattle.machine.specs.GoodArea.{goodHeader, goodProcess}
 use Rattle.validation.specs.Columns.{differs, isId, slotIds}
 use Rattle.validation.proofs.Goodness.{bad-header, bad-ids, bad-records, variables-left}

@@ -1,7 +1,7 @@
 -- No entry where all are used; otherwise what the search for a run finds.
 use mathlib.Core.Path.{_≡_, sym, ap, _∙_}
 use borrow.Author.Tests.{le-ltb, lt-ltb}
-use Rattle.variable.specs.Assign.{addressOr, entryLimit, highEnd, lowEnd, placing}
+use Rattle.variable.specs.Assign.{addressOr, placing}
 use lib.ListN.{take}
 use native.Mathlib.Omega.{arith}
 use borrow.Author.Needs.{needs}
@@ -10,13 +10,15 @@ use Rattle.variable.proofs.assign.place_for.Tie as tie
 
 -- an entry is left: the answer is the search's
 searched : (c : tie.After-find-place) → let a = c .before .before .args in
-    placing (take (a .used) (a .runs)) lowEnd highEnd (a .used) entryLimit (a .n) ≡ addressOr (c .find-place .result)
+    placing (take (a .count) (a .runs)) (a .low) (a .high) (a .used) (a .limit) (a .n) ≡ addressOr (c .find-place .result)
 unfolding placing
-searched c = rw (lt-ltb (c .before .before .args .used) entryLimit (omega arith)) (ap addressOr (sym (c .find-place .ensures)))
+searched c =
+    let a = c .before .before .args in
+    rw (lt-ltb (a .used) (a .limit) (omega arith)) (ap addressOr (sym (c .find-place .ensures)))
 
 returns : tie.Need-returns
 unfolding placing
-returns c = rw (le-ltb (c .before .args .used) entryLimit (omega arith))
+returns c = rw (le-ltb (c .before .args .used) (c .before .args .limit) (omega arith))
 
 returns-2 : tie.Need-returns-2
 returns-2 c = let known = c .before in

@@ -4,10 +4,10 @@ use mathlib.Core.List.{List}
 use native.Mathlib.Omega.{arith}
 use borrow.Author.Needs.{needs}
 use lib.ListN.{getD}
-use Rattle.machine.specs.Limits.{entriesAt, entrySize}
 use Rattle.validation.proofs.Columns.{Column, column-filled, column-next, column-none}
 use Rattle.validation.proofs.good.columns.fill_bytes.Statement.{statement}
 use Rattle.validation.proofs.good.columns.fill_bytes.Tie as tie
+use Rattle.variable.specs.Limits.{entriesAt, entrySize}
 
 abbrev byte : List ℕ → ℕ → ℕ → ℕ
 byte area field i = getD area (entriesAt + i * entrySize + field) 0

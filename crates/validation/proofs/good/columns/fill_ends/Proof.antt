@@ -5,11 +5,11 @@ use mathlib.Core.List.{List}
 use native.Mathlib.Omega.{arith}
 use borrow.Author.Needs.{needs}
 use Rattle.buffer.proofs.Parts.{part-byte}
-use Rattle.machine.specs.Limits.{entriesAt, entrySize}
-use Rattle.area.specs.Parts.{variableIn}
 use Rattle.validation.proofs.Columns.{Column, column-filled, column-next, column-none}
 use Rattle.validation.proofs.good.columns.fill_ends.Statement.{statement}
 use Rattle.validation.proofs.good.columns.fill_ends.Tie as tie
+use Rattle.variable.specs.Limits.{entriesAt, entrySize}
+use Rattle.variable.specs.Bytes.{variableIn}
 
 abbrev end : List ℕ → ℕ → ℕ
 end area i = let e = variableIn area i in e .address + e .size

@@ -4,10 +4,10 @@ use mathlib.Core.List.{List}
 use native.Mathlib.Omega.{arith}
 use borrow.Author.Needs.{needs}
 use Rattle.buffer.specs.Buffer.{wordAt}
-use Rattle.machine.specs.Limits.{entriesAt, entrySize}
 use Rattle.validation.proofs.Columns.{Column, column-filled, column-next, column-none}
 use Rattle.validation.proofs.good.columns.fill_words.Statement.{statement}
 use Rattle.validation.proofs.good.columns.fill_words.Tie as tie
+use Rattle.variable.specs.Limits.{entriesAt, entrySize}
 
 abbrev word : List ℕ → ℕ → ℕ → ℕ
 word area field i = wordAt area (entriesAt + i * entrySize + field)

@@ -59,6 +59,8 @@ are-distinct-spec =
     Inv-loop
     μ-loop
     loop-holds
+    (λ c. omega arith)
+    (λ c. omega arith)
     (λ c κs. search needs)
     returns
     (λ c. omega arith)

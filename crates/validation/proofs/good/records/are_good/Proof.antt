@@ -81,6 +81,8 @@ are-good-spec =
     μ-loop
     (λ c κs. search needs)
     loop-holds
+    (λ c. omega arith)
+    (λ c. omega arith)
     (λ c κs. search needs)
     (λ c κs. search needs)
     returns

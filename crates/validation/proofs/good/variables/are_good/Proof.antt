@@ -6,29 +6,29 @@ use borrow.Author.Needs.{needs}
 use borrow.Author.Tests.{not-true, not-false}
 use lib.ListN.{take}
 use Rattle.buffer.specs.Lists.{all, keep, tab}
-use Rattle.machine.specs.Limits.{countAt}
-use Rattle.area.specs.Parts.{variableIn}
 use Rattle.validation.specs.Columns.{isId, sized}
 use Rattle.validation.proofs.Clashes.{owner-column-length, ownerColumn}
-use Rattle.validation.proofs.VariableTests.{column-owners, in-parts, isOwner, too-many, variableCount}
+use Rattle.validation.proofs.VariableTests.{column-owners, in-parts, isOwner, no-variables, too-many, variableCount}
 use Rattle.validation.proofs.good.variables.are_good.Statement.{statement}
 use Rattle.validation.proofs.good.variables.are_good.Tie as tie
+use Rattle.variable.specs.Limits.{countAt}
+use Rattle.variable.specs.Bytes.{variableIn}
 
 -- the states: the start, the count found small enough, the sizes good, the owners in their column
 abbrev start : tie.Else1 → tie.Start
 start c = c .before .before .before
 
-abbrev few : tie.Else2 → tie.Else1
-few c = c .before .before
+abbrev few : tie.Else3 → tie.Else1
+few c = c .before .before .before
 
 abbrev filled : tie.After-are-owned → tie.After-fill-words
 filled c = c .before .before
 
-abbrev sizes : tie.After-fill-words → tie.Else2
+abbrev sizes : tie.After-fill-words → tie.Else3
 sizes c = c .before .before
 
-good-sizes : (c : tie.Else2) → let a = start (few c) .args .area .now in all sized (tab (variableIn a) (variableCount a)) ≡ true
-good-sizes c = sym (c .before .are-sized .ensures) ∙ not-false _ (c .if2 .left)
+good-sizes : (c : tie.Else3) → let a = start (few c) .args .area .now in all sized (tab (variableIn a) (variableCount a)) ≡ true
+good-sizes c = sym (c .before .are-sized .ensures) ∙ not-false _ (c .if3 .left)
 
 returns : tie.Need-returns
 returns c =
@@ -36,10 +36,13 @@ returns c =
     sym (too-many (keep isId (a .ids .now)) (a .area .now) (c .if1 .taken))
 
 returns-2 : tie.Need-returns-2
-returns-2 c =
-    let f = c .before .before in
+returns-2 c = let a = start (c .before) .args in sym (no-variables (keep isId (a .ids .now)) (a .area .now) (c .if2 .taken))
+
+returns-3 : tie.Need-returns-3
+returns-3 c =
+    let f = c .before .before .before in
     let a = start f .args in
-    rw (in-parts (keep isId (a .ids .now)) (a .area .now) (f .if1 .left), sym (c .before .are-sized .ensures) ∙ not-true _ (c .if2 .taken))
+    rw (in-parts (keep isId (a .ids .now)) (a .area .now) (f .if1 .left), sym (c .before .are-sized .ensures) ∙ not-true _ (c .if3 .taken))
 
 -- what the column says of the owners
 owned : (c : tie.After-are-owned) → let a = start (few (sizes (filled c))) .args in let n = variableCount (a .area .now) in
@@ -57,19 +60,19 @@ are-owned-requires c κs =
     let m = few (sizes f) .if1 .left in
     (rw (f .fill-words .ensures) (owner-column-length (s .args .area .now) (variableCount (s .args .area .now)) m), s .pre .1, omega arith)
 
-returns-3 : tie.Need-returns-3
-returns-3 c =
+returns-4 : tie.Need-returns-4
+returns-4 c =
     let s = sizes (filled (c .before)) in
     let a = start (few s) .args in
     rw (
       in-parts (keep isId (a .ids .now)) (a .area .now) (few s .if1 .left),
       good-sizes s,
       sym (owned (c .before))
-          ∙ not-true _ (c .if3 .taken),
+          ∙ not-true _ (c .if4 .taken),
     )
 
-returns-4 : tie.Need-returns-4
-returns-4 c =
+returns-5 : tie.Need-returns-5
+returns-5 c =
     let o = c .before .before in
     let s = sizes (filled (o .before)) in
     let a = start (few s) .args in
@@ -77,7 +80,7 @@ returns-4 c =
       in-parts (keep isId (a .ids .now)) (a .area .now) (few s .if1 .left),
       good-sizes s,
       sym (owned (o .before))
-          ∙ not-false _ (o .if3 .left),
+          ∙ not-false _ (o .if4 .left),
     )
     (c .are-beside .ensures)
 
@@ -88,10 +91,11 @@ are-good-spec =
     (λ c. search needs)
     (λ c. omega (arith, c .before .shared-slice-known .given countAt))
     returns
-    (λ c κs. search needs)
     returns-2
     (λ c κs. search needs)
-    are-owned-requires
     returns-3
     (λ c κs. search needs)
-    returns-4)
+    are-owned-requires
+    returns-4
+    (λ c κs. search needs)
+    returns-5)

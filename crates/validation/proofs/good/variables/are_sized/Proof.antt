@@ -7,11 +7,11 @@ use borrow.Author.Needs.{needs}
 use Rattle.buffer.specs.Lists.{all, tab}
 use Rattle.buffer.proofs.Equivalence.{all-tab-more}
 use Rattle.buffer.proofs.Parts.{part-byte}
-use Rattle.machine.specs.Limits.{entriesAt, entrySize}
-use Rattle.area.specs.Parts.{variableIn}
 use Rattle.validation.specs.Columns.{sized}
 use Rattle.validation.proofs.good.variables.are_sized.Statement.{statement}
 use Rattle.validation.proofs.good.variables.are_sized.Tie as tie
+use Rattle.variable.specs.Limits.{entriesAt, entrySize}
+use Rattle.variable.specs.Bytes.{variableIn}
 
 abbrev Inv-loop : tie.InvT-loop
 Inv-loop area count good₀ i₀ good i = (i ≤ count) × (good ≡ all sized (tab (variableIn area) i))

@@ -5,7 +5,7 @@ use mathlib.Core.Bool.{Bool}
 use mathlib.Core.List.{List}
 use native.Mathlib.Omega.{arith}
 use Rattle.buffer.proofs.Equivalence.{Asked, asked-all, asked-next, asked-none}
-use Rattle.validation.specs.Columns.{clash, firsts}
+use Rattle.validation.specs.Columns.{clash}
 use Rattle.validation.proofs.good.variables.is_clash.Statement.{statement}
 use Rattle.validation.proofs.good.variables.is_clash.Tie as tie
 
@@ -13,10 +13,10 @@ abbrev test : List ℕ → List ℕ → List ℕ → List ℕ → ℕ → ℕ �
 test starts ends names owners d i = clash starts ends names owners i (i + d)
 
 abbrev Inv-loop : tie.InvT-loop
-Inv-loop starts ends names owners d hit₀ i₀ hit i = Asked (test starts ends names owners d) (λ i. i) firsts hit i
+Inv-loop starts ends names owners d n hit₀ i₀ hit i = Asked (test starts ends names owners d) (λ i. i) n hit i
 
 abbrev μ-loop : tie.MeasureT-loop
-μ-loop starts ends names owners d hit₀ i₀ hit i = firsts - i
+μ-loop starts ends names owners d n hit₀ i₀ hit i = n - i
 
 -- the states in a turn: its head, the first two places read, the names reached
 abbrev turn : tie.After-hit2 Inv-loop μ-loop → tie.At-loop Inv-loop μ-loop
@@ -44,8 +44,6 @@ is-clash-spec =
     Inv-loop
     μ-loop
     (λ c. asked-none _ _ _)
-    (λ c. omega arith)
-    (λ c. omega arith)
     (λ c. omega arith)
     (λ c. omega arith)
     (λ c. omega arith)
