@@ -1,4 +1,4 @@
--- Tables of records that take the same number of bytes each, read one record at a time.
+-- A list filled from the front, one place after another.
 use Prim.Native.Nat.{ℕ, _+_, _≤_, _<_}
 use mathlib.Core.Path.{_≡_, sym, _∙_}
 use mathlib.Core.List.{List}

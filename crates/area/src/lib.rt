@@ -1,4 +1,4 @@
-// The work area in code: the state out of its bytes and back, and the searches among its records.
+// The work area in code: its parts read and written where they lie, and the searches among its records.
 pub mod ending;
 pub mod processes;
 pub mod records;

@@ -21,7 +21,7 @@ ghost use Rattle.machine.specs.Limits.{areaLength, recordSize};
 ghost use Rattle.machine.specs.Operations.{inUse, uses};
 ghost use Rattle.machine.specs.State.{endedSlot, hasId, isLive, slotOf};
 
-// Zeros, for an array to begin with.
+// Zeros, for an array to begin with: ten of them are cleared at once, ten of a record are copied one by one.
 fn no_process() -> Process {
     Process {
         name: [0u8; NAME_SIZE],

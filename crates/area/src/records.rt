@@ -63,7 +63,7 @@ pub fn record_at(area: &[u8], slot: usize) -> &[u8]
     &area[at..end]
 }
 
-// The name's bytes one by one, which a machine of words reads four at once: a copy of so few costs more.
+// The name byte by byte and not by a loop: compiled, it is three words, and a copy of so few bytes costs more.
 fn name_of(bytes: &[u8]) -> [u8; NAME_SIZE]
     requires { ⌜ length (now bytes) ≡ recordSize ⌝ }
     ensures { λ r. ⌜ r ≡ take nameSize (now (bytes .entry)) ⌝ }

@@ -42,7 +42,7 @@ pub struct Process {
     pub stack: [u8; STACK_SIZE],
 }
 
-// The work area as a value: every byte of it has its place here.
+// The work area as a value: every byte of it has its place here. Only the definitions have it.
 pub struct Kernel {
     pub variables: Variables,
     pub next: u16,

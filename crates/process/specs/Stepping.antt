@@ -49,7 +49,7 @@ registersFrom pc loopstart file sp =
 abbrev pub ownAt : List ℕ → ℕ → Process
 ownAt area slot = processAt (kernelOf area) slot
 
--- the process of that slot of the area, and a step that it can take
+-- the process of that slot of the area, which runs, and a step that it can take
 pub record Stepping (area : List ℕ) (slot : ℕ) (p : Process) (d : Step) : Type 0 where
   pub size : length area ≡ areaLength
   pub low : slot < slotCount

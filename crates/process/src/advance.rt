@@ -17,7 +17,7 @@ ghost use Rattle.machine.specs.Limits.{areaLength, slotCount, stackSize};
 ghost use Rattle.machine.specs.State.{processAt, withProcess};
 ghost use Rattle.process.specs.Stepping.{Room, pcAt, registersFrom, wentOn};
 
-// Its record's 64 bytes and no other.
+// A process's whole record, 64 bytes and no other: at its start, its end and a command.
 pub fn put_back(area: &mut [u8], slot: usize, p: Process)
     requires { ⌜ (length (now area) ≡ areaLength) × (slot < slotCount) ⌝ }
     ensures { λ _. ⌜ now (area .exit) ≡ kernelBytes (withProcess (kernelOf (now (area .entry))) slot p) ⌝ }

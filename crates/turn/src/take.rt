@@ -1,4 +1,4 @@
-// One turn: the process is copied out, takes its step, and its record alone is put back.
+// One turn: the process is copied out and takes its step; of its record only what the step changed is written.
 use area::processes::processes_of;
 use machine::Process;
 use process::advance::go_on;

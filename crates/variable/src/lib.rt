@@ -39,7 +39,7 @@ pub struct Variables {
     pub count: u8,
 }
 
-// A typed value: its first size bytes, as they lie on the stack without length and type.
+// A typed value, for the definitions: its first size bytes, as they lie on the stack without length and type.
 pub struct Value {
     pub kind: u8,
     pub size: u8,
@@ -53,7 +53,7 @@ pub enum Placing {
     NoRun,
 }
 
-// What a SET leaves.
+// What a SET leaves, for the definitions.
 pub struct Assigned {
     pub placing: Placing,
     pub variables: Variables,
