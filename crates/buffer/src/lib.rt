@@ -2,7 +2,7 @@
 pub mod bytes;
 
 // What a search finds: its place, or nothing.
-#[derive(Drop)]
+#[derive(Clone, Copy)]
 pub enum Found {
     At(usize),
     Nowhere,

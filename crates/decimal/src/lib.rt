@@ -8,7 +8,7 @@ pub const MAX_DIGITS: usize = 10;
 const LAST_DIGIT: usize = MAX_DIGITS - 1;
 
 // The digits stand at the end of bytes, from start on.
-#[derive(Drop)]
+#[derive(Clone, Copy)]
 pub struct Digits {
     pub bytes: [u8; MAX_DIGITS],
     pub start: usize,

@@ -7,7 +7,7 @@ pub mod name;
 use layout::NAME_SIZE;
 
 // Document 01: "Ten directory entries of 16 bytes from 0: name 12, start 2, length 2."
-#[derive(Drop)]
+#[derive(Clone, Copy)]
 pub struct Entry {
     pub name: [u8; NAME_SIZE],
     pub start: u16,

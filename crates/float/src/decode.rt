@@ -10,7 +10,7 @@ pub const LARGE: u64 = 158;
 
 // A finite value is significand * 2^exponent times 2^-149, the smallest value; the first field says whether it has the
 // minus sign.
-#[derive(Drop)]
+#[derive(Clone, Copy)]
 pub enum Decoded {
     NotANumber,
     Infinite(bool),

@@ -6,7 +6,7 @@ use crate::decode::{Decoded, LARGE, decode};
 use crate::whole::{Rounding, whole_size};
 
 // The first field says whether '-' stands in front.
-#[derive(Drop)]
+#[derive(Clone, Copy)]
 pub enum Printed {
     NotANumber,
     Infinite(bool),

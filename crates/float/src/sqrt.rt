@@ -8,7 +8,7 @@ use crate::decode::{Decoded, UNIT, decode};
 
 // significand * 2^exponent as radicand * 4^shift, the radicand even, from 2^48 up and below 2^50: its root has 25
 // digits, one more than a FLOAT.
-#[derive(Drop)]
+#[derive(Clone, Copy)]
 pub struct Scaled {
     pub radicand: u64,
     pub shift: u64,

@@ -6,7 +6,7 @@ use crate::decode::{Decoded, LARGE, UNIT, decode};
 use crate::quotient::{divide, nearest};
 
 // Document 01: "TOINT and TOCHAR of a FLOAT cut toward zero; ROUND goes half away from zero." FLOOR goes down, CEIL up.
-#[derive(Drop)]
+#[derive(Clone, Copy)]
 pub enum Rounding {
     TowardZero,
     HalfAway,
@@ -14,7 +14,7 @@ pub enum Rounding {
     Up,
 }
 
-#[derive(Drop)]
+#[derive(Clone, Copy)]
 pub enum Whole {
     Is(i32),
     OutOfRange,
@@ -76,7 +76,7 @@ pub fn to_whole(x: f32, rounding: Rounding, max: u16) -> Whole
     }
 }
 
-#[derive(Drop)]
+#[derive(Clone, Copy)]
 pub enum Size {
     Is(u16),
     Refused,

@@ -1,7 +1,7 @@
 // A program that is put together row by row, as the guide prints it.
 const LONGEST: usize = 64;
 
-#[derive(Drop)]
+#[derive(Clone, Copy)]
 pub struct Code {
     pub bytes: [u8; LONGEST],
     pub len: usize,

@@ -2,7 +2,7 @@
 use operator::operators::Operator;
 
 // Those that reach beyond the process: files and other processes.
-#[derive(Drop)]
+#[derive(Clone, Copy)]
 pub enum Reach {
     OpenFile,
     CloseFile,
@@ -14,7 +14,7 @@ pub enum Reach {
     WaitUntilDone,
 }
 
-#[derive(Drop)]
+#[derive(Clone, Copy)]
 pub enum Instruction {
     // CHAR, INT, FLOAT: push as many argument bytes as the type says
     Literal(u8),

@@ -20,7 +20,7 @@ use place::Run;
 use variable::Variables;
 
 // The file that a process has open, and how far it has read or written. Length 0: none.
-#[derive(Drop)]
+#[derive(Clone, Copy)]
 pub struct OpenFile {
     pub start: u16,
     pub len: u16,
@@ -28,7 +28,7 @@ pub struct OpenFile {
 }
 
 // Document 01: "each process record carries its own 32-byte stack."
-#[derive(Drop)]
+#[derive(Clone, Copy)]
 pub struct Process {
     pub name: [u8; NAME_SIZE],
     pub id: u16,
@@ -44,7 +44,7 @@ pub struct Process {
 }
 
 // The work area as a value: every byte of it has its place here. Only the definitions have it.
-#[derive(Drop)]
+#[derive(Clone, Copy)]
 pub struct Kernel {
     pub variables: Variables,
     pub next: u16,

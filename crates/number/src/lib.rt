@@ -6,7 +6,7 @@ pub mod promotion;
 pub mod text;
 pub mod value;
 
-#[derive(Drop)]
+#[derive(Clone, Copy)]
 pub enum Number {
     Char(i8),
     Int(i16),

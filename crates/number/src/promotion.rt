@@ -5,7 +5,7 @@ ghost use Rattle.number.specs.Promotion.{promoted, first, second};
 
 use crate::Number;
 
-#[derive(Drop)]
+#[derive(Clone, Copy)]
 pub enum Pair {
     Chars(i8, i8),
     Ints(i16, i16),

@@ -9,7 +9,7 @@ use buffer::bytes::overwrite_at;
 use float::print::{Printed, to_printed};
 
 // The first `len` bytes are the text, the others 0.
-#[derive(Drop)]
+#[derive(Clone, Copy)]
 pub struct Text {
     pub bytes: [u8; 16],
     pub len: usize,

@@ -5,7 +5,7 @@ ghost use Rattle.number.specs.Value.{encoded, number_of, isZero};
 use crate::Number;
 
 // The first `kind` bytes are the value's, the others 0: the type byte is also the number of bytes.
-#[derive(Drop)]
+#[derive(Clone, Copy)]
 pub struct Encoded {
     pub bytes: [u8; 4],
     pub kind: u8,

@@ -6,7 +6,7 @@ use crate::tally::{Tally, checksum, count, empty, write_field, write_tally};
 const CASES: u32 = 4096;
 
 // The types of the five operands.
-#[derive(Drop)]
+#[derive(Clone, Copy)]
 struct Kinds {
     a: u8,
     b: u8,

@@ -7,7 +7,7 @@ use operator::Outcome;
 const MODULUS: u64 = 4294967291;
 
 // How many outcomes are faults 7 and 8, beside the checksum of all.
-#[derive(Drop)]
+#[derive(Clone, Copy)]
 pub struct Tally {
     pub sum: u32,
     pub sevens: u32,

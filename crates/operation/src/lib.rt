@@ -8,7 +8,7 @@ pub mod numbers;
 pub mod turns;
 
 // The refusals of the operations on both buffers, document 01's and then document 02's.
-#[derive(Drop)]
+#[derive(Clone, Copy)]
 pub enum Refusal {
     WrongLength,
     BadDisc,
@@ -25,14 +25,14 @@ pub enum Refusal {
 }
 
 // What an operation returns: a number, or why it was refused.
-#[derive(Drop)]
+#[derive(Clone, Copy)]
 pub enum Answer {
     Done(u16),
     Refused(Refusal),
 }
 
 // Whether an operation may use the buffers, or why not.
-#[derive(Drop)]
+#[derive(Clone, Copy)]
 pub enum Checked {
     Usable,
     Unusable(Refusal),

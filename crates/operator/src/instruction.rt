@@ -9,7 +9,7 @@ use crate::operators::{
 };
 
 // The sets of types that a pop may take.
-#[derive(Drop)]
+#[derive(Clone, Copy)]
 pub enum Types {
     AnyNumber,
     CharOrInt,

@@ -7,7 +7,7 @@ pub mod unary;
 use number::Number;
 
 // What an operator answers. `faultOf` of specs/Outcome.antt gives document 01's fault numbers.
-#[derive(Drop)]
+#[derive(Clone, Copy)]
 pub enum Outcome {
     Value(Number),
     DivisionByZero,

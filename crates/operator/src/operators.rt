@@ -1,5 +1,5 @@
 // The operators of document 01, and document 02's for scaling, grouped by what they do with their operands.
-#[derive(Drop)]
+#[derive(Clone, Copy)]
 pub enum Arithmetic {
     Plus,
     Minus,
@@ -8,7 +8,7 @@ pub enum Arithmetic {
     Modulus,
 }
 
-#[derive(Drop)]
+#[derive(Clone, Copy)]
 pub enum Comparison {
     Equals,
     NotEquals,
@@ -18,20 +18,20 @@ pub enum Comparison {
     GreaterOrEqual,
 }
 
-#[derive(Drop)]
+#[derive(Clone, Copy)]
 pub enum Connective {
     And,
     Or,
     Xor,
 }
 
-#[derive(Drop)]
+#[derive(Clone, Copy)]
 pub enum Extremum {
     Min,
     Max,
 }
 
-#[derive(Drop)]
+#[derive(Clone, Copy)]
 pub enum Binary {
     Arithmetic(Arithmetic),
     Comparison(Comparison),
@@ -40,7 +40,7 @@ pub enum Binary {
     Extremum(Extremum),
 }
 
-#[derive(Drop)]
+#[derive(Clone, Copy)]
 pub enum Conversion {
     ToChar,
     ToInt,
@@ -50,7 +50,7 @@ pub enum Conversion {
     Ceil,
 }
 
-#[derive(Drop)]
+#[derive(Clone, Copy)]
 pub enum Unary {
     Increment,
     Decrement,
@@ -64,14 +64,14 @@ pub enum Unary {
 }
 
 // Document 02, Q-3: CONSTRAIN of three operands, MAP of five, POW of two. Crate scaling has what they answer.
-#[derive(Drop)]
+#[derive(Clone, Copy)]
 pub enum Scaling {
     Constrain,
     Map,
     Power,
 }
 
-#[derive(Drop)]
+#[derive(Clone, Copy)]
 pub enum Operator {
     OfOne(Unary),
     OfTwo(Binary),

@@ -6,7 +6,7 @@ pub mod start;
 pub mod wait;
 
 // Whether so many bytes can be written or read at the offset of an open file.
-#[derive(Drop)]
+#[derive(Clone, Copy)]
 pub enum Access {
     Inside,
     NoFile,
@@ -14,7 +14,7 @@ pub enum Access {
 }
 
 // Where a program is started, slot and place in the directory; or why it is not.
-#[derive(Drop)]
+#[derive(Clone, Copy)]
 pub enum Starting {
     Starts(usize, usize),
     NoSlot,

@@ -10,7 +10,7 @@ use number::Number;
 use operator::Outcome;
 
 // The types by how wide they are.
-#[derive(Drop)]
+#[derive(Clone, Copy)]
 pub enum Kind {
     Chars,
     Ints,

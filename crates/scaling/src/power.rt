@@ -9,7 +9,7 @@ use number::Number;
 use number::promotion::{Pair, promote};
 use operator::Outcome;
 
-#[derive(Drop)]
+#[derive(Clone, Copy)]
 pub enum Exponent {
     Is(u8),
     Refused,

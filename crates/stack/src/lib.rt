@@ -9,14 +9,14 @@ use number::Number;
 pub const STRING_KIND: u8 = 3;
 
 // The value on top: its type, its first byte and its length; or the fault that popping it meets.
-#[derive(Drop)]
+#[derive(Clone, Copy)]
 pub enum TopValue {
     Lies(u8, usize, usize),
     NoValue(u8),
 }
 
 // The number on top and how many bytes lie below it; or the fault that popping it meets.
-#[derive(Drop)]
+#[derive(Clone, Copy)]
 pub enum TopNumber {
     Is(Number, usize),
     NoNumber(u8),
@@ -24,7 +24,7 @@ pub enum TopNumber {
 
 // What an instruction does with its bytes: pushes or prints them, assigns them to the variable of that name and type,
 // writes them, or takes them for a name.
-#[derive(Drop)]
+#[derive(Clone, Copy)]
 pub enum Action {
     Push,
     Print,
@@ -43,7 +43,7 @@ pub enum Action {
 // One step of a process: it keeps the first `kept` bytes of its stack, the first `len` bytes are for the action, and it
 // goes on at pc. An enum holds no array, so the bytes stand beside the action; they come first, so that a machine of
 // words copies them by words.
-#[derive(Drop)]
+#[derive(Clone, Copy)]
 pub struct Step {
     pub bytes: [u8; STACK_SIZE],
     pub action: Action,

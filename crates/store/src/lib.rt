@@ -2,7 +2,7 @@
 pub mod file;
 
 // Document 01's refusals that concern the disc alone.
-#[derive(Drop)]
+#[derive(Clone, Copy)]
 pub enum Refusal {
     WrongLength,
     BadDisc,
@@ -16,21 +16,21 @@ pub enum Refusal {
 }
 
 // What an operation returns: a number, or why it was refused.
-#[derive(Drop)]
+#[derive(Clone, Copy)]
 pub enum Answer {
     Done(u16),
     Refused(Refusal),
 }
 
 // Whether an operation may use the disc, or why not.
-#[derive(Drop)]
+#[derive(Clone, Copy)]
 pub enum Checked {
     Usable,
     Unusable(Refusal),
 }
 
 // Whether a new file is admitted: its start, or why not.
-#[derive(Drop)]
+#[derive(Clone, Copy)]
 pub enum Admission {
     Start(usize),
     Denied(Refusal),

@@ -7,7 +7,7 @@ ghost use Rattle.validation.specs.Tests.{tested};
 use machine::limits::AREA_LENGTH;
 
 // Document 01: "1: a buffer has the wrong length. 2: disc not good. 3: work area not good."
-#[derive(Drop)]
+#[derive(Clone, Copy)]
 pub enum Tested {
     Pass,
     WrongLength,

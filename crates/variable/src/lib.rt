@@ -22,7 +22,7 @@ pub const MAX_STRING: u16 = 30;
 pub const VALUE_SIZE: usize = 32;
 
 // Document 01: "25 variable entries of name 1, type 1, address 1, size 1, process ID 2."
-#[derive(Drop)]
+#[derive(Clone, Copy)]
 pub struct Variable {
     pub name: u8,
     pub kind: u8,
@@ -33,7 +33,7 @@ pub struct Variable {
 
 // The first count entries are variables; the others are not read and keep their bytes. Only the definitions have it
 // whole: the functions read and write its bytes.
-#[derive(Drop)]
+#[derive(Clone, Copy)]
 pub struct Variables {
     pub memory: [u8; MEMORY_SIZE],
     pub entries: [Variable; MAX_VARIABLES],
@@ -41,7 +41,7 @@ pub struct Variables {
 }
 
 // A typed value, for the definitions: its first size bytes, as they lie on the stack without length and type.
-#[derive(Drop)]
+#[derive(Clone, Copy)]
 pub struct Value {
     pub kind: u8,
     pub size: u8,
@@ -49,7 +49,7 @@ pub struct Value {
 }
 
 // Where a new variable goes, or why it does not: both refusals are document 01's fault 10.
-#[derive(Drop)]
+#[derive(Clone, Copy)]
 pub enum Placing {
     Address(usize),
     NoEntry,
@@ -57,14 +57,14 @@ pub enum Placing {
 }
 
 // What a SET leaves, for the definitions.
-#[derive(Drop)]
+#[derive(Clone, Copy)]
 pub struct Assigned {
     pub placing: Placing,
     pub variables: Variables,
 }
 
 // The runs that some variables take: the first count.
-#[derive(Drop)]
+#[derive(Clone, Copy)]
 pub struct Taken {
     pub runs: [Run; MAX_RUNS],
     pub count: usize,

@@ -5,7 +5,7 @@ use variable::{MAX_VARIABLES, Placing, VALUE_SIZE, VARIABLES_SIZE};
 const STRING: u8 = 3;
 
 // Where a value went, and the bytes then.
-#[derive(Drop)]
+#[derive(Clone, Copy)]
 pub struct Tried {
     pub placing: Placing,
     pub variables: [u8; VARIABLES_SIZE],

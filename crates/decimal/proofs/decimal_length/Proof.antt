@@ -14,5 +14,5 @@ returns c =
     let few = digits-few maxDigits found.before.args.n in
     omega (arith, ap (λ (d : Digits). d.start) found.digits_of.ensures.0)
 
-pub decimal-length-spec : {M : Type 1} → statement M
-decimal-length-spec = tie.close (tie.spec (λ c κs. search rules) (λ c. search rules) returns)
+pub decimal_length_spec : {M : Type 1} → statement M
+decimal_length_spec = tie.close (tie.spec (λ c κs. search rules) (λ c. search rules) returns)

@@ -51,8 +51,8 @@ returns c =
     rw (l.invariant.4, lt-leb _ _ c.loop-test.false) in
     (sym (as-digits _ l.bytes l.start l.invariant.1 (omega arith) l.invariant.3 digits), omega arith)
 
-pub digits-of-spec : {M : Type 1} → statement M
-digits-of-spec =
+pub digits_of_spec : {M : Type 1} → statement M
+digits_of_spec =
     tie.close
     (tie.spec
     invariant-loop

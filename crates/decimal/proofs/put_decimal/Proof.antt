@@ -34,8 +34,8 @@ returns c =
     let put = c.before.before in
     rw (shown (found put.before.before)) at put.put-bytes.ensures
 
-pub put-decimal-spec : {M : Type 1} → statement M
-put-decimal-spec =
+pub put_decimal_spec : {M : Type 1} → statement M
+put_decimal_spec =
     tie.close
     (tie.spec
     (λ c κs. search rules)

@@ -11,8 +11,8 @@ returns c disc out =
     let done = c.before.before.before in
     numbered _ _ _ (to_z-of_z (search rules) ∙ c.number.ensures) (done.boot.ensures disc out)
 
-pub arduinos-boot-spec : {M : Type 1} → statement M
-arduinos-boot-spec =
+pub arduinos_boot_spec : {M : Type 1} → statement M
+arduinos_boot_spec =
     tie.close
     (tie.spec
     (λ c κs. search rules)

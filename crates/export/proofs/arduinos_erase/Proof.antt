@@ -11,8 +11,8 @@ returns c out =
     let done = c.before.before.before in
     numbered _ _ _ (to_z-of_z (search rules) ∙ c.number.ensures) (done.erase.ensures out)
 
-pub arduinos-erase-spec : {M : Type 1} → statement M
-arduinos-erase-spec =
+pub arduinos_erase_spec : {M : Type 1} → statement M
+arduinos_erase_spec =
     tie.close
     (tie.spec
     (λ c κs. search rules)

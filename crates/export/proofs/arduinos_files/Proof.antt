@@ -18,8 +18,8 @@ returns c area =
     numbered _ _ _ (to_z-of_z (search rules) ∙ c.number.ensures)
     (ap (λ (r : Reported). onOutput r (lent a.disc.now area a.out.now)) done.files.ensures)
 
-pub arduinos-files-spec : {M : Type 1} → statement M
-arduinos-files-spec =
+pub arduinos_files_spec : {M : Type 1} → statement M
+arduinos_files_spec =
     tie.close
     (tie.spec
     (λ c κs. search rules)

@@ -12,8 +12,8 @@ returns c out =
     let done = back.before.before in
     numbered _ _ _ (to_z-of_z (search rules) ∙ c.number.ensures) (done.format.ensures out)
 
-pub arduinos-format-spec : {M : Type 1} → statement M
-arduinos-format-spec =
+pub arduinos_format_spec : {M : Type 1} → statement M
+arduinos_format_spec =
     tie.close
     (tie.spec
     (λ c κs. search rules)

@@ -17,8 +17,8 @@ returns c area out =
     numbered _ _ _ (to_z-of_z (search rules) ∙ c.number.ensures)
     (ap (λ (n : ℤ). returned n a.disc.now area out) done.free-space.ensures)
 
-pub arduinos-free-space-spec : {M : Type 1} → statement M
-arduinos-free-space-spec =
+pub arduinos_free_space_spec : {M : Type 1} → statement M
+arduinos_free_space_spec =
     tie.close
     (tie.spec
     (λ c κs. search rules)

@@ -11,8 +11,8 @@ returns c out =
     let done = c.before.before.before in
     numbered _ _ _ (to_z-of_z (search rules) ∙ c.number.ensures) (done.kill.ensures out)
 
-pub arduinos-kill-spec : {M : Type 1} → statement M
-arduinos-kill-spec =
+pub arduinos_kill_spec : {M : Type 1} → statement M
+arduinos_kill_spec =
     tie.close
     (tie.spec
     (λ c κs. search rules)

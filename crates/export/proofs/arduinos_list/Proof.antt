@@ -11,8 +11,8 @@ returns c =
     let done = c.before.before.before in
     numbered _ _ _ (to_z-of_z (search rules) ∙ c.number.ensures) done.list.ensures
 
-pub arduinos-list-spec : {M : Type 1} → statement M
-arduinos-list-spec =
+pub arduinos_list_spec : {M : Type 1} → statement M
+arduinos_list_spec =
     tie.close
     (tie.spec
     (λ c κs. search rules)

@@ -11,8 +11,8 @@ returns c out =
     let done = c.before.before.before in
     numbered _ _ _ (to_z-of_z (search rules) ∙ c.number.ensures) (done.resume.ensures out)
 
-pub arduinos-resume-spec : {M : Type 1} → statement M
-arduinos-resume-spec =
+pub arduinos_resume_spec : {M : Type 1} → statement M
+arduinos_resume_spec =
     tie.close
     (tie.spec
     (λ c κs. search rules)

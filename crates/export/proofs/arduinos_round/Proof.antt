@@ -13,8 +13,8 @@ returns c =
     let done = lent.before in
     numbered _ _ _ (to_z-of_z (search rules) ∙ c.number.ensures) done.round.ensures
 
-pub arduinos-round-spec : {M : Type 1} → statement M
-arduinos-round-spec =
+pub arduinos_round_spec : {M : Type 1} → statement M
+arduinos_round_spec =
     tie.close
     (tie.spec
     (λ c κs. search rules)

@@ -11,8 +11,8 @@ returns c out =
     let done = c.before.before.before in
     numbered _ _ _ (to_z-of_z (search rules) ∙ c.number.ensures) (done.run.ensures out)
 
-pub arduinos-run-spec : {M : Type 1} → statement M
-arduinos-run-spec =
+pub arduinos_run_spec : {M : Type 1} → statement M
+arduinos_run_spec =
     tie.close
     (tie.spec
     (λ c κs. search rules)

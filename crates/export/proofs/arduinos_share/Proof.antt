@@ -11,8 +11,8 @@ returns c out =
     let done = c.before.before.before in
     numbered _ _ _ (to_z-of_z (search rules) ∙ c.number.ensures) (done.share.ensures out)
 
-pub arduinos-share-spec : {M : Type 1} → statement M
-arduinos-share-spec =
+pub arduinos_share_spec : {M : Type 1} → statement M
+arduinos_share_spec =
     tie.close
     (tie.spec
     (λ c κs. search rules)

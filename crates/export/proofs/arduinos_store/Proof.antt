@@ -18,8 +18,8 @@ returns c area out =
     numbered _ _ _ (to_z-of_z (search rules) ∙ c.number.ensures)
     (ap (λ (u : Updated). onDisc u (lent a.disc.now area out)) done.store.ensures)
 
-pub arduinos-store-spec : {M : Type 1} → statement M
-arduinos-store-spec =
+pub arduinos_store_spec : {M : Type 1} → statement M
+arduinos_store_spec =
     tie.close
     (tie.spec
     (λ c κs. search rules)

@@ -11,8 +11,8 @@ returns c out =
     let done = c.before.before.before in
     numbered _ _ _ (to_z-of_z (search rules) ∙ c.number.ensures) (done.suspend.ensures out)
 
-pub arduinos-suspend-spec : {M : Type 1} → statement M
-arduinos-suspend-spec =
+pub arduinos_suspend_spec : {M : Type 1} → statement M
+arduinos_suspend_spec =
     tie.close
     (tie.spec
     (λ c κs. search rules)

@@ -13,8 +13,8 @@ returns c =
     let done = lent.before in
     numbered _ _ _ (to_z-of_z (search rules) ∙ c.number.ensures) done.turn.ensures
 
-pub arduinos-turn-spec : {M : Type 1} → statement M
-arduinos-turn-spec =
+pub arduinos_turn_spec : {M : Type 1} → statement M
+arduinos_turn_spec =
     tie.close
     (tie.spec
     (λ c κs. search rules)

@@ -11,8 +11,8 @@ invariant-loop x bits₀ i₀ bits i = i ≤ 8
 abbrev decreases-loop : tie.decreases-loop
 decreases-loop x bits₀ i₀ bits i = i
 
-pub mask-spec : {M : Type 1} → statement M
-mask-spec =
+pub mask_spec : {M : Type 1} → statement M
+mask_spec =
     tie.close
     (tie.spec
     invariant-loop

@@ -16,8 +16,8 @@ cast-result-2 c = cast-flip c.before.before.w.given.0.0 (search rules) c.if1.fal
 sub-result-2 : tie.Need-overflow-sub-result-2
 sub-result-2 c = flip-below c.before.before.w.given.0.0 (search rules) c.if1.false
 
-pub whole-code-spec : {M : Type 1} → statement M
-whole-code-spec =
+pub whole_code_spec : {M : Type 1} → statement M
+whole_code_spec =
     tie.close
     (tie.spec
     (λ c. search rules)

@@ -4,8 +4,8 @@ use Rattle.integer.proofs.Modular.{add_wraps}
 use Rattle.integer.proofs.add16.Statement.{statement}
 use Rattle.integer.proofs.add16.Tie as tie
 
-pub add16-spec : {M : Type 1} → statement M
-add16-spec =
+pub add16_spec : {M : Type 1} → statement M
+add16_spec =
     tie.close
     (tie.spec
     (λ c κs. search rules)

@@ -4,8 +4,8 @@ use Rattle.integer.proofs.Modular.{add_wraps}
 use Rattle.integer.proofs.add8.Statement.{statement}
 use Rattle.integer.proofs.add8.Tie as tie
 
-pub add8-spec : {M : Type 1} → statement M
-add8-spec =
+pub add8_spec : {M : Type 1} → statement M
+add8_spec =
     tie.close
     (tie.spec
     (λ c κs. search rules)

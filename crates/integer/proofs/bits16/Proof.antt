@@ -4,8 +4,8 @@ use Rattle.integer.proofs.Representation.{lift-bits, lift-casts, lift-fits, wide
 use Rattle.integer.proofs.bits16.Statement.{statement}
 use Rattle.integer.proofs.bits16.Tie as tie
 
-pub bits16-spec : {M : Type 1} → statement M
-bits16-spec =
+pub bits16_spec : {M : Type 1} → statement M
+bits16_spec =
     tie.close
     (tie.spec
     (λ c. widens w16 w32 tt c.args.x c.ranges.x)

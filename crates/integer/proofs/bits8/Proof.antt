@@ -4,8 +4,8 @@ use Rattle.integer.proofs.Representation.{lift-bits, lift-casts, lift-fits, wide
 use Rattle.integer.proofs.bits8.Statement.{statement}
 use Rattle.integer.proofs.bits8.Tie as tie
 
-pub bits8-spec : {M : Type 1} → statement M
-bits8-spec =
+pub bits8_spec : {M : Type 1} → statement M
+bits8_spec =
     tie.close
     (tie.spec
     (λ c. widens w8 w16 tt c.args.x c.ranges.x)

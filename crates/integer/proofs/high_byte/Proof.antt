@@ -3,8 +3,8 @@ use Rattle.std.proofs.Common.{ℕ, ◌/◌, ap, ◌∙◌, to_z-of_z, w16, of_z,
 use Rattle.integer.proofs.high_byte.Statement.{statement}
 use Rattle.integer.proofs.high_byte.Tie as tie
 
-pub high-byte-spec : {M : Type 1} → statement M
-high-byte-spec =
+pub high_byte_spec : {M : Type 1} → statement M
+high_byte_spec =
     tie.close
     (tie.spec
     (λ c κs. search rules)

@@ -4,8 +4,8 @@ use Rattle.integer.proofs.Modular.{multiply-wraps}
 use Rattle.integer.proofs.multiply16.Statement.{statement}
 use Rattle.integer.proofs.multiply16.Tie as tie
 
-pub multiply16-spec : {M : Type 1} → statement M
-multiply16-spec =
+pub multiply16_spec : {M : Type 1} → statement M
+multiply16_spec =
     tie.close
     (tie.spec
     (λ c κs. search rules)

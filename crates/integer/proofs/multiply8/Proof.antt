@@ -4,8 +4,8 @@ use Rattle.integer.proofs.Modular.{multiply-wraps}
 use Rattle.integer.proofs.multiply8.Statement.{statement}
 use Rattle.integer.proofs.multiply8.Tie as tie
 
-pub multiply8-spec : {M : Type 1} → statement M
-multiply8-spec =
+pub multiply8_spec : {M : Type 1} → statement M
+multiply8_spec =
     tie.close
     (tie.spec
     (λ c κs. search rules)

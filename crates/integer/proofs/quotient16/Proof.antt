@@ -4,8 +4,8 @@ use Rattle.integer.proofs.Division.{divides, quotient-reads, quotient-negates}
 use Rattle.integer.proofs.quotient16.Statement.{statement}
 use Rattle.integer.proofs.quotient16.Tie as tie
 
-pub quotient16-spec : {M : Type 1} → statement M
-quotient16-spec =
+pub quotient16_spec : {M : Type 1} → statement M
+quotient16_spec =
     tie.close
     (tie.spec
     (λ c κs. search rules)

@@ -4,8 +4,8 @@ use Rattle.integer.proofs.Division.{divides, quotient-reads, quotient-negates}
 use Rattle.integer.proofs.quotient8.Statement.{statement}
 use Rattle.integer.proofs.quotient8.Tie as tie
 
-pub quotient8-spec : {M : Type 1} → statement M
-quotient8-spec =
+pub quotient8_spec : {M : Type 1} → statement M
+quotient8_spec =
     tie.close
     (tie.spec
     (λ c κs. search rules)

@@ -4,8 +4,8 @@ use Rattle.integer.proofs.Reduction.{reduce-casts, reduce-divides, reduce-fits, 
 use Rattle.integer.proofs.reduce16.Statement.{statement}
 use Rattle.integer.proofs.reduce16.Tie as tie
 
-pub reduce16-spec : {M : Type 1} → statement M
-reduce16-spec =
+pub reduce16_spec : {M : Type 1} → statement M
+reduce16_spec =
     tie.close
     (tie.spec
     (λ c. reduce-divides w16 w64 (search rules) c.args.z c.ranges.z)

@@ -4,8 +4,8 @@ use Rattle.integer.proofs.Reduction.{reduce-casts, reduce-divides, reduce-fits, 
 use Rattle.integer.proofs.reduce8.Statement.{statement}
 use Rattle.integer.proofs.reduce8.Tie as tie
 
-pub reduce8-spec : {M : Type 1} → statement M
-reduce8-spec =
+pub reduce8_spec : {M : Type 1} → statement M
+reduce8_spec =
     tie.close
     (tie.spec
     (λ c. reduce-divides w8 w64 (search rules) c.args.z c.ranges.z)

@@ -4,8 +4,8 @@ use Rattle.integer.proofs.Division.{divides, remainder-reads, remainder-vanishes
 use Rattle.integer.proofs.remainder8.Statement.{statement}
 use Rattle.integer.proofs.remainder8.Tie as tie
 
-pub remainder8-spec : {M : Type 1} → statement M
-remainder8-spec =
+pub remainder8_spec : {M : Type 1} → statement M
+remainder8_spec =
     tie.close
     (tie.spec
     (λ c. divides w8 c.before.args.a c.before.args.b c.before.ranges.a c.before.ranges.b c.if1.false c.before.requires)

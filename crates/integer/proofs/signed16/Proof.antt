@@ -4,8 +4,8 @@ use Rattle.integer.proofs.Representation.{sum_fits, sum-reads, weight-fits}
 use Rattle.integer.proofs.signed16.Statement.{statement}
 use Rattle.integer.proofs.signed16.Tie as tie
 
-pub signed16-spec : {M : Type 1} → statement M
-signed16-spec =
+pub signed16_spec : {M : Type 1} → statement M
+signed16_spec =
     tie.close
     (tie.spec
     (λ c. search rules)

@@ -4,8 +4,8 @@ use Rattle.integer.proofs.Representation.{sum_fits, sum-reads, weight-fits}
 use Rattle.integer.proofs.signed8.Statement.{statement}
 use Rattle.integer.proofs.signed8.Tie as tie
 
-pub signed8-spec : {M : Type 1} → statement M
-signed8-spec =
+pub signed8_spec : {M : Type 1} → statement M
+signed8_spec =
     tie.close
     (tie.spec
     (λ c. search rules)

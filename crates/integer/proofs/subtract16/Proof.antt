@@ -4,8 +4,8 @@ use Rattle.integer.proofs.Modular.{subtract-wraps}
 use Rattle.integer.proofs.subtract16.Statement.{statement}
 use Rattle.integer.proofs.subtract16.Tie as tie
 
-pub subtract16-spec : {M : Type 1} → statement M
-subtract16-spec =
+pub subtract16_spec : {M : Type 1} → statement M
+subtract16_spec =
     tie.close
     (tie.spec
     (λ c κs. search rules)

@@ -4,8 +4,8 @@ use Rattle.integer.proofs.Modular.{subtract-wraps}
 use Rattle.integer.proofs.subtract8.Statement.{statement}
 use Rattle.integer.proofs.subtract8.Tie as tie
 
-pub subtract8-spec : {M : Type 1} → statement M
-subtract8-spec =
+pub subtract8_spec : {M : Type 1} → statement M
+subtract8_spec =
     tie.close
     (tie.spec
     (λ c κs. search rules)

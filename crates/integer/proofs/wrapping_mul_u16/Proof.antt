@@ -4,8 +4,8 @@ use Rattle.std.proofs.Common.{rules}
 use Rattle.integer.proofs.wrapping_mul_u16.Statement.{statement}
 use Rattle.integer.proofs.wrapping_mul_u16.Tie as tie
 
-pub wrapping-mul-u16-spec : {M : Type 1} → statement M
-wrapping-mul-u16-spec =
+pub wrapping_mul_u16_spec : {M : Type 1} → statement M
+wrapping_mul_u16_spec =
     tie.close
     (tie.spec
     (λ c. record { fits = product-below 16 c.ranges.a.fits c.ranges.b.fits })

@@ -4,8 +4,8 @@ use Rattle.std.proofs.Common.{rules}
 use Rattle.integer.proofs.wrapping_mul_u8.Statement.{statement}
 use Rattle.integer.proofs.wrapping_mul_u8.Tie as tie
 
-pub wrapping-mul-u8-spec : {M : Type 1} → statement M
-wrapping-mul-u8-spec =
+pub wrapping_mul_u8_spec : {M : Type 1} → statement M
+wrapping_mul_u8_spec =
     tie.close
     (tie.spec
     (λ c. record { fits = product-below 8 c.ranges.a.fits c.ranges.b.fits })

@@ -6,5 +6,5 @@ use Rattle.isolation_example.proofs.isolation_example.Tie as tie
 returns : tie.Need-returns
 returns c = example-holds
 
-pub isolation-example-spec : {M : Type 1} → statement M
-isolation-example-spec = tie.close (tie.spec returns)
+pub isolation_example_spec : {M : Type 1} → statement M
+isolation_example_spec = tie.close (tie.spec returns)

@@ -6,5 +6,5 @@ use Rattle.literal_rows.proofs.area_rows.Tie as tie
 returns : tie.Need-returns
 returns c = area-rows-hold
 
-pub area-rows-spec : {M : Type 1} → statement M
-area-rows-spec = tie.close (tie.spec returns)
+pub area_rows_spec : {M : Type 1} → statement M
+area_rows_spec = tie.close (tie.spec returns)

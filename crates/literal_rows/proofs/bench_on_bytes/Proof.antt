@@ -6,5 +6,5 @@ use Rattle.literal_rows.proofs.bench_on_bytes.Tie as tie
 returns : tie.Need-returns
 returns c = bench-holds
 
-pub bench-on-bytes-spec : {M : Type 1} → statement M
-bench-on-bytes-spec = tie.close (tie.spec returns)
+pub bench_on_bytes_spec : {M : Type 1} → statement M
+bench_on_bytes_spec = tie.close (tie.spec returns)

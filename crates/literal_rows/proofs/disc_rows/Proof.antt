@@ -6,5 +6,5 @@ use Rattle.literal_rows.proofs.disc_rows.Tie as tie
 returns : tie.Need-returns
 returns c = disc-rows-hold
 
-pub disc-rows-spec : {M : Type 1} → statement M
-disc-rows-spec = tie.close (tie.spec returns)
+pub disc_rows_spec : {M : Type 1} → statement M
+disc_rows_spec = tie.close (tie.spec returns)

@@ -6,5 +6,5 @@ use Rattle.literal_rows.proofs.listings.Tie as tie
 returns : tie.Need-returns
 returns c = listings-hold
 
-pub listings-spec : {M : Type 1} → statement M
-listings-spec = tie.close (tie.spec returns)
+pub listings_spec : {M : Type 1} → statement M
+listings_spec = tie.close (tie.spec returns)

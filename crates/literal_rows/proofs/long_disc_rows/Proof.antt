@@ -6,5 +6,5 @@ use Rattle.literal_rows.proofs.long_disc_rows.Tie as tie
 returns : tie.Need-returns
 returns c = long-disc-rows-hold
 
-pub long-disc-rows-spec : {M : Type 1} → statement M
-long-disc-rows-spec = tie.close (tie.spec returns)
+pub long_disc_rows_spec : {M : Type 1} → statement M
+long_disc_rows_spec = tie.close (tie.spec returns)

@@ -6,5 +6,5 @@ use Rattle.literal_rows.proofs.new_file_example.Tie as tie
 returns : tie.Need-returns
 returns c = example-holds
 
-pub new-file-example-spec : {M : Type 1} → statement M
-new-file-example-spec = tie.close (tie.spec returns)
+pub new_file_example_spec : {M : Type 1} → statement M
+new_file_example_spec = tie.close (tie.spec returns)

@@ -6,5 +6,5 @@ use Rattle.literal_rows.proofs.new_files_on_bytes.Tie as tie
 returns : tie.Need-returns
 returns c = new-files-hold
 
-pub new-files-on-bytes-spec : {M : Type 1} → statement M
-new-files-on-bytes-spec = tie.close (tie.spec returns)
+pub new_files_on_bytes_spec : {M : Type 1} → statement M
+new_files_on_bytes_spec = tie.close (tie.spec returns)

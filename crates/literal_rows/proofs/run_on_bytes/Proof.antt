@@ -6,5 +6,5 @@ use Rattle.literal_rows.proofs.run_on_bytes.Tie as tie
 returns : tie.Need-returns
 returns c = run_holds
 
-pub run-on-bytes-spec : {M : Type 1} → statement M
-run-on-bytes-spec = tie.close (tie.spec returns)
+pub run_on_bytes_spec : {M : Type 1} → statement M
+run_on_bytes_spec = tie.close (tie.spec returns)

@@ -6,5 +6,5 @@ use Rattle.literal_rows.proofs.waits_on_bytes.Tie as tie
 returns : tie.Need-returns
 returns c = waits-hold
 
-pub waits-on-bytes-spec : {M : Type 1} → statement M
-waits-on-bytes-spec = tie.close (tie.spec returns)
+pub waits_on_bytes_spec : {M : Type 1} → statement M
+waits_on_bytes_spec = tie.close (tie.spec returns)

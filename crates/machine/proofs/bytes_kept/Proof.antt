@@ -8,5 +8,5 @@ returns : tie.Need-returns
 unfolding BytesKept
 returns c = (bytes-kept, format-bytes, boot-bytes)
 
-pub bytes-kept-spec : {M : Type 1} → statement M
-bytes-kept-spec = tie.close (tie.spec returns)
+pub bytes_kept_spec : {M : Type 1} → statement M
+bytes_kept_spec = tie.close (tie.spec returns)

@@ -22,5 +22,5 @@ returns c = (
   format-done,
 )
 
-pub done-exactly-spec : {M : Type 1} → statement M
-done-exactly-spec = tie.close (tie.spec returns)
+pub done_exactly_spec : {M : Type 1} → statement M
+done_exactly_spec = tie.close (tie.spec returns)

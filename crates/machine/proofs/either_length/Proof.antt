@@ -10,5 +10,5 @@ returns : tie.Need-returns
 unfolding EitherLength
 returns c = ((refl, refl), empty-disc-takes, open-takes, as_before)
 
-pub either-length-spec : {M : Type 1} → statement M
-either-length-spec = tie.close (tie.spec returns)
+pub either_length_spec : {M : Type 1} → statement M
+either_length_spec = tie.close (tie.spec returns)

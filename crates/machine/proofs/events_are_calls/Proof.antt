@@ -8,5 +8,5 @@ returns : tie.Need-returns
 unfolding EventsAreCalls
 returns c = run-is-events
 
-pub events-are-calls-spec : {M : Type 1} → statement M
-events-are-calls-spec = tie.close (tie.spec returns)
+pub events_are_calls_spec : {M : Type 1} → statement M
+events_are_calls_spec = tie.close (tie.spec returns)

@@ -8,5 +8,5 @@ returns : tie.Need-returns
 unfolding FaultTouchesOwn
 returns c = λ b slot clock may. (ended-only b slot clock may, ends-or-runs b slot clock may)
 
-pub fault-touches-own-spec : {M : Type 1} → statement M
-fault-touches-own-spec = tie.close (tie.spec returns)
+pub fault_touches_own_spec : {M : Type 1} → statement M
+fault_touches_own_spec = tie.close (tie.spec returns)

@@ -9,5 +9,5 @@ returns : tie.Need-returns
 unfolding GoodKept
 returns c = ((λ c b passes. good-kept b passes c), format-good, boot-good)
 
-pub good-kept-spec : {M : Type 1} → statement M
-good-kept-spec = tie.close (tie.spec returns)
+pub good_kept_spec : {M : Type 1} → statement M
+good_kept_spec = tie.close (tie.spec returns)

@@ -6,5 +6,5 @@ use Rattle.machine.proofs.isolation.Tie as tie
 returns : tie.Need-returns
 returns c = isolated
 
-pub isolation-spec : {M : Type 1} → statement M
-isolation-spec = tie.close (tie.spec returns)
+pub isolation_spec : {M : Type 1} → statement M
+isolation_spec = tie.close (tie.spec returns)

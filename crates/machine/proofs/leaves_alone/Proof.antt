@@ -15,5 +15,5 @@ returns c = (
   (λ c b name i n far. files-kept b name i n c far),
 )
 
-pub leaves-alone-spec : {M : Type 1} → statement M
-leaves-alone-spec = tie.close (tie.spec returns)
+pub leaves_alone_spec : {M : Type 1} → statement M
+leaves_alone_spec = tie.close (tie.spec returns)

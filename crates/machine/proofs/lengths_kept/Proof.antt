@@ -8,5 +8,5 @@ returns : tie.Need-returns
 unfolding LengthsKept
 returns c = ((λ c b. lengths-kept b c), format-lengths, boot-lengths)
 
-pub lengths-kept-spec : {M : Type 1} → statement M
-lengths-kept-spec = tie.close (tie.spec returns)
+pub lengths_kept_spec : {M : Type 1} → statement M
+lengths_kept_spec = tie.close (tie.spec returns)

@@ -6,5 +6,5 @@ use Rattle.machine.proofs.new_file_reads_empty.Tie as tie
 returns : tie.Need-returns
 returns c = new-file-reads-empty
 
-pub new-file-reads-empty-spec : {M : Type 1} → statement M
-new-file-reads-empty-spec = tie.close (tie.spec returns)
+pub new_file_reads_empty_spec : {M : Type 1} → statement M
+new_file_reads_empty_spec = tie.close (tie.spec returns)

@@ -8,5 +8,5 @@ returns : tie.Need-returns
 unfolding PlacesRefusedOnly
 returns c = (set-no-place, open-refused)
 
-pub places-refused-only-spec : {M : Type 1} → statement M
-places-refused-only-spec = tie.close (tie.spec returns)
+pub places_refused_only_spec : {M : Type 1} → statement M
+places_refused_only_spec = tie.close (tie.spec returns)

@@ -26,5 +26,5 @@ returns c = λ b slot clock. (
   faults-bounded b slot clock,
 )
 
-pub reaches-exactly-spec : {M : Type 1} → statement M
-reaches-exactly-spec = tie.close (tie.spec returns)
+pub reaches_exactly_spec : {M : Type 1} → statement M
+reaches_exactly_spec = tie.close (tie.spec returns)

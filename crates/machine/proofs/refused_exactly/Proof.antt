@@ -8,5 +8,5 @@ returns : tie.Need-returns
 unfolding RefusedExactly
 returns c = ((λ c b. (call-decided c b).is), (λ b. (format-decided b).is), (λ b. (boot-decided b).is))
 
-pub refused-exactly-spec : {M : Type 1} → statement M
-refused-exactly-spec = tie.close (tie.spec returns)
+pub refused_exactly_spec : {M : Type 1} → statement M
+refused_exactly_spec = tie.close (tie.spec returns)

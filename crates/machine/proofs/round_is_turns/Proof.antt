@@ -9,5 +9,5 @@ returns : tie.Need-returns
 unfolding RoundIsTurns
 returns c = (round-events, bytes_whole, whole-after)
 
-pub round-is-turns-spec : {M : Type 1} → statement M
-round-is-turns-spec = tie.close (tie.spec returns)
+pub round_is_turns_spec : {M : Type 1} → statement M
+round_is_turns_spec = tie.close (tie.spec returns)

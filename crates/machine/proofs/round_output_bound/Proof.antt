@@ -16,5 +16,5 @@ returns c = λ b clock n done.
     subst⁻¹ (λ (m : ℕ). m ≤ roundRoom) (round-returns b clock n done)
     (round-short (kernelOf b.area) clock b.disc (passes-good b.disc b.area (round-passed b clock n done).0))
 
-pub round-output-bound-spec : {M : Type 1} → statement M
-round-output-bound-spec = tie.close (tie.spec returns)
+pub round_output_bound_spec : {M : Type 1} → statement M
+round_output_bound_spec = tie.close (tie.spec returns)

@@ -8,5 +8,5 @@ returns : tie.Need-returns
 unfolding TurnOutputBound
 returns c = turn-output-bound
 
-pub turn-output-bound-spec : {M : Type 1} → statement M
-turn-output-bound-spec = tie.close (tie.spec returns)
+pub turn_output_bound_spec : {M : Type 1} → statement M
+turn_output_bound_spec = tie.close (tie.spec returns)

@@ -8,5 +8,5 @@ returns : tie.Need-returns
 unfolding WaitsKeepTime
 returns c = waits
 
-pub waits-keep-time-spec : {M : Type 1} → statement M
-waits-keep-time-spec = tie.close (tie.spec returns)
+pub waits_keep_time_spec : {M : Type 1} → statement M
+waits_keep_time_spec = tie.close (tie.spec returns)

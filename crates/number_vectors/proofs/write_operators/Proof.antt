@@ -9,8 +9,8 @@ invariant-loop grid n₀ n = Unit
 abbrev decreases-loop : tie.decreases-loop
 decreases-loop grid n₀ n = 256 - n
 
-pub write-operators-spec : {M : Type 1} → statement M
-write-operators-spec =
+pub write_operators_spec : {M : Type 1} → statement M
+write_operators_spec =
     tie.close
     (tie.spec
     invariant-loop

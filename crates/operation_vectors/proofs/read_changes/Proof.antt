@@ -14,8 +14,8 @@ invariant-loop fd buf₀ len at₀ buf at = (at ≤ len) × (len ≤ length buf�
 abbrev decreases-loop : tie.decreases-loop
 decreases-loop fd buf₀ len at₀ buf at = len - at
 
-pub read-changes-spec : {M : Type 1} → statement M
-read-changes-spec =
+pub read_changes_spec : {M : Type 1} → statement M
+read_changes_spec =
     tie.close
     (tie.spec
     invariant-loop

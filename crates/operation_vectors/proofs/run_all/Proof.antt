@@ -10,8 +10,8 @@ invariant-loop fd disc₀ area₀ out₀ left₀ disc area out left = Unit {0}
 abbrev decreases-loop : tie.decreases-loop
 decreases-loop fd disc₀ area₀ out₀ left₀ disc area out left = left
 
-pub run-all-spec : {M : Type 1} → statement M
-run-all-spec =
+pub run_all_spec : {M : Type 1} → statement M
+run_all_spec =
     tie.close
     (tie.spec
     invariant-loop

@@ -68,6 +68,6 @@ add-result c =
     let f = c.before.ranges.n in
     omega (arith, ap nat_abs (read_back _ f c.if1.false), f.sfits)
 
-pub magnitude-spec : {M : Type 1} → statement M
-magnitude-spec =
+pub magnitude_spec : {M : Type 1} → statement M
+magnitude_spec =
     tie.close (tie.spec cast-result sub-result cast-result-2 add-result (λ c. search rules) (λ c. search rules))

@@ -4,8 +4,8 @@ use Rattle.io.proofs.Counting.{length-take_of_le}
 use Rattle.printing.proofs.output.Statement.{statement}
 use Rattle.printing.proofs.output.Tie as tie
 
-pub output-spec : {M : Type 1} → statement M
-output-spec =
+pub output_spec : {M : Type 1} → statement M
+output_spec =
     tie.close
     (tie.spec
     (λ c κs. search rules)

@@ -17,8 +17,8 @@ cast-sum c = omega (arith, c.shared-slice-known.given c.before.before.loop.i)
 add-sum : tie.Need-overflow-add-sum invariant-loop decreases-loop
 add-sum c = omega (arith, c.shared-slice-known.given c.before.before.loop.i)
 
-pub sum-spec : {M : Type 1} → statement M
-sum-spec =
+pub sum_spec : {M : Type 1} → statement M
+sum_spec =
     tie.close
     (tie.spec
     invariant-loop

@@ -27,8 +27,8 @@ loop-again c =
 returns : tie.Need-returns invariant-loop decreases-loop
 returns c = let l = c.before.loop in single c.before.before.args.n l.low l.width l.invariant c.loop-test.false
 
-pub whole-root-spec : {M : Type 1} → statement M
-whole-root-spec =
+pub whole_root_spec : {M : Type 1} → statement M
+whole_root_spec =
     tie.close
     (tie.spec
     invariant-loop

@@ -6,5 +6,5 @@ use Rattle.rows.proofs.bench.Tie as tie
 returns : tie.Need-returns
 returns c = bench-holds
 
-pub bench-spec : {M : Type 1} → statement M
-bench-spec = tie.close (tie.spec returns)
+pub bench_spec : {M : Type 1} → statement M
+bench_spec = tie.close (tie.spec returns)

@@ -6,5 +6,5 @@ use Rattle.rows.proofs.delays.Tie as tie
 returns : tie.Need-returns
 returns c = delays-hold
 
-pub delays-spec : {M : Type 1} → statement M
-delays-spec = tie.close (tie.spec returns)
+pub delays_spec : {M : Type 1} → statement M
+delays_spec = tie.close (tie.spec returns)

@@ -6,5 +6,5 @@ use Rattle.rows.proofs.misreadings.Tie as tie
 returns : tie.Need-returns
 returns c = misreadings-hold
 
-pub misreadings-spec : {M : Type 1} → statement M
-misreadings-spec = tie.close (tie.spec returns)
+pub misreadings_spec : {M : Type 1} → statement M
+misreadings_spec = tie.close (tie.spec returns)

@@ -6,5 +6,5 @@ use Rattle.rows.proofs.scalings.Tie as tie
 returns : tie.Need-returns
 returns c = scalings-hold
 
-pub scalings-spec : {M : Type 1} → statement M
-scalings-spec = tie.close (tie.spec returns)
+pub scalings_spec : {M : Type 1} → statement M
+scalings_spec = tie.close (tie.spec returns)

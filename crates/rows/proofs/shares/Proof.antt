@@ -6,5 +6,5 @@ use Rattle.rows.proofs.shares.Tie as tie
 returns : tie.Need-returns
 returns c = shares-hold
 
-pub shares-spec : {M : Type 1} → statement M
-shares-spec = tie.close (tie.spec returns)
+pub shares_spec : {M : Type 1} → statement M
+shares_spec = tie.close (tie.spec returns)

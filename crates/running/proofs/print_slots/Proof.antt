@@ -10,8 +10,8 @@ invariant-loop area slot₀ slot = slot ≤ slotCount
 abbrev decreases-loop : tie.decreases-loop
 decreases-loop area slot₀ slot = slotCount - slot
 
-pub print-slots-spec : {M : Type 1} → statement M
-print-slots-spec =
+pub print_slots_spec : {M : Type 1} → statement M
+print_slots_spec =
     tie.close
     (tie.spec
     invariant-loop

@@ -9,8 +9,8 @@ invariant-loop disc₀ area₀ step most clock₀ count₀ disc area clock count
 abbrev decreases-loop : tie.decreases-loop
 decreases-loop disc₀ area₀ step most clock₀ count₀ disc area clock count = most - count
 
-pub rounds-spec : {M : Type 1} → statement M
-rounds-spec =
+pub rounds_spec : {M : Type 1} → statement M
+rounds_spec =
     tie.close
     (tie.spec
     invariant-loop

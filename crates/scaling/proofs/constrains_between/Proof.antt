@@ -8,5 +8,5 @@ returns : tie.Need-returns
 unfolding ConstrainsBetween
 returns c = between
 
-pub constrains-between-spec : {M : Type 1} → statement M
-constrains-between-spec = tie.close (tie.spec returns)
+pub constrains_between_spec : {M : Type 1} → statement M
+constrains_between_spec = tie.close (tie.spec returns)

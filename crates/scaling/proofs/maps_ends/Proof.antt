@@ -8,5 +8,5 @@ returns : tie.Need-returns
 unfolding MapsEnds
 returns c = ends
 
-pub maps-ends-spec : {M : Type 1} → statement M
-maps-ends-spec = tie.close (tie.spec returns)
+pub maps_ends_spec : {M : Type 1} → statement M
+maps_ends_spec = tie.close (tie.spec returns)

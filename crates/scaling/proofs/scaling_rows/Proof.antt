@@ -27,5 +27,5 @@ returns : tie.Need-returns
 unfolding ScalingRows
 returns c = (constrain-rows, map_rows, power-rows)
 
-pub scaling-rows-spec : {M : Type 1} → statement M
-scaling-rows-spec = tie.close (tie.spec returns)
+pub scaling_rows_spec : {M : Type 1} → statement M
+scaling_rows_spec = tie.close (tie.spec returns)

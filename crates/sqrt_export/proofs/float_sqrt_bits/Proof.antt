@@ -9,6 +9,6 @@ use Rattle.sqrt_export.proofs.float_sqrt_bits.Tie as tie
 returns : tie.Need-returns
 returns c = c.to-bits.ensures ∙ ap (toBits binary32) (c.before.sqrt.ensures ∙ ap sqrtOf c.before.before.from-bits.ensures)
 
-pub float-sqrt-bits-spec : {M : Type 1} → statement M
-float-sqrt-bits-spec =
+pub float_sqrt_bits_spec : {M : Type 1} → statement M
+float_sqrt_bits_spec =
     tie.close (tie.spec (λ c κs. search rules) (λ c κs. search rules) (λ c κs. search rules) returns)

@@ -20,8 +20,8 @@ returns-2 c =
     of-more full.read-full2.result full.read-full2.new.1.0
     (drop known.word.result counted.before.before.before.args.buf.now) full.read-full2.ensures.0
 
-pub read-part-spec : {M : Type 1} → statement M
-read-part-spec =
+pub read_part_spec : {M : Type 1} → statement M
+read_part_spec =
     tie.close
     (tie.spec
     (λ c. search rules)

@@ -66,8 +66,8 @@ returns-5 c =
     let l = long g in
     rw (disc-long l.before, area-long l, good-disc g, sym c.before.is-good-area.ensures ∙ not-false _ c.if4.false)
 
-pub check-spec : {M : Type 1} → statement M
-check-spec =
+pub check_spec : {M : Type 1} → statement M
+check_spec =
     tie.close
     (tie.spec
     (λ c κs. search rules)

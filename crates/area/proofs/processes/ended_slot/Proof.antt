@@ -50,8 +50,8 @@ returns-2 c =
     let l = c.before in
     sym (index-tab-miss (processIn (area l)) slotCount (λ p. not (isLive p)) (λ k h. l.loop.invariant.1 k (omega arith)))
 
-pub ended-slot-spec : {M : Type 1} → statement M
-ended-slot-spec =
+pub ended_slot_spec : {M : Type 1} → statement M
+ended_slot_spec =
     tie.close
     (tie.spec
     invariant-loop

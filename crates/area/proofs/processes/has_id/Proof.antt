@@ -6,5 +6,5 @@ use Rattle.area.proofs.processes.has_id.Tie as tie
 returns : tie.Need-returns
 returns c = rw (c.before.is_live.ensures, c.word-at.ensures)
 
-pub has-id-spec : {M : Type 1} → statement M
-has-id-spec = tie.close (tie.spec (λ c κs. search rules) (λ c κs. search rules) (λ c. search rules) returns)
+pub has_id_spec : {M : Type 1} → statement M
+has_id_spec = tie.close (tie.spec (λ c κs. search rules) (λ c κs. search rules) (λ c. search rules) returns)

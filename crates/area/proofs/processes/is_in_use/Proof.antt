@@ -29,8 +29,8 @@ returns : tie.Need-returns invariant-loop decreases-loop
 unfolding inUse kernelOf
 returns c = asked-all _ _ _ c.before.loop.invariant (omega arith)
 
-pub is-in-use-spec : {M : Type 1} → statement M
-is-in-use-spec =
+pub is_in_use_spec : {M : Type 1} → statement M
+is_in_use_spec =
     tie.close
     (tie.spec
     invariant-loop

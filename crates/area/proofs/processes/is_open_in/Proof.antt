@@ -8,5 +8,5 @@ returns c =
     let read = c.before.before in
     rw (read.before.word-at.ensures, read.word-at2.ensures)
 
-pub is-open-in-spec : {M : Type 1} → statement M
-is-open-in-spec = tie.close (tie.spec (λ c κs. search rules) (λ c. search rules) (λ c κs. search rules) returns)
+pub is_open_in_spec : {M : Type 1} → statement M
+is_open_in_spec = tie.close (tie.spec (λ c κs. search rules) (λ c. search rules) (λ c κs. search rules) returns)

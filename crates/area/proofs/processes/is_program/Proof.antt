@@ -14,8 +14,8 @@ returns c =
     let read = c.before.before in
     rw (read.before.before.same_bytes.ensures, read.before.word-at.ensures, read.word-at2.ensures)
 
-pub is-program-spec : {M : Type 1} → statement M
-is-program-spec =
+pub is_program_spec : {M : Type 1} → statement M
+is_program_spec =
     tie.close
     (tie.spec
     (λ c. let s = c.before.before.before in sym (length-take-le nameSize s.args.bytes.now (omega arith)))

@@ -6,6 +6,6 @@ use Rattle.area.proofs.processes.is_user.Tie as tie
 returns : tie.Need-returns
 returns c = rw (c.before.before.is_live.ensures, c.before.is-program.ensures, c.is-open-in.ensures)
 
-pub is-user-spec : {M : Type 1} → statement M
-is-user-spec =
+pub is_user_spec : {M : Type 1} → statement M
+is_user_spec =
     tie.close (tie.spec (λ c κs. search rules) (λ c κs. search rules) (λ c κs. search rules) returns)

@@ -31,8 +31,8 @@ returns : tie.Need-returns invariant-loop decreases-loop
 unfolding kernelOf
 returns c = filled-all _ _ c.before.loop.invariant (omega arith)
 
-pub processes-of-spec : {M : Type 1} → statement M
-processes-of-spec =
+pub processes_of_spec : {M : Type 1} → statement M
+processes_of_spec =
     tie.close
     (tie.spec
     invariant-loop

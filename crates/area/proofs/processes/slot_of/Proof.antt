@@ -54,8 +54,8 @@ returns-2 c =
     let a = (start l).args in
     sym (index-tab-miss (processIn a.area.now) slotCount (hasId a.id) (λ k h. l.loop.invariant.1 k (omega arith)))
 
-pub slot-of-spec : {M : Type 1} → statement M
-slot-of-spec =
+pub slot_of_spec : {M : Type 1} → statement M
+slot_of_spec =
     tie.close
     (tie.spec
     invariant-loop

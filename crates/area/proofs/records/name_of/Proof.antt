@@ -16,8 +16,8 @@ returns c =
     let start = third.before.before.before in
     spelled start.args.bytes.now 0 nameSize (omega arith)
 
-pub name-of-spec : {M : Type 1} → statement M
-name-of-spec =
+pub name_of_spec : {M : Type 1} → statement M
+name_of_spec =
     tie.close
     (tie.spec
     (λ c. search rules)

@@ -8,5 +8,5 @@ returns : tie.Need-returns
 unfolding kernelOf
 returns c = c.word-at.ensures
 
-pub next-id-spec : {M : Type 1} → statement M
-next-id-spec = tie.close (tie.spec (λ c κs. search rules) returns)
+pub next_id_spec : {M : Type 1} → statement M
+next_id_spec = tie.close (tie.spec (λ c κs. search rules) returns)

@@ -12,5 +12,5 @@ returns c =
     let a = c.before.before.before.args in
     c.process-of.ensures ∙ ap processOf c.before.record-at.ensures.0 ∙ sym (process-read a.area.now a.slot (omega arith))
 
-pub process-at-spec : {M : Type 1} → statement M
-process-at-spec = tie.close (tie.spec (λ c κs. search rules) (λ c κs. search rules) returns)
+pub process_at_spec : {M : Type 1} → statement M
+process_at_spec = tie.close (tie.spec (λ c κs. search rules) (λ c κs. search rules) returns)

@@ -6,8 +6,8 @@ use Rattle.area.proofs.records.process_of.Tie as tie
 returns : tie.Need-returns
 returns c = cc
 
-pub process-of-spec : {M : Type 1} → statement M
-process-of-spec =
+pub process_of_spec : {M : Type 1} → statement M
+process_of_spec =
     tie.close
     (tie.spec
     (λ c κs. search rules)

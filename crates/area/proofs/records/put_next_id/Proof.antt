@@ -10,8 +10,8 @@ returns c =
     let high = laid.before.before.before in
     laid.overwrite-at.ensures ∙ rw (high.before.low.ensures, high.high.ensures)
 
-pub put-next-id-spec : {M : Type 1} → statement M
-put-next-id-spec =
+pub put_next_id_spec : {M : Type 1} → statement M
+put_next_id_spec =
     tie.close
     (tie.spec
     (λ c κs. search rules)

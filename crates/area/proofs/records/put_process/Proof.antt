@@ -57,8 +57,8 @@ returns c =
     (f.overwrite-at2.ensures ∙ ap (overwrite n.overwrite-at.last.0 (at + nameSize)) m.register-bytes.ensures)
     laid.overwrite-at3.ensures
 
-pub put-process-spec : {M : Type 1} → statement M
-put-process-spec =
+pub put_process_spec : {M : Type 1} → statement M
+put_process_spec =
     tie.close
     (tie.spec
     (λ c. search rules)

@@ -14,8 +14,8 @@ returns c =
     let e = part-to a.area.now at recordSize in
     (e, rw e (part_length a.area.now at recordSize (omega arith)))
 
-pub record-at-spec : {M : Type 1} → statement M
-record-at-spec =
+pub record_at_spec : {M : Type 1} → statement M
+record_at_spec =
     tie.close
     (tie.spec
     (λ c. search rules)

@@ -6,8 +6,8 @@ use Rattle.area.proofs.records.register_bytes.Tie as tie
 returns : tie.Need-returns
 returns c = cc
 
-pub register-bytes-spec : {M : Type 1} → statement M
-register-bytes-spec =
+pub register_bytes_spec : {M : Type 1} → statement M
+register_bytes_spec =
     tie.close
     (tie.spec
     (λ c κs. search rules)

@@ -33,8 +33,8 @@ returns c =
           refl;
     }
 
-pub assign-in-spec : {M : Type 1} → statement M
-assign-in-spec =
+pub assign_in_spec : {M : Type 1} → statement M
+assign_in_spec =
     tie.close
     (tie.spec
     (λ c. search rules)

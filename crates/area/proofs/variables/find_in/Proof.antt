@@ -11,8 +11,8 @@ returns c =
     let a = c.before.before.before.args in
     c.find-variable.ensures ∙ ap (λ (v : Variables). find v a.name a.owner) (variables-front a.area.now)
 
-pub find-in-spec : {M : Type 1} → statement M
-find-in-spec =
+pub find_in_spec : {M : Type 1} → statement M
+find_in_spec =
     tie.close
     (tie.spec
     (λ c. let s = c.before.before in sym (front_length s.args.area.now s.requires.0))

@@ -23,8 +23,8 @@ returns c =
     (freed (kernelOf area).variables gone)
     (done.free.ensures ∙ ap (λ (v : Variables). variablesBytes (freed v gone)) (variables-front area)) refl
 
-pub free-in-spec : {M : Type 1} → statement M
-free-in-spec =
+pub free_in_spec : {M : Type 1} → statement M
+free_in_spec =
     tie.close
     (tie.spec
     (λ c. search rules)

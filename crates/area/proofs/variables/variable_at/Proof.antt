@@ -13,8 +13,8 @@ returns c =
     c.entry-at.ensures
     ∙ ap (λ (v : Variables). get_or v.entries s.args.i noVariable) (variables-front s.args.area.now)
 
-pub variable-at-spec : {M : Type 1} → statement M
-variable-at-spec =
+pub variable_at_spec : {M : Type 1} → statement M
+variable_at_spec =
     tie.close
     (tie.spec
     (λ c. let s = c.before.before in sym (front_length s.args.area.now s.requires.0))

@@ -33,8 +33,8 @@ returns c =
     let m : length l.loop.dst ≡ length l.before.args.dst.now = l.loop.invariant.1 in
     rw (← m, ← n) (sym (take_all l.loop.i l.loop.dst (omega arith)) ∙ l.loop.invariant.2)
 
-pub copy-part-spec : {M : Type 1} → statement M
-copy-part-spec =
+pub copy_part_spec : {M : Type 1} → statement M
+copy_part_spec =
     tie.close
     (tie.spec
     invariant-loop

@@ -32,8 +32,8 @@ returns c =
     let a = l.before.args in
     overwrite-end a.dst.now a.src.now l.loop.dst a.at l.loop.i (omega arith) l.loop.invariant.2
 
-pub overwrite-at-spec : {M : Type 1} → statement M
-overwrite-at-spec =
+pub overwrite_at_spec : {M : Type 1} → statement M
+overwrite_at_spec =
     tie.close
     (tie.spec
     invariant-loop

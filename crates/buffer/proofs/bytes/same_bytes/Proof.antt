@@ -38,8 +38,8 @@ returns-3 c =
     let e : a.a.now ≡ a.b.now = ext_get_or 0 a.a.now a.b.now m (λ i h. c.before.loop.invariant.1 i (omega arith)) in
     rw (← e) (sym (same_refl a.a.now))
 
-pub same-bytes-spec : {M : Type 1} → statement M
-same-bytes-spec =
+pub same_bytes_spec : {M : Type 1} → statement M
+same_bytes_spec =
     tie.close
     (tie.spec
     invariant-loop

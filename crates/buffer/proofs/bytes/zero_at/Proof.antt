@@ -36,8 +36,8 @@ returns c =
     let size : length (zeros a.n) ≡ a.n = length-replicate a.n 0 in
     overwrite-end a.dst.now (zeros a.n) l.loop.dst a.at l.loop.i (omega arith) l.loop.invariant.2
 
-pub zero-at-spec : {M : Type 1} → statement M
-zero-at-spec =
+pub zero_at_spec : {M : Type 1} → statement M
+zero_at_spec =
     tie.close
     (tie.spec
     invariant-loop

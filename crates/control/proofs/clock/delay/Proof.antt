@@ -45,8 +45,8 @@ returns-3 c =
     let k = c.before.before in
     number-faults CharOrInt _ k.before.before.top-number.ensures k.fault.given.1 _ c.last_step.ensures _
 
-pub delay-spec : {M : Type 1} → statement M
-delay-spec =
+pub delay_spec : {M : Type 1} → statement M
+delay_spec =
     tie.close
     (tie.spec
     (λ c κs. search rules)

@@ -10,8 +10,8 @@ start c = c.before.before.before
 returns : tie.Need-returns
 returns c = rw (take-length (start c.before).args.stack.now) at c.push-item.ensures
 
-pub push-clock-spec : {M : Type 1} → statement M
-push-clock-spec =
+pub push_clock_spec : {M : Type 1} → statement M
+push_clock_spec =
     tie.close
     (tie.spec
     (λ c. search rules)

@@ -33,8 +33,8 @@ returns-3 c =
     let d : a.c + a.b ≤ 251 = omega (arith, w.wide3.ensures, w.before.wide2.ensures, else.if2.false) in
     rw ((other w).if1.false, le-leb _ _ d, ← w.wide3.ensures, ← w.before.wide2.ensures) (simp append-nil at c.push-bytes.ensures)
 
-pub choose-while-spec : {M : Type 1} → statement M
-choose-while-spec =
+pub choose_while_spec : {M : Type 1} → statement M
+choose_while_spec =
     tie.close
     (tie.spec
     (λ c κs. search rules)

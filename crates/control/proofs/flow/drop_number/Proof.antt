@@ -30,8 +30,8 @@ returns-2 c =
     let k = c.before.before in
     number-faults AnyNumber _ k.before.before.top-number.ensures k.fault.given.1 _ c.last_step.ensures _
 
-pub drop-number-spec : {M : Type 1} → statement M
-drop-number-spec =
+pub drop_number_spec : {M : Type 1} → statement M
+drop_number_spec =
     tie.close
     (tie.spec
     (λ c κs. search rules)

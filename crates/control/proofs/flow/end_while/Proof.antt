@@ -47,8 +47,8 @@ returns-3 c =
     let d : get_or st (length st - 1) 0 ≤ a.at + 1 = omega (arith, w.wide.ensures) in
     rw (le-leb 1 (length st) (omega arith), le-leb _ _ d, ← w.wide.ensures) c.go.ensures
 
-pub end-while-spec : {M : Type 1} → statement M
-end-while-spec =
+pub end_while_spec : {M : Type 1} → statement M
+end_while_spec =
     tie.close
     (tie.spec
     (λ c κs. search rules)

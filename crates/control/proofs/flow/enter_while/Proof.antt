@@ -55,8 +55,8 @@ returns-3 c =
     let p = k.before.before in
     rw (le-leb _ _ (fits p.before)) (number-faults _ _ p.top-number.ensures k.fault.given.1 _ c.last-step2.ensures _)
 
-pub enter-while-spec : {M : Type 1} → statement M
-enter-while-spec =
+pub enter_while_spec : {M : Type 1} → statement M
+enter_while_spec =
     tie.close
     (tie.spec
     (λ c. search rules)

@@ -70,8 +70,8 @@ returns-4 c =
     let p = k.before.before in
     rw (le-leb _ _ (fits p.before)) (number-faults _ _ p.top-number.ensures k.fault.given.1 _ c.last-step2.ensures _)
 
-pub jump-if-spec : {M : Type 1} → statement M
-jump-if-spec =
+pub jump_if_spec : {M : Type 1} → statement M
+jump_if_spec =
     tie.close
     (tie.spec
     (λ c. search rules)

@@ -20,5 +20,5 @@ returns c =
 returns-2 : tie.Need-returns-2
 returns-2 c = rw (ne_eqb _ _ c.before.if1.false) c.jump.ensures
 
-pub loop-back-spec : {M : Type 1} → statement M
-loop-back-spec = tie.close (tie.spec (λ c κs. search rules) returns (λ c κs. search rules) returns-2)
+pub loop_back_spec : {M : Type 1} → statement M
+loop_back_spec = tie.close (tie.spec (λ c κs. search rules) returns (λ c κs. search rules) returns-2)

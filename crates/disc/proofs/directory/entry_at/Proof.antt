@@ -16,8 +16,8 @@ returns c =
     entry-fields a.disc.now (a.i * entrySize) _ _ _ (omega arith) copied.copy-part.ensures c.before.word-at.ensures
     c.word-at2.ensures
 
-pub entry-at-spec : {M : Type 1} → statement M
-entry-at-spec =
+pub entry_at_spec : {M : Type 1} → statement M
+entry_at_spec =
     tie.close
     (tie.spec
     (λ c. search rules)

@@ -10,6 +10,6 @@ returns : tie.Need-returns
 unfolding fileCount
 returns c = search rules
 
-pub file-count-spec : {M : Type 1} → statement M
-file-count-spec =
+pub file_count_spec : {M : Type 1} → statement M
+file_count_spec =
     tie.close (tie.spec (λ c. search rules) (λ c. omega (arith, c.shared-slice-known.given countAt)) returns)

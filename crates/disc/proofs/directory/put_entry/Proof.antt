@@ -41,8 +41,8 @@ returns c =
     ∙ ap (overwrite d at) (ap (λ (l : List ℕ). e.name ++ l) words
     ∙ sym (append_assoc e.name (word_bytes e.start) (word_bytes e.len)))
 
-pub put-entry-spec : {M : Type 1} → statement M
-put-entry-spec =
+pub put_entry_spec : {M : Type 1} → statement M
+put_entry_spec =
     tie.close
     (tie.spec
     (λ c. search rules)

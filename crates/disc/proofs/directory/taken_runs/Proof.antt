@@ -48,8 +48,8 @@ returns c =
     let q : l.loop.i ≡ fileCount d = omega arith in
     rw (← q) (l.loop.invariant.1 ∙ ap filled (sym (map-tab runOf (entry_at d) l.loop.i)))
 
-pub taken-runs-spec : {M : Type 1} → statement M
-taken-runs-spec =
+pub taken_runs_spec : {M : Type 1} → statement M
+taken_runs_spec =
     tie.close
     (tie.spec
     invariant-loop

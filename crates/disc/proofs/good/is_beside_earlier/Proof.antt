@@ -89,8 +89,8 @@ returns-3 c =
     let q : l.loop.j ≡ a.i = omega arith in
     sym (subst (λ (n : ℕ). besideFirst a.disc.now a.i n ≡ true) q l.loop.invariant.1)
 
-pub is-beside-earlier-spec : {M : Type 1} → statement M
-is-beside-earlier-spec =
+pub is_beside_earlier_spec : {M : Type 1} → statement M
+is_beside_earlier_spec =
     tie.close
     (tie.spec
     invariant-loop

@@ -8,5 +8,5 @@ returns : tie.Need-returns
 unfolding isDiscLength
 returns c = refl
 
-pub is-disc-length-spec : {M : Type 1} → statement M
-is-disc-length-spec = tie.close (tie.spec returns)
+pub is_disc_length_spec : {M : Type 1} → statement M
+is_disc_length_spec = tie.close (tie.spec returns)

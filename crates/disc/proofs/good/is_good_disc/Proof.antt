@@ -90,8 +90,8 @@ returns-4 c =
     let q : l.loop.i ≡ fileCount (disc l) = omega (arith, n.ensures) in
     rw (le-leb (fileCount (disc l)) maxFiles (omega (arith, n.ensures, l.before.if1.false)), ← q, l.loop.invariant.1, l.loop.invariant.2)
 
-pub is-good-disc-spec : {M : Type 1} → statement M
-is-good-disc-spec =
+pub is_good_disc_spec : {M : Type 1} → statement M
+is_good_disc_spec =
     tie.close
     (tie.spec
     invariant-loop

@@ -76,8 +76,8 @@ returns-4 c =
     (ap (λ (n : ℕ). leb n (length (start (named r)).args.disc.now))
     (c.run-end.ensures.0 ∙ ap (λ (u : Run). u.start + u.len) r.run_at.ensures))
 
-pub is-good-entry-spec : {M : Type 1} → statement M
-is-good-entry-spec =
+pub is_good_entry_spec : {M : Type 1} → statement M
+is_good_entry_spec =
     tie.close
     (tie.spec
     (λ c. search rules)

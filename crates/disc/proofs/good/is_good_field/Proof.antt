@@ -39,8 +39,8 @@ returns c =
     let s = start l.before in
     pass-ends s.args.disc.now s.args.at s.pre l.loop.i l.loop.good (omega arith) l.loop.invariant.1
 
-pub is-good-field-spec : {M : Type 1} → statement M
-is-good-field-spec =
+pub is_good_field_spec : {M : Type 1} → statement M
+is_good_field_spec =
     tie.close
     (tie.spec
     invariant-loop

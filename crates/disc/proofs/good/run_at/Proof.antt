@@ -13,8 +13,8 @@ returns c =
     run-in-place s.args.disc.now s.args.i s.pre.0 s.pre.1 c.before.word-at.result c.word-at2.result
     c.before.word-at.ensures c.word-at2.ensures
 
-pub run-at-spec : {M : Type 1} → statement M
-run-at-spec =
+pub run_at_spec : {M : Type 1} → statement M
+run_at_spec =
     tie.close
     (tie.spec
     (λ c. search rules)

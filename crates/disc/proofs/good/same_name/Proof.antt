@@ -26,8 +26,8 @@ returns c =
     cc (three-fours a.a.now a.b.now (λ n. omega (arith, k.before.shared-slice-known.given n))
     (λ n. omega (arith, k.shared-slice-known2.given n)) a.i a.j (omega arith) (omega arith))
 
-pub same-name-spec : {M : Type 1} → statement M
-same-name-spec =
+pub same_name_spec : {M : Type 1} → statement M
+same_name_spec =
     tie.close
     (tie.spec
     (λ c κs. search rules)

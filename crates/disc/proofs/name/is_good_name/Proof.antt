@@ -62,8 +62,8 @@ returns-4 c =
     rw (le-leb _ _ l.before.before.if1.false, le-leb _ _ l.before.if2.false)
     (sym (ap (all isNameByte) (sym (take_all l.loop.i (name l) (omega arith))) ∙ l.loop.invariant.1))
 
-pub is-good-name-spec : {M : Type 1} → statement M
-is-good-name-spec =
+pub is_good_name_spec : {M : Type 1} → statement M
+is_good_name_spec =
     tie.close
     (tie.spec
     invariant-loop

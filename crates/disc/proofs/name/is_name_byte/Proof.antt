@@ -9,5 +9,5 @@ returns c = rw (le-leb _ _ c.if1.true)
 returns-2 : tie.Need-returns-2
 returns-2 c = rw (lt-leb _ _ c.if1.false)
 
-pub is-name-byte-spec : {M : Type 1} → statement M
-is-name-byte-spec = tie.close (tie.spec returns returns-2)
+pub is_name_byte_spec : {M : Type 1} → statement M
+is_name_byte_spec = tie.close (tie.spec returns returns-2)

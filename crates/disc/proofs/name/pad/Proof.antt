@@ -12,5 +12,5 @@ start c = c.before.before.before
 returns : tie.Need-returns
 returns c = c.before.overwrite-at.ensures ∙ overwrite-zeros (start c.before).args.name.now nameSize
 
-pub pad-spec : {M : Type 1} → statement M
-pad-spec = tie.close (tie.spec (λ c. search rules) (λ c κs. search rules) returns)
+pub pad_spec : {M : Type 1} → statement M
+pad_spec = tie.close (tie.spec (λ c. search rules) (λ c κs. search rules) returns)

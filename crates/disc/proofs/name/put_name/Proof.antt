@@ -28,8 +28,8 @@ returns c =
     let put = c.before.before in
     rw (found put.before).text-length.ensures.1 at put.put-bytes.ensures
 
-pub put-name-spec : {M : Type 1} → statement M
-put-name-spec =
+pub put_name_spec : {M : Type 1} → statement M
+put_name_spec =
     tie.close
     (tie.spec
     (λ c κs. search rules)

@@ -34,8 +34,8 @@ returns-2 c =
     let b = l.before.args.bytes.now in
     (omega arith, sym (trimmed-at b l.loop.n (omega arith) (get_or-eq_default b 0 (omega arith)) l.loop.invariant.1))
 
-pub text-length-spec : {M : Type 1} → statement M
-text-length-spec =
+pub text_length_spec : {M : Type 1} → statement M
+text_length_spec =
     tie.close
     (tie.spec
     invariant-loop

@@ -10,8 +10,8 @@ use Rattle.disc_operation.proofs.numbers.refusal_number.Tie as tie
 numbered : {a b : Refusal} → a ≡ b → neg_ℤ (pos (refusalNumber b)) ≡ neg_ℤ (pos (refusalNumber a))
 numbered e = ap (λ (r : Refusal). neg_ℤ (pos (refusalNumber r))) (sym e)
 
-pub refusal-number-spec : {M : Type 1} → statement M
-refusal-number-spec =
+pub refusal_number_spec : {M : Type 1} → statement M
+refusal_number_spec =
     tie.close
     (tie.spec
     (λ c. search rules)

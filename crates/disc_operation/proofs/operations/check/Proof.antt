@@ -25,6 +25,6 @@ returns-3 : tie.Need-returns-3
 unfolding checked
 returns-3 c = rw (right c.before.before, sym c.before.is-good-disc.ensures ∙ not-false _ c.if2.false)
 
-pub check-spec : {M : Type 1} → statement M
-check-spec =
+pub check_spec : {M : Type 1} → statement M
+check_spec =
     tie.close (tie.spec (λ c κs. search rules) returns (λ c κs. (disc-bounds _ (right c)).low) returns-2 returns-3)

@@ -73,8 +73,8 @@ returns-3 c =
     (text-done (lines e) (out e) _ put.put-files.result (omega (arith, put.put-files.ensures.place))
     (omega (arith, (counted put).files-length.ensures, put.put-files.ensures.place)) put.put-files.ensures.bytes)
 
-pub files-spec : {M : Type 1} → statement M
-files-spec =
+pub files_spec : {M : Type 1} → statement M
+files_spec =
     tie.close
     (tie.spec
     (λ c κs. search rules)

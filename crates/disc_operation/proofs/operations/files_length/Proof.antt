@@ -31,8 +31,8 @@ add-len c = let l = turn c in omega (arith, (loop-again c).sum, files-short (sta
 returns : tie.Need-returns invariant-loop decreases-loop
 returns c = counted-all _ _ _ c.before.loop.invariant (omega arith)
 
-pub files-length-spec : {M : Type 1} → statement M
-files-length-spec =
+pub files_length_spec : {M : Type 1} → statement M
+files_length_spec =
     tie.close
     (tie.spec
     invariant-loop

@@ -64,8 +64,8 @@ returns-2 : tie.Need-returns-2
 unfolding freeSpaceAnswer
 returns-2 c = rw (passed (fine c)) (ap pos (found c))
 
-pub free-space-spec : {M : Type 1} → statement M
-free-space-spec =
+pub free_space_spec : {M : Type 1} → statement M
+free_space_spec =
     tie.close
     (tie.spec
     (λ c κs. search rules)

@@ -34,8 +34,8 @@ returns c =
     let e = (start n).args.entry in
     omega (arith, file-line-long e, text-measured e.name n.text-length.result n.text-length.ensures)
 
-pub line-length-spec : {M : Type 1} → statement M
-line-length-spec =
+pub line_length_spec : {M : Type 1} → statement M
+line_length_spec =
     tie.close
     (tie.spec
     (λ c. search rules)

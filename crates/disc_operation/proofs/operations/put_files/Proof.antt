@@ -36,8 +36,8 @@ loop-again c =
 returns : tie.Need-returns invariant-loop decreases-loop
 returns c = written_all _ _ _ _ c.before.loop.invariant (omega arith)
 
-pub put-files-spec : {M : Type 1} → statement M
-put-files-spec =
+pub put_files_spec : {M : Type 1} → statement M
+put_files_spec =
     tie.close
     (tie.spec
     invariant-loop

@@ -57,8 +57,8 @@ returns c =
     line-laid (trimmed e.name) (32 ∷ []) (decimal e.len) (10 ∷ []) a.pre
     n.put-name.ensures s.put-bytes.ensures d.put-decimal.ensures w.put-bytes2.ensures
 
-pub put-line-spec : {M : Type 1} → statement M
-put-line-spec =
+pub put_line_spec : {M : Type 1} → statement M
+put_line_spec =
     tie.close
     (tie.spec
     (λ c. search rules)

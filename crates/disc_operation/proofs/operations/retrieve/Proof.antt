@@ -112,8 +112,8 @@ returns-4 c =
     (o.overwrite-at.ensures ∙ ap (λ (n : ℕ). overwrite (out u) 0 (part (disc u) e.start n)) z)
     ∙ sym (chosen t)
 
-pub retrieve-spec : {M : Type 1} → statement M
-retrieve-spec =
+pub retrieve_spec : {M : Type 1} → statement M
+retrieve_spec =
     tie.close
     (tie.spec
     (λ c κs. search rules)

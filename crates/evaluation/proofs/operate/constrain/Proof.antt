@@ -41,8 +41,8 @@ returns c =
     (ap Value (rw (nx.number_in.ensures, na.number-in2.ensures, nb.number-in3.ensures) at c.before.constrain.ensures))
     c.push-answer.ensures
 
-pub constrain-spec : {M : Type 1} → statement M
-constrain-spec =
+pub constrain_spec : {M : Type 1} → statement M
+constrain_spec =
     tie.close
     (tie.spec
     (λ c κs. search rules)

@@ -43,8 +43,8 @@ returns c =
     (rw (na.number_in.ensures, nb.number-in2.ensures, nc.number-in3.ensures, nd.number-in4.ensures, ne.number-in5.ensures)
     at c.before.map.ensures) c.push-answer.ensures
 
-pub map-spec : {M : Type 1} → statement M
-map-spec =
+pub map_spec : {M : Type 1} → statement M
+map_spec =
     tie.close
     (tie.spec
     (λ c κs. search rules)

@@ -12,5 +12,5 @@ next-number-requires c κs =
 returns : tie.Need-returns
 returns c = rw (← c.before.types_of.ensures) c.next-number.ensures
 
-pub next-operand-spec : {M : Type 1} → statement M
-next-operand-spec = tie.close (tie.spec (λ c κs. search rules) next-number-requires returns)
+pub next_operand_spec : {M : Type 1} → statement M
+next_operand_spec = tie.close (tie.spec (λ c κs. search rules) next-number-requires returns)

@@ -21,8 +21,8 @@ returns-4 : tie.Need-returns-4
 unfolding operates
 returns-4 c = rw c.before.enum_told.given.1 (last-means (start c.before).args.stack.now c.last_step.ensures)
 
-pub operate-spec : {M : Type 1} → statement M
-operate-spec =
+pub operate_spec : {M : Type 1} → statement M
+operate_spec =
     tie.close
     (tie.spec
     (λ c. search rules)

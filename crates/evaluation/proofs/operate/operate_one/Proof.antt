@@ -22,8 +22,8 @@ returns c =
     x.result x.ensures.0 (unary a.operator) (c.before.apply.ensures ∙ ap (unary a.operator) n.number_in.ensures)
     c.push-answer.ensures
 
-pub operate-one-spec : {M : Type 1} → statement M
-operate-one-spec =
+pub operate_one_spec : {M : Type 1} → statement M
+operate_one_spec =
     tie.close
     (tie.spec
     (λ c κs. search rules)

@@ -34,8 +34,8 @@ returns c =
     x.result y.ensures.0 x.ensures.0 (binary a.operator)
     (c.before.apply.ensures ∙ ap₂ (binary a.operator) n.number_in.ensures m.number-in2.ensures) c.push-answer.ensures
 
-pub operate-two-spec : {M : Type 1} → statement M
-operate-two-spec =
+pub operate_two_spec : {M : Type 1} → statement M
+operate_two_spec =
     tie.close
     (tie.spec
     (λ c κs. search rules)

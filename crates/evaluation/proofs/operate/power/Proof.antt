@@ -35,8 +35,8 @@ returns c =
     x.result y.ensures.0 x.ensures.0 (power)
     (c.before.power-of.ensures ∙ ap₂ (power) n.number_in.ensures m.number-in2.ensures) c.push-answer.ensures
 
-pub power-spec : {M : Type 1} → statement M
-power-spec =
+pub power_spec : {M : Type 1} → statement M
+power_spec =
     tie.close
     (tie.spec
     (λ c κs. search rules)

@@ -33,8 +33,8 @@ returns-2 c =
     let k = c.before.before in
     rw k.first2.given.1 (last-means (start-2 k).args.stack.now c.last_step.ensures)
 
-pub push-answer-spec : {M : Type 1} → statement M
-push-answer-spec =
+pub push_answer_spec : {M : Type 1} → statement M
+push_answer_spec =
     tie.close
     (tie.spec
     (λ c. search rules)

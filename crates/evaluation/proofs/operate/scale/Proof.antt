@@ -3,8 +3,8 @@ use borrow.Author.Rules.{rules}
 use Rattle.evaluation.proofs.operate.scale.Statement.{statement}
 use Rattle.evaluation.proofs.operate.scale.Tie as tie
 
-pub scale-spec : {M : Type 1} → statement M
-scale-spec =
+pub scale_spec : {M : Type 1} → statement M
+scale_spec =
     tie.close
     (tie.spec
     (λ c. search rules)

@@ -12,5 +12,5 @@ top-number-requires c κs =
 returns : tie.Need-returns
 returns c = rw (← c.before.types_of.ensures) c.top-number.ensures
 
-pub top-operand-spec : {M : Type 1} → statement M
-top-operand-spec = tie.close (tie.spec (λ c κs. search rules) top-number-requires returns)
+pub top_operand_spec : {M : Type 1} → statement M
+top_operand_spec = tie.close (tie.spec (λ c κs. search rules) top-number-requires returns)

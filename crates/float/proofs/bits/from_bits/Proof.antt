@@ -12,5 +12,5 @@ returns : tie.Need-returns
 unfolding of_bits div
 returns c = sym (high-nan binary32 c.before.args.n c.if1.true)
 
-pub from-bits-spec : {M : Type 1} → statement M
-from-bits-spec = tie.close (tie.spec float-from-bits-result returns (λ c. search rules))
+pub from_bits_spec : {M : Type 1} → statement M
+from_bits_spec = tie.close (tie.spec float-from-bits-result returns (λ c. search rules))

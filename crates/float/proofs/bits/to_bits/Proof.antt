@@ -11,5 +11,5 @@ float-to-bits-result c = equal_no_nan c.before.args.x c.if1.false
 returns : tie.Need-returns
 returns c = sym nan_pattern ∙ ap (to_bits binary32) (sym (unequal-nan c.before.args.x c.if1.true))
 
-pub to-bits-spec : {M : Type 1} → statement M
-to-bits-spec = tie.close (tie.spec float-to-bits-result returns (λ c. search rules))
+pub to_bits_spec : {M : Type 1} → statement M
+to_bits_spec = tie.close (tie.spec float-to-bits-result returns (λ c. search rules))

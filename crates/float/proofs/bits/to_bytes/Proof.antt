@@ -7,5 +7,5 @@ use Rattle.float.proofs.bits.to_bytes.Tie as tie
 returns : tie.Need-returns
 returns c = c.split.ensures ∙ ap bigEndian c.before.to-bits.ensures
 
-pub to-bytes-spec : {M : Type 1} → statement M
-to-bytes-spec = tie.close (tie.spec (λ c κs. search rules) (λ c κs. search rules) returns)
+pub to_bytes_spec : {M : Type 1} → statement M
+to_bytes_spec = tie.close (tie.spec (λ c κs. search rules) (λ c κs. search rules) returns)

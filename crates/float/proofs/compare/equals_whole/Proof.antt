@@ -7,5 +7,5 @@ use Rattle.float.proofs.compare.equals_whole.Tie as tie
 returns : tie.Need-returns
 returns c = equals-met c.before.before.args.z c.before.before.ranges.z c.before.f32-to-f64-with-nan.ensures
 
-pub equals-whole-spec : {M : Type 1} → statement M
-equals-whole-spec = tie.close (tie.spec (λ c κs. search rules) (λ c. search rules) returns)
+pub equals_whole_spec : {M : Type 1} → statement M
+equals_whole_spec = tie.close (tie.spec (λ c κs. search rules) (λ c. search rules) returns)

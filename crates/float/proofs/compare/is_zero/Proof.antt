@@ -8,5 +8,5 @@ returns : tie.Need-returns
 unfolding eq of_bits
 returns c = refl
 
-pub is-zero-spec : {M : Type 1} → statement M
-is-zero-spec = tie.close (tie.spec returns)
+pub is_zero_spec : {M : Type 1} → statement M
+is_zero_spec = tie.close (tie.spec returns)

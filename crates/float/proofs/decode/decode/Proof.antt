@@ -32,8 +32,8 @@ returns-4 c =
     let back = read_back s.args.x b s.well-formed.0.1 c.before.before.to-bits.ensures in
     finite-same back (field-normal b c.before.if1.false c.if3.false)
 
-pub decode-spec : {M : Type 1} → statement M
-decode-spec =
+pub decode_spec : {M : Type 1} → statement M
+decode_spec =
     tie.close
     (tie.spec
     (λ c κs. search rules)

@@ -29,8 +29,8 @@ returns-plus c =
     let small = c.before.before in
     printed-plus (parts small.before) small.if1.true c.if2.false c.before.whole-size.ensures
 
-pub to-printed-spec : {M : Type 1} → statement M
-to-printed-spec =
+pub to_printed_spec : {M : Type 1} → statement M
+to_printed_spec =
     tie.close
     (tie.spec
     (λ c κs. search rules)

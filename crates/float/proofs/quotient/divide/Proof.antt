@@ -17,6 +17,6 @@ returns-2 c = let a = c.before.before.before.args in
 returns-3 : tie.Need-returns-3
 returns-3 c = let a = c.before.before.args in not-up a.up a.a a.s c.before.if1.false c.cut2.ensures
 
-pub divide-spec : {M : Type 1} → statement M
-divide-spec =
+pub divide_spec : {M : Type 1} → statement M
+divide_spec =
     tie.close (tie.spec (λ c. search rules) (λ c κs. search rules) add-result (λ c κs. search rules) returns returns-2 returns-3)

@@ -11,5 +11,5 @@ returns-2 : tie.Need-returns-2
 returns-2 c = let a = c.before.before.args in ap (λ (n : ℕ). n / 2 + n % 2) c.divide.ensures
     ∙ nearest-digit a.a a.s c.before.if1.false
 
-pub nearest-spec : {M : Type 1} → statement M
-nearest-spec = tie.close (tie.spec returns (λ c. search rules) (λ c κs. search rules) (λ c. search rules) returns-2)
+pub nearest_spec : {M : Type 1} → statement M
+nearest_spec = tie.close (tie.spec returns (λ c. search rules) (λ c κs. search rules) (λ c. search rules) returns-2)

@@ -6,5 +6,5 @@ use Rattle.float.proofs.sqrt.correctly_rounded.Tie as tie
 returns : tie.Need-returns
 returns c = correctly-rounded
 
-pub correctly-rounded-spec : {M : Type 1} → statement M
-correctly-rounded-spec = tie.close (tie.spec returns)
+pub correctly_rounded_spec : {M : Type 1} → statement M
+correctly_rounded_spec = tie.close (tie.spec returns)

@@ -31,8 +31,8 @@ returns c =
     c.from-bits.ensures
     ∙ root-bits a.significand a.exponent z.result.radicand z.result.shift c.before.whole-root.result z.ensures i
 
-pub positive-root-spec : {M : Type 1} → statement M
-positive-root-spec =
+pub positive_root_spec : {M : Type 1} → statement M
+positive_root_spec =
     tie.close
     (tie.spec
     (λ c. search rules)

@@ -37,8 +37,8 @@ returns c =
     let l = c.before.loop in
     done s.args.significand s.args.exponent s.requires l.radicand l.shift l.invariant c.loop-test.false
 
-pub scale-spec : {M : Type 1} → statement M
-scale-spec =
+pub scale_spec : {M : Type 1} → statement M
+scale_spec =
     tie.close
     (tie.spec
     invariant-loop

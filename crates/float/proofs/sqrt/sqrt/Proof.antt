@@ -50,8 +50,8 @@ returns-positive c =
     let some = c.before.before in
     c.positive-root.ensures ∙ finite-positive (parts some.before) some.if2.false c.before.if3.false
 
-pub sqrt-spec : {M : Type 1} → statement M
-sqrt-spec =
+pub sqrt_spec : {M : Type 1} → statement M
+sqrt_spec =
     tie.close
     (tie.spec
     (λ c κs. search rules)

@@ -27,6 +27,6 @@ returns-4 c =
     let a = c.before.before.args in
     beyond-positive a.negative a.size a.max c.before.if1.false c.if3.false
 
-pub in-range-spec : {M : Type 1} → statement M
-in-range-spec =
+pub in_range_spec : {M : Type 1} → statement M
+in_range_spec =
     tie.close (tie.spec (λ c. search rules) (λ c. search rules) sub-t11 (λ c. search rules) returns returns-2 returns-3 returns-4)

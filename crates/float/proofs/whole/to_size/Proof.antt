@@ -39,7 +39,7 @@ returns-out c =
     let a = w.before.args in
     size-out a.max a.x (sym c.enum_told.given.1 ∙ w.to_whole.ensures)
 
-pub to-size-spec : {M : Type 1} → statement M
-to-size-spec =
+pub to_size_spec : {M : Type 1} → statement M
+to_size_spec =
     tie.close
     (tie.spec (λ c κs. search rules) (λ c. search rules) cast-t9 (λ c. search rules) returns-size returns-none returns-out)

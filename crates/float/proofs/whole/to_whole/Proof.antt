@@ -36,8 +36,8 @@ returns-large c =
     let s = (decoded c.before).before in
     whole-large (parts c.before) s.args.rounding s.args.max s.fits.max.fits c.if1.false
 
-pub to-whole-spec : {M : Type 1} → statement M
-to-whole-spec =
+pub to_whole_spec : {M : Type 1} → statement M
+to_whole_spec =
     tie.close
     (tie.spec
     (λ c κs. search rules)

@@ -33,8 +33,8 @@ returns-5 : tie.Need-returns-5
 returns-5 c = let small = c.before.before.before in
     divided small Up c.before.enum-told4.given.1 c.divide3.ensures
 
-pub whole-size-spec : {M : Type 1} → statement M
-whole-size-spec =
+pub whole_size_spec : {M : Type 1} → statement M
+whole_size_spec =
     tie.close
     (tie.spec
     (λ c. search rules)

@@ -10,8 +10,8 @@ invariant-loop area sp i₀ i = i ≤ sp
 abbrev decreases-loop : tie.decreases-loop
 decreases-loop area sp i₀ i = sp - i
 
-pub print-bytes-spec : {M : Type 1} → statement M
-print-bytes-spec =
+pub print_bytes_spec : {M : Type 1} → statement M
+print_bytes_spec =
     tie.close
     (tie.spec
     invariant-loop

@@ -12,8 +12,8 @@ invariant-loop disc₀ area₀ count₀ disc area count = (count ≤ 1000) × (l
 abbrev decreases-loop : tie.decreases-loop
 decreases-loop disc₀ area₀ count₀ disc area count = 1000 - count
 
-pub rounds-spec : {M : Type 1} → statement M
-rounds-spec =
+pub rounds_spec : {M : Type 1} → statement M
+rounds_spec =
     tie.close
     (tie.spec
     invariant-loop

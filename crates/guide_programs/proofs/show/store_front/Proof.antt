@@ -4,8 +4,8 @@ use Rattle.io.proofs.Counting.{length-take_of_le}
 use Rattle.guide_programs.proofs.show.store_front.Statement.{statement}
 use Rattle.guide_programs.proofs.show.store_front.Tie as tie
 
-pub store-front-spec : {M : Type 1} → statement M
-store-front-spec =
+pub store_front_spec : {M : Type 1} → statement M
+store_front_spec =
     tie.close
     (tie.spec
     (λ c. search rules)

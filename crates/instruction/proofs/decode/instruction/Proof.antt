@@ -21,8 +21,8 @@ returns-4 : tie.Need-returns-4
 unfolding instructionOf
 returns-4 c = let k = c.before in rw (sym k.before.before.operator.ensures ∙ k.enum_told.given.1) c.other.ensures
 
-pub instruction-spec : {M : Type 1} → statement M
-instruction-spec =
+pub instruction_spec : {M : Type 1} → statement M
+instruction_spec =
     tie.close
     (tie.spec
     (λ c κs. search rules)

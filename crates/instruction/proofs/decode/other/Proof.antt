@@ -5,9 +5,9 @@ use Rattle.machine.proofs.Instructions.Numbering.{absent}
 use Rattle.instruction.proofs.decode.other.Statement.{statement}
 use Rattle.instruction.proofs.decode.other.Tie as tie
 
-pub other-spec : {M : Type 1} → statement M
+pub other_spec : {M : Type 1} → statement M
 unfolding find
-other-spec =
+other_spec =
     tie.close
     (tie.spec
     (λ c. rw c.match.keys1)

@@ -28,8 +28,8 @@ returns-2 c =
     let a = (start i.before.before).args in
     rw (lt-ltb a.at (length a.code.now) (omega arith), ← i.instruction.ensures) c.perform.ensures
 
-pub execute-spec : {M : Type 1} → statement M
-execute-spec =
+pub execute_spec : {M : Type 1} → statement M
+execute_spec =
     tie.close
     (tie.spec
     (λ c κs. search rules)

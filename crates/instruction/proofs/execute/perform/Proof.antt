@@ -12,9 +12,9 @@ stopped c = let known = c.before.before in known.before.before.before
 abbrev unknown : tie.After-enum-told12 → tie.Start
 unknown c = let known = c.before.before in known.before.before.before
 
-pub perform-spec : {M : Type 1} → statement M
+pub perform_spec : {M : Type 1} → statement M
 unfolding performs
-perform-spec =
+perform_spec =
     tie.close
     (tie.spec
     (λ c. search rules)

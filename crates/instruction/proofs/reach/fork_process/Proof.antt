@@ -41,8 +41,8 @@ returns-2 c =
     let k = c.before.before in
     value-faults AnyString _ k.before.before.top-value.ensures k.fault.given.1 _ c.last_step.ensures _
 
-pub fork-process-spec : {M : Type 1} → statement M
-fork-process-spec =
+pub fork_process_spec : {M : Type 1} → statement M
+fork_process_spec =
     tie.close
     (tie.spec
     (λ c κs. search rules)

@@ -92,8 +92,8 @@ returns-3 c =
     let f = c.before.before in
     number-faults AnyNumber _ f.before.before.top-number.ensures f.fault2.given.1 _ c.last-step2.ensures _
 
-pub open-file-spec : {M : Type 1} → statement M
-open-file-spec =
+pub open_file_spec : {M : Type 1} → statement M
+open_file_spec =
     tie.close
     (tie.spec
     (λ c κs. search rules)

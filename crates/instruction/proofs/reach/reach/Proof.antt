@@ -24,8 +24,8 @@ returns-6 c = rw c.before.enum-told5.given.1 c.fork-process.ensures
 returns-7 : tie.Need-returns-7
 returns-7 c = rw c.before.enum-told6.given.1 c.wait.ensures
 
-pub reach-spec : {M : Type 1} → statement M
-reach-spec =
+pub reach_spec : {M : Type 1} → statement M
+reach_spec =
     tie.close
     (tie.spec
     (λ c. search rules)

@@ -30,8 +30,8 @@ returns-2 c =
     let k = c.before.before in
     value-faults AnyValue _ k.before.before.top-value.ensures k.fault.given.1 _ c.last_step.ensures _
 
-pub write-file-spec : {M : Type 1} → statement M
-write-file-spec =
+pub write_file_spec : {M : Type 1} → statement M
+write_file_spec =
     tie.close
     (tie.spec
     (λ c κs. search rules)

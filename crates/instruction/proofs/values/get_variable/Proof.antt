@@ -95,8 +95,8 @@ returns-3 c =
     let none = find-own-none (table s) (name s) s.args.owner noCell (sym l.find-in.ensures ∙ k.enum_told.given.1) in
     rw (le-leb _ _ (fits (named l)), none) (last-means s.args.stack.now c.last-step2.ensures)
 
-pub get-variable-spec : {M : Type 1} → statement M
-get-variable-spec =
+pub get_variable_spec : {M : Type 1} → statement M
+get_variable_spec =
     tie.close
     (tie.spec
     (λ c. search rules)

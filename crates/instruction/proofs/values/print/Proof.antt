@@ -71,8 +71,8 @@ returns-2 c =
     let k = c.before.before in
     value-faults AnyValue _ k.before.before.top-value.ensures k.fault.given.1 _ c.last_step.ensures _
 
-pub print-spec : {M : Type 1} → statement M
-print-spec =
+pub print_spec : {M : Type 1} → statement M
+print_spec =
     tie.close
     (tie.spec
     (λ c κs. search rules)

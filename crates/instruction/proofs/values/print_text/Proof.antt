@@ -9,8 +9,8 @@ returns c = rw c.before.before.if1.true c.with-bytes.ensures
 returns-2 : tie.Need-returns-2
 returns-2 c = rw c.before.before.if1.false c.with-bytes2.ensures
 
-pub print-text-spec : {M : Type 1} → statement M
-print-text-spec =
+pub print_text_spec : {M : Type 1} → statement M
+print_text_spec =
     tie.close
     (tie.spec
     (λ c. search rules)

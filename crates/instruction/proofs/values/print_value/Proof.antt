@@ -77,8 +77,8 @@ returns-2 c =
     let n = number w in
     rw (ne_eqb _ _ n.before.if1.left, ← n.number_of_lem.ensures, ← (written w).text) c.print-text2.ensures
 
-pub print-value-spec : {M : Type 1} → statement M
-print-value-spec =
+pub print_value_spec : {M : Type 1} → statement M
+print_value_spec =
     tie.close
     (tie.spec
     (λ c κs. search rules)

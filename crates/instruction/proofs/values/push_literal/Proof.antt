@@ -43,8 +43,8 @@ returns-2 c =
     (rw (take-length a.stack.now, part-to a.code.now (a.at + 1) w.wide.result) at c.push-bytes.ensures)
     (ap (pushed (start w)) w.wide.ensures))
 
-pub push-literal-spec : {M : Type 1} → statement M
-push-literal-spec =
+pub push_literal_spec : {M : Type 1} → statement M
+push_literal_spec =
     tie.close
     (tie.spec
     (λ c. search rules)

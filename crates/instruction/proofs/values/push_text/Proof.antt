@@ -56,8 +56,8 @@ returns-2 c =
     rw (measured t, le-leb _ _ h)
     (rw (take-length a.stack.now, part-to a.code.now (a.at + 1) (n + 1), pushed t h) at c.push-item.ensures)
 
-pub push-text-spec : {M : Type 1} → statement M
-push-text-spec =
+pub push_text_spec : {M : Type 1} → statement M
+push_text_spec =
     tie.close
     (tie.spec
     (λ c. search rules)

@@ -50,8 +50,8 @@ returns-3 c =
     let p = k.before.before in
     rw (le-leb _ _ (fits p.before)) (value-faults AnyValue _ p.top-value.ensures k.fault.given.1 _ c.last-step2.ensures _)
 
-pub set-variable-spec : {M : Type 1} → statement M
-set-variable-spec =
+pub set_variable_spec : {M : Type 1} → statement M
+set_variable_spec =
     tie.close
     (tie.spec
     (λ c. search rules)

@@ -10,8 +10,8 @@ invariant-loop last code₀ i₀ code i = i ≤ 25
 abbrev decreases-loop : tie.decreases-loop
 decreases-loop last code₀ i₀ code i = 25 - i
 
-pub setting-spec : {M : Type 1} → statement M
-setting-spec =
+pub setting_spec : {M : Type 1} → statement M
+setting_spec =
     tie.close
     (tie.spec
     invariant-loop

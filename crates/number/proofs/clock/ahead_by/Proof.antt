@@ -4,8 +4,8 @@ use Rattle.number.proofs.Ahead.{ahead-reads}
 use Rattle.number.proofs.clock.ahead_by.Statement.{statement}
 use Rattle.number.proofs.clock.ahead_by.Tie as tie
 
-pub ahead-by-spec : {M : Type 1} → statement M
-ahead-by-spec =
+pub ahead_by_spec : {M : Type 1} → statement M
+ahead_by_spec =
     tie.close
     (tie.spec
     (λ c κs. search rules)

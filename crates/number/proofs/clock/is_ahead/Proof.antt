@@ -4,8 +4,8 @@ use Rattle.integer.proofs.Representation.{widened, widens}
 use Rattle.number.proofs.clock.is_ahead.Statement.{statement}
 use Rattle.number.proofs.clock.is_ahead.Tie as tie
 
-pub is-ahead-spec : {M : Type 1} → statement M
-is-ahead-spec =
+pub is_ahead_spec : {M : Type 1} → statement M
+is_ahead_spec =
     tie.close
     (tie.spec
     (λ c. search rules)

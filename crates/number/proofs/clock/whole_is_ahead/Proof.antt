@@ -3,8 +3,8 @@ use Rattle.std.proofs.Common.{to_z-of_z, rules}
 use Rattle.number.proofs.clock.whole_is_ahead.Statement.{statement}
 use Rattle.number.proofs.clock.whole_is_ahead.Tie as tie
 
-pub whole-is-ahead-spec : {M : Type 1} → statement M
-whole-is-ahead-spec =
+pub whole_is_ahead_spec : {M : Type 1} → statement M
+whole_is_ahead_spec =
     tie.close
     (tie.spec
     (λ c κs. search rules)

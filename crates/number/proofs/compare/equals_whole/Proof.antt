@@ -5,8 +5,8 @@ use Rattle.number.proofs.Operands.{equal-widened}
 use Rattle.number.proofs.compare.equals_whole.Statement.{statement}
 use Rattle.number.proofs.compare.equals_whole.Tie as tie
 
-pub equals-whole-spec : {M : Type 1} → statement M
-equals-whole-spec =
+pub equals_whole_spec : {M : Type 1} → statement M
+equals_whole_spec =
     tie.close
     (tie.spec
     (λ c. search rules)

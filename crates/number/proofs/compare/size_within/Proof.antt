@@ -5,8 +5,8 @@ use Rattle.integer.proofs.Representation.{widened, widens}
 use Rattle.number.proofs.compare.size_within.Statement.{statement}
 use Rattle.number.proofs.compare.size_within.Tie as tie
 
-pub size-within-spec : {M : Type 1} → statement M
-size-within-spec =
+pub size_within_spec : {M : Type 1} → statement M
+size_within_spec =
     tie.close
     (tie.spec
     (λ c. search rules)

@@ -4,8 +4,8 @@ use Rattle.number.proofs.Sizes.{size-refused-low, size-refused-high, size_is, si
 use Rattle.number.proofs.compare.whole_size.Statement.{statement}
 use Rattle.number.proofs.compare.whole_size.Tie as tie
 
-pub whole-size-spec : {M : Type 1} → statement M
-whole-size-spec =
+pub whole_size_spec : {M : Type 1} → statement M
+whole_size_spec =
     tie.close
     (tie.spec
     (λ c. size-refused-low c.before.args.max c.before.ranges.max c.before.args.z c.before.ranges.z c.if1.true)

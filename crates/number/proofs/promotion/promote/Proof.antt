@@ -6,8 +6,8 @@ use Rattle.integer.proofs.Representation.{widened, widens}
 use Rattle.number.proofs.promotion.promote.Statement.{statement}
 use Rattle.number.proofs.promotion.promote.Tie as tie
 
-pub promote-spec : {M : Type 1} → statement M
-promote-spec =
+pub promote_spec : {M : Type 1} → statement M
+promote_spec =
     tie.close
     (tie.spec
     (λ c. search rules)

@@ -3,8 +3,8 @@ use Rattle.std.proofs.Common.{rules}
 use Rattle.number.proofs.promotion.second_of.Statement.{statement}
 use Rattle.number.proofs.promotion.second_of.Tie as tie
 
-pub second-of-spec : {M : Type 1} → statement M
-second-of-spec =
+pub second_of_spec : {M : Type 1} → statement M
+second_of_spec =
     tie.close
     (tie.spec
     (λ c. search rules)

@@ -4,8 +4,8 @@ use Rattle.float.proofs.Hundredths.{hundredths-bound}
 use Rattle.number.proofs.text.float_text.Statement.{statement}
 use Rattle.number.proofs.text.float_text.Tie as tie
 
-pub float-text-spec : {M : Type 1} → statement M
-float-text-spec =
+pub float_text_spec : {M : Type 1} → statement M
+float_text_spec =
     tie.close
     (tie.spec
     (λ c κs. search rules)

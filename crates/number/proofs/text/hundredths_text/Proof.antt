@@ -5,8 +5,8 @@ use Rattle.number.specs.Text.{sign, laid}
 use Rattle.number.proofs.text.hundredths_text.Statement.{statement}
 use Rattle.number.proofs.text.hundredths_text.Tie as tie
 
-pub hundredths-text-spec : {M : Type 1} → statement M
-hundredths-text-spec =
+pub hundredths_text_spec : {M : Type 1} → statement M
+hundredths_text_spec =
     tie.close
     (tie.spec
     (λ c κs. search rules)

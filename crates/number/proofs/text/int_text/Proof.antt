@@ -4,8 +4,8 @@ use Rattle.number.proofs.Texts.{whole-text-laid}
 use Rattle.number.proofs.text.int_text.Statement.{statement}
 use Rattle.number.proofs.text.int_text.Tie as tie
 
-pub int-text-spec : {M : Type 1} → statement M
-int-text-spec =
+pub int_text_spec : {M : Type 1} → statement M
+int_text_spec =
     tie.close
     (tie.spec
     (λ c κs. search rules)

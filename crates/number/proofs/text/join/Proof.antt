@@ -8,8 +8,8 @@ use Rattle.number.proofs.text.join.Tie as tie
 abbrev start : tie.After-overwrite-at → tie.Start
 start c = let lent = c.before.before in lent.before.before.before
 
-pub join-spec : {M : Type 1} → statement M
-join-spec =
+pub join_spec : {M : Type 1} → statement M
+join_spec =
     tie.close
     (tie.spec
     (λ c. search rules)

@@ -4,8 +4,8 @@ use Rattle.number.proofs.Signs.{size-of-negative, size-of-nonnegative}
 use Rattle.number.proofs.text.magnitude.Statement.{statement}
 use Rattle.number.proofs.text.magnitude.Tie as tie
 
-pub magnitude-spec : {M : Type 1} → statement M
-magnitude-spec =
+pub magnitude_spec : {M : Type 1} → statement M
+magnitude_spec =
     tie.close
     (tie.spec
     (λ c κs. search rules)

@@ -3,8 +3,8 @@ use Rattle.std.proofs.Common.{rules}
 use Rattle.number.proofs.text.signed.Statement.{statement}
 use Rattle.number.proofs.text.signed.Tie as tie
 
-pub signed-spec : {M : Type 1} → statement M
-signed-spec =
+pub signed_spec : {M : Type 1} → statement M
+signed_spec =
     tie.close
     (tie.spec
     (λ c. search rules)

@@ -6,8 +6,8 @@ use Rattle.number.specs.Text.{sign, laid}
 use Rattle.number.proofs.text.signed_decimal.Statement.{statement}
 use Rattle.number.proofs.text.signed_decimal.Tie as tie
 
-pub signed-decimal-spec : {M : Type 1} → statement M
-signed-decimal-spec =
+pub signed_decimal_spec : {M : Type 1} → statement M
+signed_decimal_spec =
     tie.close
     (tie.spec
     (λ c κs. search rules)

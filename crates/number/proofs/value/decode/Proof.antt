@@ -5,9 +5,9 @@ use Rattle.number.specs.declared.Number.TheVariants.{Char, Int, Float}
 use Rattle.number.proofs.value.decode.Statement.{statement}
 use Rattle.number.proofs.value.decode.Tie as tie
 
-pub decode-spec : {M : Type 1} → statement M
+pub decode_spec : {M : Type 1} → statement M
 unfolding number_of
-decode-spec =
+decode_spec =
     tie.close
     (tie.spec
     (λ c κs. search rules)

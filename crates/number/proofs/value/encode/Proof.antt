@@ -4,9 +4,9 @@ use Rattle.number.specs.Value.{encoded}
 use Rattle.number.proofs.value.encode.Statement.{statement}
 use Rattle.number.proofs.value.encode.Tie as tie
 
-pub encode-spec : {M : Type 1} → statement M
+pub encode_spec : {M : Type 1} → statement M
 unfolding encoded
-encode-spec =
+encode_spec =
     tie.close
     (tie.spec
     (λ c. search rules)

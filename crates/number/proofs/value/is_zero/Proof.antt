@@ -4,8 +4,8 @@ use Rattle.number.proofs.Operands.{equal-zero}
 use Rattle.number.proofs.value.is_zero.Statement.{statement}
 use Rattle.number.proofs.value.is_zero.Tie as tie
 
-pub is-zero-spec : {M : Type 1} → statement M
-is-zero-spec =
+pub is_zero_spec : {M : Type 1} → statement M
+is_zero_spec =
     tie.close
     (tie.spec
     (λ c. search rules)

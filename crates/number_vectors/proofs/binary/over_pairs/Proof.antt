@@ -9,8 +9,8 @@ invariant-loop o first second grid t₀ i₀ t i = Unit
 abbrev decreases-loop : tie.decreases-loop
 decreases-loop o first second grid t₀ i₀ t i = 200 - i
 
-pub over-pairs-spec : {M : Type 1} → statement M
-over-pairs-spec =
+pub over_pairs_spec : {M : Type 1} → statement M
+over_pairs_spec =
     tie.close
     (tie.spec
     invariant-loop

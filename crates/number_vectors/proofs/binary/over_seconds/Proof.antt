@@ -9,8 +9,8 @@ invariant-loop o a second grid t₀ i₀ t i = Unit
 abbrev decreases-loop : tie.decreases-loop
 decreases-loop o a second grid t₀ i₀ t i = 200 - i
 
-pub over-seconds-spec : {M : Type 1} → statement M
-over-seconds-spec =
+pub over_seconds_spec : {M : Type 1} → statement M
+over_seconds_spec =
     tie.close
     (tie.spec
     invariant-loop

@@ -9,8 +9,8 @@ invariant-loop t₀ n₀ t n = Unit
 abbrev decreases-loop : tie.decreases-loop
 decreases-loop t₀ n₀ t n = 16777216 - n
 
-pub over-chars-spec : {M : Type 1} → statement M
-over-chars-spec =
+pub over_chars_spec : {M : Type 1} → statement M
+over_chars_spec =
     tie.close
     (tie.spec
     invariant-loop

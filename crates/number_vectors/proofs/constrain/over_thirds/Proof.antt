@@ -9,8 +9,8 @@ invariant-loop x a third grid t₀ i₀ t i = Unit
 abbrev decreases-loop : tie.decreases-loop
 decreases-loop x a third grid t₀ i₀ t i = 200 - i
 
-pub over-thirds-spec : {M : Type 1} → statement M
-over-thirds-spec =
+pub over_thirds_spec : {M : Type 1} → statement M
+over_thirds_spec =
     tie.close
     (tie.spec
     invariant-loop

@@ -9,8 +9,8 @@ invariant-loop first second third grid t₀ i₀ t i = Unit
 abbrev decreases-loop : tie.decreases-loop
 decreases-loop first second third grid t₀ i₀ t i = 200 - i
 
-pub over-triples-spec : {M : Type 1} → statement M
-over-triples-spec =
+pub over_triples_spec : {M : Type 1} → statement M
+over_triples_spec =
     tie.close
     (tie.spec
     invariant-loop

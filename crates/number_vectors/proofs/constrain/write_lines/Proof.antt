@@ -9,8 +9,8 @@ invariant-loop instruction grid line₀ line = Unit
 abbrev decreases-loop : tie.decreases-loop
 decreases-loop instruction grid line₀ line = 27 - line
 
-pub write-lines-spec : {M : Type 1} → statement M
-write-lines-spec =
+pub write_lines_spec : {M : Type 1} → statement M
+write_lines_spec =
     tie.close
     (tie.spec
     invariant-loop

@@ -9,8 +9,8 @@ invariant-loop kinds grid t₀ draw₀ i₀ t draw i = Unit
 abbrev decreases-loop : tie.decreases-loop
 decreases-loop kinds grid t₀ draw₀ i₀ t draw i = 4096 - i
 
-pub over-draws-spec : {M : Type 1} → statement M
-over-draws-spec =
+pub over_draws_spec : {M : Type 1} → statement M
+over_draws_spec =
     tie.close
     (tie.spec
     invariant-loop

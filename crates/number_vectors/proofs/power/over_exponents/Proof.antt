@@ -9,8 +9,8 @@ invariant-loop x second t₀ k₀ t k = Unit
 abbrev decreases-loop : tie.decreases-loop
 decreases-loop x second t₀ k₀ t k = 24 - k
 
-pub over-exponents-spec : {M : Type 1} → statement M
-over-exponents-spec =
+pub over_exponents_spec : {M : Type 1} → statement M
+over_exponents_spec =
     tie.close
     (tie.spec
     invariant-loop

@@ -9,8 +9,8 @@ invariant-loop second grid t₀ i₀ t i = Unit
 abbrev decreases-loop : tie.decreases-loop
 decreases-loop second grid t₀ i₀ t i = 200 - i
 
-pub over-floats-spec : {M : Type 1} → statement M
-over-floats-spec =
+pub over_floats_spec : {M : Type 1} → statement M
+over_floats_spec =
     tie.close
     (tie.spec
     invariant-loop

@@ -9,8 +9,8 @@ invariant-loop first second end t₀ bits₀ t bits = Unit
 abbrev decreases-loop : tie.decreases-loop
 decreases-loop first second end t₀ bits₀ t bits = end - bits
 
-pub over-wholes-spec : {M : Type 1} → statement M
-over-wholes-spec =
+pub over_wholes_spec : {M : Type 1} → statement M
+over_wholes_spec =
     tie.close
     (tie.spec
     invariant-loop

@@ -9,8 +9,8 @@ invariant-loop start bytes len sum₀ i₀ sum i = Unit
 abbrev decreases-loop : tie.decreases-loop
 decreases-loop start bytes len sum₀ i₀ sum i = 16 - i
 
-pub checksum-prefix-spec : {M : Type 1} → statement M
-checksum-prefix-spec =
+pub checksum_prefix_spec : {M : Type 1} → statement M
+checksum_prefix_spec =
     tie.close
     (tie.spec
     invariant-loop

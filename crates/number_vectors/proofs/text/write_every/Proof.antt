@@ -9,8 +9,8 @@ invariant-loop kind end sum₀ bits₀ t5 sum bits = Unit
 abbrev decreases-loop : tie.decreases-loop
 decreases-loop kind end sum₀ bits₀ t5 sum bits = end - bits
 
-pub write-every-spec : {M : Type 1} → statement M
-write-every-spec =
+pub write_every_spec : {M : Type 1} → statement M
+write_every_spec =
     tie.close
     (tie.spec
     invariant-loop

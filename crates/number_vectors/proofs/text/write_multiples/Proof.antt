@@ -9,8 +9,8 @@ invariant-loop k₀ k = Unit
 abbrev decreases-loop : tie.decreases-loop
 decreases-loop k₀ k = 65 - k
 
-pub write-multiples-spec : {M : Type 1} → statement M
-write-multiples-spec =
+pub write_multiples_spec : {M : Type 1} → statement M
+write_multiples_spec =
     tie.close
     (tie.spec
     invariant-loop

@@ -6,8 +6,8 @@ use Rattle.number_vectors.proofs.text.write_prefix.Tie as tie
 slice-aggregate-write-all : tie.Need-slice-aggregate-write-all
 slice-aggregate-write-all c = simp length-take (omega arith)
 
-pub write-prefix-spec : {M : Type 1} → statement M
-write-prefix-spec =
+pub write_prefix_spec : {M : Type 1} → statement M
+write_prefix_spec =
     tie.close
     (tie.spec
     slice-aggregate-write-all

@@ -9,8 +9,8 @@ invariant-loop kind grid i₀ i = Unit
 abbrev decreases-loop : tie.decreases-loop
 decreases-loop kind grid i₀ i = 200 - i
 
-pub write-type-spec : {M : Type 1} → statement M
-write-type-spec =
+pub write_type_spec : {M : Type 1} → statement M
+write_type_spec =
     tie.close
     (tie.spec
     invariant-loop

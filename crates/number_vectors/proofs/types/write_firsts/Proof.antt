@@ -9,8 +9,8 @@ invariant-loop n₀ n = Unit
 abbrev decreases-loop : tie.decreases-loop
 decreases-loop n₀ n = 256 - n
 
-pub write-firsts-spec : {M : Type 1} → statement M
-write-firsts-spec =
+pub write_firsts_spec : {M : Type 1} → statement M
+write_firsts_spec =
     tie.close
     (tie.spec
     invariant-loop

@@ -9,8 +9,8 @@ invariant-loop instruction last place₀ place = Unit
 abbrev decreases-loop : tie.decreases-loop
 decreases-loop instruction last place₀ place = last - place
 
-pub write-others-spec : {M : Type 1} → statement M
-write-others-spec =
+pub write_others_spec : {M : Type 1} → statement M
+write_others_spec =
     tie.close
     (tie.spec
     invariant-loop

@@ -9,8 +9,8 @@ invariant-loop instruction place kind₀ t4 kind = Unit
 abbrev decreases-loop : tie.decreases-loop
 decreases-loop instruction place kind₀ t4 kind = 6 - kind
 
-pub write-types-spec : {M : Type 1} → statement M
-write-types-spec =
+pub write_types_spec : {M : Type 1} → statement M
+write_types_spec =
     tie.close
     (tie.spec
     invariant-loop

@@ -10,8 +10,8 @@ use Rattle.operation.proofs.checks.check.Tie as tie
 told : {r case t : Tested} → r ≡ case → r ≡ t → usable case ≡ usable t
 told e h = ap usable (sym e ∙ h)
 
-pub check-spec : {M : Type 1} → statement M
-check-spec =
+pub check_spec : {M : Type 1} → statement M
+check_spec =
     tie.close
     (tie.spec
     (λ c κs. search rules)

@@ -78,8 +78,8 @@ returns-3 c out =
     (put.put_back.ensures
     ∙ ap (λ (q : Process). kernelBytes (withProcess (kernel t) f.slot.given.0.0 (withState q (state t)))) p.process-at.ensures))
 
-pub change-state-spec : {M : Type 1} → statement M
-change-state-spec =
+pub change_state_spec : {M : Type 1} → statement M
+change_state_spec =
     tie.close
     (tie.spec
     (λ c κs. area-size (start c).requires)

@@ -56,8 +56,8 @@ returns-2 c out =
     let t = sought f in
     ap (λ (l : List ℕ). answered (Done 0) (disc t) l out) done.finish.ensures ∙ ap (ending t out) (sym (found f))
 
-pub end-by-id-spec : {M : Type 1} → statement M
-end-by-id-spec =
+pub end_by_id_spec : {M : Type 1} → statement M
+end_by_id_spec =
     tie.close
     (tie.spec
     (λ c κs. area-size (start c).requires)

@@ -6,8 +6,8 @@ use Rattle.operation.proofs.FirstTests.{first-passed}
 use Rattle.operation.proofs.commands.kill.Statement.{statement}
 use Rattle.operation.proofs.commands.kill.Tie as tie
 
-pub kill-spec : {M : Type 1} → statement M
-kill-spec =
+pub kill_spec : {M : Type 1} → statement M
+kill_spec =
     tie.close
     (tie.spec
     (λ c κs. search rules)

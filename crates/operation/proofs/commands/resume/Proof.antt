@@ -6,8 +6,8 @@ use Rattle.operation.proofs.FirstTests.{first-passed}
 use Rattle.operation.proofs.commands.resume.Statement.{statement}
 use Rattle.operation.proofs.commands.resume.Tie as tie
 
-pub resume-spec : {M : Type 1} → statement M
-resume-spec =
+pub resume_spec : {M : Type 1} → statement M
+resume_spec =
     tie.close
     (tie.spec
     (λ c κs. search rules)

@@ -88,8 +88,8 @@ returns-4 c out =
     (put.put_back.ensures
     ∙ ap (λ (q : Process). kernelBytes (withProcess (kernel t) f.slot.given.0.0 (withShare q (turns t)))) p.process-at.ensures))
 
-pub set-share-spec : {M : Type 1} → statement M
-set-share-spec =
+pub set_share_spec : {M : Type 1} → statement M
+set_share_spec =
     tie.close
     (tie.spec
     (λ c κs. area-size (start c).requires)

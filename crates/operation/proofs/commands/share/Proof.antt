@@ -5,8 +5,8 @@ use Rattle.operation.proofs.FirstTests.{first-passed}
 use Rattle.operation.proofs.commands.share.Statement.{statement}
 use Rattle.operation.proofs.commands.share.Tie as tie
 
-pub share-spec : {M : Type 1} → statement M
-share-spec =
+pub share_spec : {M : Type 1} → statement M
+share_spec =
     tie.close
     (tie.spec
     (λ c κs. search rules)

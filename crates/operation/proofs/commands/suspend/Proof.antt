@@ -6,8 +6,8 @@ use Rattle.operation.proofs.FirstTests.{first-passed}
 use Rattle.operation.proofs.commands.suspend.Statement.{statement}
 use Rattle.operation.proofs.commands.suspend.Tie as tie
 
-pub suspend-spec : {M : Type 1} → statement M
-suspend-spec =
+pub suspend_spec : {M : Type 1} → statement M
+suspend_spec =
     tie.close
     (tie.spec
     (λ c κs. search rules)

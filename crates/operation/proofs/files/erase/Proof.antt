@@ -16,8 +16,8 @@ done c out =
     let u = d.before.before in
     first_done _ _ u.before.before.check.ensures u.enum_told.given.1 out (d.erase-file.ensures out)
 
-pub erase-spec : {M : Type 1} → statement M
-erase-spec =
+pub erase_spec : {M : Type 1} → statement M
+erase_spec =
     tie.close
     (tie.spec
     (λ c κs. search rules)

@@ -73,8 +73,8 @@ returns-3 c out =
     rw (sym t.find.ensures ∙ f.i.given.1, tested free.before ∙ free.if1.false)
     (ap (λ (l : List ℕ). answered (Done 0) l (area t) out) done.erase-entry.ensures)
 
-pub erase-file-spec : {M : Type 1} → statement M
-erase-file-spec =
+pub erase_file_spec : {M : Type 1} → statement M
+erase_file_spec =
     tie.close
     (tie.spec
     (λ c κs. disc-readable (start c).requires)

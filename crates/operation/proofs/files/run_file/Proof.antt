@@ -85,8 +85,8 @@ returns-3 c out = answers c.before.before out c.enum-told2.given.1
 returns-4 : tie.Need-returns-4
 returns-4 c out = answers c.before.before out c.enum-told3.given.1
 
-pub run-file-spec : {M : Type 1} → statement M
-run-file-spec =
+pub run_file_spec : {M : Type 1} → statement M
+run_file_spec =
     tie.close
     (tie.spec
     (λ c κs. (disc-readable (start c).requires, area-size (start c).requires))

@@ -20,5 +20,5 @@ returns-2 c disc out =
     let cleared = c.before.before in
     rw (eq-eqb _ _ cleared.before.before.if1.false) (ap (λ (l : List ℕ). answered (Done 0) disc l out) cleared.clear-area.ensures)
 
-pub boot-spec : {M : Type 1} → statement M
-boot-spec = tie.close (tie.spec returns (λ c κs. search rules) (λ c. search rules) returns-2)
+pub boot_spec : {M : Type 1} → statement M
+boot_spec = tie.close (tie.spec returns (λ c κs. search rules) (λ c. search rules) returns-2)

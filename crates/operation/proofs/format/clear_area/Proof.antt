@@ -14,5 +14,5 @@ returns c =
     let s = filled.before.before.before in
     ap (λ (l : List ℕ). set l next_at 1) (filled.fill-zeros.ensures ∙ ap (λ (n : ℕ). replicate n 0) s.requires)
 
-pub clear-area-spec : {M : Type 1} → statement M
-clear-area-spec = tie.close (tie.spec (λ c κs. search rules) (λ c. search rules) (λ c. search rules) returns)
+pub clear_area_spec : {M : Type 1} → statement M
+clear_area_spec = tie.close (tie.spec (λ c κs. search rules) (λ c. search rules) (λ c. search rules) returns)

@@ -32,8 +32,8 @@ returns c =
     let n : length c.before.before.args.bytes.now ≡ l.i = omega arith in
     rw n (sym (take_all l.i l.bytes (omega arith)) ∙ l.invariant.2)
 
-pub fill-zeros-spec : {M : Type 1} → statement M
-fill-zeros-spec =
+pub fill_zeros_spec : {M : Type 1} → statement M
+fill_zeros_spec =
     tie.close
     (tie.spec
     invariant-loop

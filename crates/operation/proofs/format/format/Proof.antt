@@ -43,8 +43,8 @@ returns-3 c out =
     rw (disc-long l.before, eq-eqb _ _ l.if2.left)
     (ap₂ (λ (d a : List ℕ). answered (Done 0) d a out) f.fill-zeros.ensures cleared.clear-area.ensures)
 
-pub format-spec : {M : Type 1} → statement M
-format-spec =
+pub format_spec : {M : Type 1} → statement M
+format_spec =
     tie.close
     (tie.spec
     (λ c κs. search rules)

@@ -58,8 +58,8 @@ returns-2 c =
     let q = p (tested r) in
     omega (arith, ap length (live-line q (alive r)), process-line-long q, named c, ap (λ (n : ℕ). length (decimal n)) r.word-at.ensures)
 
-pub line-length-spec : {M : Type 1} → statement M
-line-length-spec =
+pub line_length_spec : {M : Type 1} → statement M
+line_length_spec =
     tie.close
     (tie.spec
     (λ c κs. search rules)

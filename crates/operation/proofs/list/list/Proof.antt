@@ -70,8 +70,8 @@ returns-3 c =
     (omega (arith, w.list_length.ensures))
     (ap₂ (λ (m : ℕ) (l : List ℕ). answered (Done m) a.disc.now a.area.now l) n put.put-list.ensures.bytes)
 
-pub list-spec : {M : Type 1} → statement M
-list-spec =
+pub list_spec : {M : Type 1} → statement M
+list_spec =
     tie.close
     (tie.spec
     (λ c κs. search rules)

@@ -38,8 +38,8 @@ returns c =
     let l = c.before in
     counted-all _ _ _ l.loop.invariant (omega arith) ∙ ap length (live-lines (start l).args.area.now)
 
-pub list-length-spec : {M : Type 1} → statement M
-list-length-spec =
+pub list_length_spec : {M : Type 1} → statement M
+list_length_spec =
     tie.close
     (tie.spec
     invariant-loop

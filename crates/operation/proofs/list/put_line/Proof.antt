@@ -101,8 +101,8 @@ returns-2 c =
     (rw (ap decimal r.word-at.ensures) at d.put-decimal.ensures) t.put-bytes.ensures n.put-name.ensures
     w.put-bytes2.ensures)
 
-pub put-line-spec : {M : Type 1} → statement M
-put-line-spec =
+pub put_line_spec : {M : Type 1} → statement M
+put_line_spec =
     tie.close
     (tie.spec
     (λ c κs. search rules)

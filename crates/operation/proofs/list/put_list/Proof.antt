@@ -49,8 +49,8 @@ returns c =
     let l = c.before in
     rw (live-lines (start l).args.area.now) at (written_all _ _ _ _ l.loop.invariant (omega arith))
 
-pub put-list-spec : {M : Type 1} → statement M
-put-list-spec =
+pub put_list_spec : {M : Type 1} → statement M
+put_list_spec =
     tie.close
     (tie.spec
     invariant-loop

@@ -15,8 +15,8 @@ returns c = to_z_pos w32 {n = c.before.answer.given.0.0} (omega (arith, c.known-
 returns-2 : tie.Need-returns-2
 returns-2 c = to_z-of_z (search rules) ∙ c.refusal-number.ensures ∙ ap answerNumber (sym c.before.before.answer2.given.1)
 
-pub number-spec : {M : Type 1} → statement M
-number-spec =
+pub number_spec : {M : Type 1} → statement M
+number_spec =
     tie.close
     (tie.spec
     (λ c. search rules)

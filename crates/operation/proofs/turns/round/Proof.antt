@@ -46,8 +46,8 @@ returns-3 c =
     first-roomy _ _ u.before.before.check.ensures u.enum_told.given.1 _ roundRoom _ (omega (arith, r.if1.left))
     (λ i. answered (Done (left i).count) (left i).disc (left i).area (left i).out)
 
-pub round-spec : {M : Type 1} → statement M
-round-spec =
+pub round_spec : {M : Type 1} → statement M
+round_spec =
     tie.close
     (tie.spec
     (λ c κs. search rules)

@@ -9,9 +9,9 @@ use Rattle.operator.specs.declared.Outcome.TheVariants.{Value}
 use Rattle.operator.proofs.binary.apply.Statement.{statement}
 use Rattle.operator.proofs.binary.apply.Tie as tie
 
-pub apply-spec : {M : Type 1} → statement M
+pub apply_spec : {M : Type 1} → statement M
 unfolding binary
-apply-spec =
+apply_spec =
     tie.close
     (tie.spec
     (λ c. search rules)

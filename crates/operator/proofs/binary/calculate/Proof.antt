@@ -8,8 +8,8 @@ use Rattle.number.specs.declared.Number.TheVariants.{Char, Int}
 use Rattle.operator.proofs.binary.calculate.Statement.{statement}
 use Rattle.operator.proofs.binary.calculate.Tie as tie
 
-pub calculate-spec : {M : Type 1} → statement M
-calculate-spec =
+pub calculate_spec : {M : Type 1} → statement M
+calculate_spec =
     tie.close
     (tie.spec
     (λ c. search rules)

@@ -6,8 +6,8 @@ use Rattle.operator.proofs.Calculating.{not-zero, calculated, divided, divided-b
 use Rattle.operator.proofs.binary.calculate16.Statement.{statement}
 use Rattle.operator.proofs.binary.calculate16.Tie as tie
 
-pub calculate16-spec : {M : Type 1} → statement M
-calculate16-spec =
+pub calculate16_spec : {M : Type 1} → statement M
+calculate16_spec =
     tie.close
     (tie.spec
     (λ c. search rules)

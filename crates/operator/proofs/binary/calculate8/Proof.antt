@@ -6,8 +6,8 @@ use Rattle.operator.proofs.Calculating.{not-zero, calculated, divided, divided-b
 use Rattle.operator.proofs.binary.calculate8.Statement.{statement}
 use Rattle.operator.proofs.binary.calculate8.Tie as tie
 
-pub calculate8-spec : {M : Type 1} → statement M
-calculate8-spec =
+pub calculate8_spec : {M : Type 1} → statement M
+calculate8_spec =
     tie.close
     (tie.spec
     (λ c. search rules)

@@ -4,9 +4,9 @@ use Rattle.operator.specs.Arithmetic.{real}
 use Rattle.operator.proofs.binary.calculate_floats.Statement.{statement}
 use Rattle.operator.proofs.binary.calculate_floats.Tie as tie
 
-pub calculate-floats-spec : {M : Type 1} → statement M
+pub calculate_floats_spec : {M : Type 1} → statement M
 unfolding real
-calculate-floats-spec =
+calculate_floats_spec =
     tie.close
     (tie.spec
     (λ c. search rules)

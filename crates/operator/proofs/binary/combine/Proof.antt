@@ -7,8 +7,8 @@ use Rattle.operator.proofs.Calculating.{combined}
 use Rattle.operator.proofs.binary.combine.Statement.{statement}
 use Rattle.operator.proofs.binary.combine.Tie as tie
 
-pub combine-spec : {M : Type 1} → statement M
-combine-spec =
+pub combine_spec : {M : Type 1} → statement M
+combine_spec =
     tie.close
     (tie.spec
     (λ c. search rules)

@@ -4,9 +4,9 @@ use Rattle.operator.specs.Binary.{wholeBits}
 use Rattle.operator.proofs.binary.combine16.Statement.{statement}
 use Rattle.operator.proofs.binary.combine16.Tie as tie
 
-pub combine16-spec : {M : Type 1} → statement M
+pub combine16_spec : {M : Type 1} → statement M
 unfolding wholeBits
-combine16-spec =
+combine16_spec =
     tie.close
     (tie.spec
     (λ c. search rules)

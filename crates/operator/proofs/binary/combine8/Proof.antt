@@ -4,9 +4,9 @@ use Rattle.operator.specs.Binary.{wholeBits}
 use Rattle.operator.proofs.binary.combine8.Statement.{statement}
 use Rattle.operator.proofs.binary.combine8.Tie as tie
 
-pub combine8-spec : {M : Type 1} → statement M
+pub combine8_spec : {M : Type 1} → statement M
 unfolding wholeBits
-combine8-spec =
+combine8_spec =
     tie.close
     (tie.spec
     (λ c. search rules)

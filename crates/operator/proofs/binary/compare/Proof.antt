@@ -8,8 +8,8 @@ use Rattle.integer.proofs.Representation.{widened, widens}
 use Rattle.operator.proofs.binary.compare.Statement.{statement}
 use Rattle.operator.proofs.binary.compare.Tie as tie
 
-pub compare-spec : {M : Type 1} → statement M
-compare-spec =
+pub compare_spec : {M : Type 1} → statement M
+compare_spec =
     tie.close
     (tie.spec
     (λ c. search rules)

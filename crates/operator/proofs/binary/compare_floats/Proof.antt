@@ -4,9 +4,9 @@ use Rattle.operator.specs.Binary.{orderedFloats}
 use Rattle.operator.proofs.binary.compare_floats.Statement.{statement}
 use Rattle.operator.proofs.binary.compare_floats.Tie as tie
 
-pub compare-floats-spec : {M : Type 1} → statement M
+pub compare_floats_spec : {M : Type 1} → statement M
 unfolding orderedFloats
-compare-floats-spec =
+compare_floats_spec =
     tie.close
     (tie.spec
     (λ c. search rules)

@@ -11,9 +11,9 @@ use Rattle.number.proofs.Operands.{equal-bits}
 use Rattle.operator.proofs.binary.compare_wholes.Statement.{statement}
 use Rattle.operator.proofs.binary.compare_wholes.Tie as tie
 
-pub compare-wholes-spec : {M : Type 1} → statement M
+pub compare_wholes_spec : {M : Type 1} → statement M
 unfolding ordered
-compare-wholes-spec =
+compare_wholes_spec =
     tie.close
     (tie.spec
     (λ c. search rules)

@@ -4,9 +4,9 @@ use Rattle.operator.specs.Binary.{connected}
 use Rattle.operator.proofs.binary.connect.Statement.{statement}
 use Rattle.operator.proofs.binary.connect.Tie as tie
 
-pub connect-spec : {M : Type 1} → statement M
+pub connect_spec : {M : Type 1} → statement M
 unfolding connected
-connect-spec =
+connect_spec =
     tie.close
     (tie.spec
     (λ c. search rules)

@@ -2,8 +2,8 @@
 use Rattle.operator.proofs.binary.flagged.Statement.{statement}
 use Rattle.operator.proofs.binary.flagged.Tie as tie
 
-pub flagged-spec : {M : Type 1} → statement M
-flagged-spec =
+pub flagged_spec : {M : Type 1} → statement M
+flagged_spec =
     tie.close
     (tie.spec
     (λ c. rw c.if1.true)

@@ -3,8 +3,8 @@ use borrow.Author.Rules.{rules}
 use Rattle.operator.proofs.binary.second_replaces.Statement.{statement}
 use Rattle.operator.proofs.binary.second_replaces.Tie as tie
 
-pub second-replaces-spec : {M : Type 1} → statement M
-second-replaces-spec =
+pub second_replaces_spec : {M : Type 1} → statement M
+second_replaces_spec =
     tie.close
     (tie.spec
     (λ c. search rules)

@@ -7,9 +7,9 @@ use Rattle.operator.proofs.Table.{absent}
 use Rattle.operator.proofs.instruction.operator.Statement.{statement}
 use Rattle.operator.proofs.instruction.operator.Tie as tie
 
-pub operator-spec : {M : Type 1} → statement M
+pub operator_spec : {M : Type 1} → statement M
 unfolding lookup operatorOf
-operator-spec =
+operator_spec =
     tie.close
     (tie.spec
     (λ c κs. search rules)

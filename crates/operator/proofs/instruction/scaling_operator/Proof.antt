@@ -6,9 +6,9 @@ use Rattle.operator.proofs.Table.{absent}
 use Rattle.operator.proofs.instruction.scaling_operator.Statement.{statement}
 use Rattle.operator.proofs.instruction.scaling_operator.Tie as tie
 
-pub scaling-operator-spec : {M : Type 1} → statement M
+pub scaling_operator_spec : {M : Type 1} → statement M
 unfolding lookup
-scaling-operator-spec =
+scaling_operator_spec =
     tie.close
     (tie.spec
     (λ c. rw c.match.keys1)

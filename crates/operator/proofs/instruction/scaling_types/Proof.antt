@@ -4,8 +4,8 @@ use borrow.Author.Tests.{ne_eqb}
 use Rattle.operator.proofs.instruction.scaling_types.Statement.{statement}
 use Rattle.operator.proofs.instruction.scaling_types.Tie as tie
 
-pub scaling-types-spec : {M : Type 1} → statement M
-scaling-types-spec =
+pub scaling_types_spec : {M : Type 1} → statement M
+scaling_types_spec =
     tie.close
     (tie.spec
     (λ c. search rules)

@@ -4,9 +4,9 @@ use Rattle.operator.specs.Instruction.{includes}
 use Rattle.operator.proofs.instruction.takes.Statement.{statement}
 use Rattle.operator.proofs.instruction.takes.Tie as tie
 
-pub takes-spec : {M : Type 1} → statement M
+pub takes_spec : {M : Type 1} → statement M
 unfolding includes
-takes-spec =
+takes_spec =
     tie.close
     (tie.spec
     (λ c. search rules)

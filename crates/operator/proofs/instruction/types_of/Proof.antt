@@ -3,8 +3,8 @@ use borrow.Author.Rules.{rules}
 use Rattle.operator.proofs.instruction.types_of.Statement.{statement}
 use Rattle.operator.proofs.instruction.types_of.Tie as tie
 
-pub types-of-spec : {M : Type 1} → statement M
-types-of-spec =
+pub types_of_spec : {M : Type 1} → statement M
+types_of_spec =
     tie.close
     (tie.spec
     (λ c. search rules)

@@ -7,9 +7,9 @@ use Rattle.operator.proofs.Table.{absent}
 use Rattle.operator.proofs.instruction.unary_operator.Statement.{statement}
 use Rattle.operator.proofs.instruction.unary_operator.Tie as tie
 
-pub unary-operator-spec : {M : Type 1} → statement M
+pub unary_operator_spec : {M : Type 1} → statement M
 unfolding lookup
-unary-operator-spec =
+unary_operator_spec =
     tie.close
     (tie.spec
     (λ c κs. search rules)

@@ -7,8 +7,8 @@ use Rattle.operator.proofs.OneOperand.{absolute-negative, absolute-same}
 use Rattle.operator.proofs.unary.absolute_value.Statement.{statement}
 use Rattle.operator.proofs.unary.absolute_value.Tie as tie
 
-pub absolute-value-spec : {M : Type 1} → statement M
-absolute-value-spec =
+pub absolute_value_spec : {M : Type 1} → statement M
+absolute_value_spec =
     tie.close
     (tie.spec
     (λ c. search rules)

@@ -7,9 +7,9 @@ use Rattle.operator.specs.declared.Outcome.TheVariants.{Value}
 use Rattle.operator.proofs.unary.apply.Statement.{statement}
 use Rattle.operator.proofs.unary.apply.Tie as tie
 
-pub apply-spec : {M : Type 1} → statement M
+pub apply_spec : {M : Type 1} → statement M
 unfolding unary
-apply-spec =
+apply_spec =
     tie.close
     (tie.spec
     (λ c. search rules)

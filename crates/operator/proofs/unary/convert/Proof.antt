@@ -8,8 +8,8 @@ use Rattle.integer.proofs.Representation.{widened, widens}
 use Rattle.operator.proofs.unary.convert.Statement.{statement}
 use Rattle.operator.proofs.unary.convert.Tie as tie
 
-pub convert-spec : {M : Type 1} → statement M
-convert-spec =
+pub convert_spec : {M : Type 1} → statement M
+convert_spec =
     tie.close
     (tie.spec
     (λ c. search rules)

@@ -4,9 +4,9 @@ use Rattle.operator.specs.Conversion.{convertedFloat}
 use Rattle.operator.proofs.unary.convert_float.Statement.{statement}
 use Rattle.operator.proofs.unary.convert_float.Tie as tie
 
-pub convert-float-spec : {M : Type 1} → statement M
+pub convert_float_spec : {M : Type 1} → statement M
 unfolding convertedFloat
-convert-float-spec =
+convert_float_spec =
     tie.close
     (tie.spec
     (λ c. search rules)

@@ -6,9 +6,9 @@ use Rattle.operator.specs.Conversion.{convertedWhole}
 use Rattle.operator.proofs.unary.convert_whole.Statement.{statement}
 use Rattle.operator.proofs.unary.convert_whole.Tie as tie
 
-pub convert-whole-spec : {M : Type 1} → statement M
+pub convert_whole_spec : {M : Type 1} → statement M
 unfolding convertedWhole
-convert-whole-spec =
+convert_whole_spec =
     tie.close
     (tie.spec
     (λ c. search rules)

@@ -3,8 +3,8 @@ use Rattle.operator.proofs.Magnitude.{negative-magnitude, zero-magnitude, positi
 use Rattle.operator.proofs.unary.float_magnitude.Statement.{statement}
 use Rattle.operator.proofs.unary.float_magnitude.Tie as tie
 
-pub float-magnitude-spec : {M : Type 1} → statement M
-float-magnitude-spec =
+pub float_magnitude_spec : {M : Type 1} → statement M
+float_magnitude_spec =
     tie.close
     (tie.spec
     (λ c. negative-magnitude c.before.args.x c.if1.true)

@@ -8,8 +8,8 @@ use Rattle.operator.proofs.OneOperand.{narrows, narrowed, beyond}
 use Rattle.operator.proofs.unary.float_to_char.Statement.{statement}
 use Rattle.operator.proofs.unary.float_to_char.Tie as tie
 
-pub float-to-char-spec : {M : Type 1} → statement M
-float-to-char-spec =
+pub float_to_char_spec : {M : Type 1} → statement M
+float_to_char_spec =
     tie.close
     (tie.spec
     (λ c κs. search rules)

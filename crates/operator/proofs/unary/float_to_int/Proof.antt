@@ -7,8 +7,8 @@ use Rattle.operator.proofs.OneOperand.{narrows, narrowed, beyond}
 use Rattle.operator.proofs.unary.float_to_int.Statement.{statement}
 use Rattle.operator.proofs.unary.float_to_int.Tie as tie
 
-pub float-to-int-spec : {M : Type 1} → statement M
-float-to-int-spec =
+pub float_to_int_spec : {M : Type 1} → statement M
+float_to_int_spec =
     tie.close
     (tie.spec
     (λ c κs. search rules)

@@ -6,8 +6,8 @@ use Rattle.operator.proofs.OneOperand.{negates}
 use Rattle.operator.proofs.unary.negate.Statement.{statement}
 use Rattle.operator.proofs.unary.negate.Tie as tie
 
-pub negate-spec : {M : Type 1} → statement M
-negate-spec =
+pub negate_spec : {M : Type 1} → statement M
+negate_spec =
     tie.close
     (tie.spec
     (λ c. search rules)

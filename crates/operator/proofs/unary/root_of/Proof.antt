@@ -6,8 +6,8 @@ use Rattle.operator.proofs.OneOperand.{root-negative, root-fits, root-reads}
 use Rattle.operator.proofs.unary.root_of.Statement.{statement}
 use Rattle.operator.proofs.unary.root_of.Tie as tie
 
-pub root-of-spec : {M : Type 1} → statement M
-root-of-spec =
+pub root_of_spec : {M : Type 1} → statement M
+root_of_spec =
     tie.close
     (tie.spec
     (λ c. search rules)

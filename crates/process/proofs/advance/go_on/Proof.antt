@@ -26,8 +26,8 @@ returns c =
     went-on-bytes area s.pre.0 whole a.slot s.pre.1 a.kept a.pc a.loopstart a.head.now a.tail.now a.file
     s.pre.2 refl registers.put-registers.ensures stack.put-stack.ensures
 
-pub go-on-spec : {M : Type 1} → statement M
-go-on-spec =
+pub go_on_spec : {M : Type 1} → statement M
+go_on_spec =
     tie.close
     (tie.spec
     (λ c. search rules)

@@ -23,5 +23,5 @@ returns c =
     let whole = kernel-encode-decode a.area.now (λ i. omega (arith, bytes.slice-known.given i)) s.pre.0 in
     put.put-process.ensures ∙ sym (process-written a.area.now s.pre.0 whole a.slot a.p s.pre.1 (sized s))
 
-pub put-back-spec : {M : Type 1} → statement M
-put-back-spec = tie.close (tie.spec (λ c κs. search rules) (λ c. search rules) returns)
+pub put_back_spec : {M : Type 1} → statement M
+put_back_spec = tie.close (tie.spec (λ c κs. search rules) (λ c. search rules) returns)

@@ -6,8 +6,8 @@ use Rattle.process.proofs.advance.put_registers.Tie as tie
 returns : tie.Need-returns
 returns c = cc
 
-pub put-registers-spec : {M : Type 1} → statement M
-put-registers-spec =
+pub put_registers_spec : {M : Type 1} → statement M
+put_registers_spec =
     tie.close
     (tie.spec
     (λ c κs. search rules)

@@ -35,8 +35,8 @@ returns c =
     (omega arith) (omega arith) (omega arith) head.overwrite-at.last.0 tail.overwrite-at2.last.0 cleared.zero-at.new.0
     head.overwrite-at.ensures tail.overwrite-at2.ensures cleared.zero-at.ensures
 
-pub put-stack-spec : {M : Type 1} → statement M
-put-stack-spec =
+pub put_stack_spec : {M : Type 1} → statement M
+put_stack_spec =
     tie.close
     (tie.spec
     (λ c. search rules)

@@ -58,8 +58,8 @@ returns c =
     let a = (start (lent c.before)).args in
     rw (part-to a.disc.now a.p.code.start a.p.code.len) at c.execute.ensures
 
-pub next-step-spec : {M : Type 1} → statement M
-next-step-spec =
+pub next_step_spec : {M : Type 1} → statement M
+next_step_spec =
     tie.close
     (tie.spec
     (λ c. search rules)

@@ -103,8 +103,8 @@ returns-3 c =
     let told = done.before.before.before in
     refused (no_run told) NoRun tt told.enum-told3.given.1 done.before.placing-fault2.ensures done.finish2.ensures
 
-pub set-variable-spec : {M : Type 1} → statement M
-set-variable-spec =
+pub set_variable_spec : {M : Type 1} → statement M
+set_variable_spec =
     tie.close
     (tie.spec
     (λ c. search rules)

@@ -28,8 +28,8 @@ returns-3 c =
     let a = (start o).args in
     sym (past_end a.file a.n o.if1.left (omega arith))
 
-pub access-spec : {M : Type 1} → statement M
-access-spec =
+pub access_spec : {M : Type 1} → statement M
+access_spec =
     tie.close
     (tie.spec
     returns

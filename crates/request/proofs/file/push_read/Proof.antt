@@ -130,8 +130,8 @@ returns-2 c =
     (filled_is r ∙ read r))
     (gone.before.advanced.ensures ∙ ap (λ (f : OpenFile). advanced f a.n) s.pre.1) gone.go_on.ensures
 
-pub push-read-spec : {M : Type 1} → statement M
-push-read-spec =
+pub push_read_spec : {M : Type 1} → statement M
+push_read_spec =
     tie.close
     (tie.spec
     (λ c. search rules)

@@ -44,8 +44,8 @@ returns-2 c =
     answers s.pre.0 disc read.push-read.ensures
     (own-received s.pre.0 disc (readAt disc (fileRun f) f.offset a.n) (a.n ∷ stringKind ∷ []) a.n)
 
-pub push-text-spec : {M : Type 1} → statement M
-push-text-spec =
+pub push_text_spec : {M : Type 1} → statement M
+push_text_spec =
     tie.close
     (tie.spec
     (λ c κs. search rules)

@@ -58,8 +58,8 @@ returns-3 c =
     breaks-off s.pre.0 _ (read-granted s.pre.0 _ s.args.kind (sym o.access.ensures ∙ t.enum-told3.given.1))
     ended.finish2.ensures
 
-pub read-number-spec : {M : Type 1} → statement M
-read-number-spec =
+pub read_number_spec : {M : Type 1} → statement M
+read_number_spec =
     tie.close
     (tie.spec
     (λ c κs. search rules)

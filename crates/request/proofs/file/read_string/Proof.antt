@@ -91,8 +91,8 @@ returns-3 c =
     answers s.pre.0 disc pushed.push-text.ensures
     (sym (text-received s.pre.0 disc (omega (arith, text-is t)) (opened t).if1.left (ahead p)))
 
-pub read-string-spec : {M : Type 1} → statement M
-read-string-spec =
+pub read_string_spec : {M : Type 1} → statement M
+read_string_spec =
     tie.close
     (tie.spec
     (λ c κs. search rules)

@@ -103,8 +103,8 @@ returns-3 c =
     breaks-off s.pre.0 _ (write_granted s.pre.0 _ (size s) (sym o.access.ensures ∙ t.enum-told3.given.1))
     ended.finish2.ensures
 
-pub write-file-spec : {M : Type 1} → statement M
-write-file-spec =
+pub write_file_spec : {M : Type 1} → statement M
+write_file_spec =
     tie.close
     (tie.spec
     (λ c. search rules)

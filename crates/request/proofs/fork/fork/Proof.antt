@@ -117,8 +117,8 @@ returns-4 c =
     answers (sought o).requires.0 _ (pushed.push-zero3.ensures _ 13)
     (copied o (refuses 13) ∙ ap (answer o) (found o t.enum-told3.given.1))
 
-pub fork-spec : {M : Type 1} → statement M
-fork-spec =
+pub fork_spec : {M : Type 1} → statement M
+fork_spec =
     tie.close
     (tie.spec
     (λ c. search rules)

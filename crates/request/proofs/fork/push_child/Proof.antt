@@ -60,8 +60,8 @@ returns c =
     forks-on s.pre.0 a.disc.now a.child (entry_at a.disc.now a.i) s.pre.4.ended b.start.last.0 (child b) high low
     s.pre.1 went.go_on.ensures
 
-pub push-child-spec : {M : Type 1} → statement M
-push-child-spec =
+pub push_child_spec : {M : Type 1} → statement M
+push_child_spec =
     tie.close
     (tie.spec
     (λ c κs. search rules)

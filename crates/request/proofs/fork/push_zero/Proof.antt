@@ -23,8 +23,8 @@ returns c disc n =
     refl refl s.pre.1
     gone.go_on.ensures
 
-pub push-zero-spec : {M : Type 1} → statement M
-push-zero-spec =
+pub push_zero_spec : {M : Type 1} → statement M
+push_zero_spec =
     tie.close
     (tie.spec
     (λ c. search rules)

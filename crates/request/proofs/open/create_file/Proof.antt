@@ -106,8 +106,8 @@ returns-2 c =
     breaks-off s.pre.0 s.args.disc.now (ap (answer o) (sym o.admit.ensures ∙ t.enum_told.given.1))
     ended.finish.ensures
 
-pub create-file-spec : {M : Type 1} → statement M
-create-file-spec =
+pub create_file_spec : {M : Type 1} → statement M
+create_file_spec =
     tie.close
     (tie.spec
     (λ c. search rules)

@@ -79,8 +79,8 @@ returns-2 c =
     let s = sought o in
     answers s.pre.0 s.args.disc.now made.open-new.ensures (ap (answer o) (sym t.enum_told.given.1 ∙ o.find.ensures))
 
-pub open-file-spec : {M : Type 1} → statement M
-open-file-spec =
+pub open_file_spec : {M : Type 1} → statement M
+open_file_spec =
     tie.close
     (tie.spec
     (λ c. search rules)

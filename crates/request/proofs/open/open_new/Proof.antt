@@ -41,8 +41,8 @@ returns-2 c =
     breaks-off s.pre.0 s.args.disc.now (ap (answer o) (sym o.size-within.ensures ∙ t.enum_told.given.1))
     ended.finish.ensures
 
-pub open-new-spec : {M : Type 1} → statement M
-open-new-spec =
+pub open_new_spec : {M : Type 1} → statement M
+open_new_spec =
     tie.close
     (tie.spec
     (λ c. search rules)

@@ -18,8 +18,8 @@ returns c disc after =
     let s = start gone.before in
     goes_on s.pre disc refl (own-keeping s.pre) refl gone.go_on.ensures
 
-pub open-run-spec : {M : Type 1} → statement M
-open-run-spec =
+pub open_run_spec : {M : Type 1} → statement M
+open_run_spec =
     tie.close
     (tie.spec
     (λ c. search rules)

@@ -69,8 +69,8 @@ returns-4 c =
       },
     )
 
-pub find-start-spec : {M : Type 1} → statement M
-find-start-spec =
+pub find_start_spec : {M : Type 1} → statement M
+find_start_spec =
     tie.close
     (tie.spec
     (λ c κs. search rules)

@@ -29,8 +29,8 @@ returns : tie.Need-returns invariant-loop decreases-loop
 unfolding kernelOf
 returns c = asked-all _ _ _ c.before.loop.invariant (omega arith)
 
-pub is-awaited-spec : {M : Type 1} → statement M
-is-awaited-spec =
+pub is_awaited_spec : {M : Type 1} → statement M
+is_awaited_spec =
     tie.close
     (tie.spec
     invariant-loop

@@ -11,8 +11,8 @@ returns c =
     let id = live.before.before.args.p.id in
     rw (c.equals-whole.ensures, to_z_pos w32 {n = id} (search rules))
 
-pub is-awaited-in-spec : {M : Type 1} → statement M
-is-awaited-in-spec =
+pub is_awaited_in_spec : {M : Type 1} → statement M
+is_awaited_in_spec =
     tie.close
     (tie.spec
     (λ c. search rules)

@@ -9,9 +9,9 @@ use Rattle.scaling.specs.Constrain.{constrained}
 use Rattle.scaling.proofs.constrain.constrain.Statement.{statement}
 use Rattle.scaling.proofs.constrain.constrain.Tie as tie
 
-pub constrain-spec : {M : Type 1} → statement M
+pub constrain_spec : {M : Type 1} → statement M
 unfolding constrained
-constrain-spec =
+constrain_spec =
     tie.close
     (tie.spec
     (λ c κs. search rules)

@@ -16,8 +16,8 @@ returns c =
       gap_below x.result y.result x.type-inv y.type-inv,
     )
 
-pub difference-spec : {M : Type 1} → statement M
-difference-spec =
+pub difference_spec : {M : Type 1} → statement M
+difference_spec =
     tie.close
     (tie.spec
     (λ c κs. search rules)

@@ -6,8 +6,8 @@ use Rattle.integer.proofs.Representation.{widened, widens}
 use Rattle.scaling.proofs.map.exact_of.Statement.{statement}
 use Rattle.scaling.proofs.map.exact_of.Tie as tie
 
-pub exact-of-spec : {M : Type 1} → statement M
-exact-of-spec =
+pub exact_of_spec : {M : Type 1} → statement M
+exact_of_spec =
     tie.close
     (tie.spec
     (λ c. search rules)

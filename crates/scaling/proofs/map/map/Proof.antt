@@ -4,9 +4,9 @@ use Rattle.scaling.specs.Map.{mapped}
 use Rattle.scaling.proofs.map.map.Statement.{statement}
 use Rattle.scaling.proofs.map.map.Tie as tie
 
-pub map-spec : {M : Type 1} → statement M
+pub map_spec : {M : Type 1} → statement M
 unfolding mapped
-map-spec =
+map_spec =
     tie.close
     (tie.spec
     (λ c κs. search rules)

@@ -31,5 +31,5 @@ returns-2 c =
     z.type-inv z.ensures.0 t.if1.false m.map-exact.result m.map-exact.type-inv m.map-exact.ensures
     c.reduce8.ensures
 
-pub map8-spec : {M : Type 1} → statement M
-map8-spec = tie.close (tie.spec (λ c κs. search rules) map-exact-requires (λ c κs. search rules) returns returns-2)
+pub map8_spec : {M : Type 1} → statement M
+map8_spec = tie.close (tie.spec (λ c κs. search rules) map-exact-requires (λ c κs. search rules) returns returns-2)

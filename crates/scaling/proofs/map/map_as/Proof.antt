@@ -7,8 +7,8 @@ use Rattle.operator.specs.declared.Outcome.TheVariants.{Value}
 use Rattle.scaling.proofs.map.map_as.Statement.{statement}
 use Rattle.scaling.proofs.map.map_as.Tie as tie
 
-pub map-as-spec : {M : Type 1} → statement M
-map-as-spec =
+pub map_as_spec : {M : Type 1} → statement M
+map_as_spec =
     tie.close
     (tie.spec
     (λ c. search rules)

@@ -42,8 +42,8 @@ returns c =
     reads-exact x.result y.result x.type-inv y.type-inv x.ensures.1 y.ensures.1 z.result z.type-inv d.result d.type-inv
     ∙ ap₂ (λ (p q : ℤ). p +ℤ q) (ap₂ quot_z (ap₂ (λ (p q : ℤ). p *ℤ q) x.ensures.0 y.ensures.0) z.ensures.0) d.ensures
 
-pub map-exact-spec : {M : Type 1} → statement M
-map-exact-spec =
+pub map_exact_spec : {M : Type 1} → statement M
+map_exact_spec =
     tie.close
     (tie.spec
     (λ c κs. search rules)

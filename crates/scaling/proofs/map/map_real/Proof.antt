@@ -16,8 +16,8 @@ returns c =
       c.Real-of.ensures,
     )
 
-pub map-real-spec : {M : Type 1} → statement M
-map-real-spec =
+pub map_real_spec : {M : Type 1} → statement M
+map_real_spec =
     tie.close
     (tie.spec
     (λ c κs. search rules)

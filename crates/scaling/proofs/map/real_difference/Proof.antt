@@ -5,8 +5,8 @@ use borrow.Author.Rules.{rules}
 use Rattle.scaling.proofs.map.real_difference.Statement.{statement}
 use Rattle.scaling.proofs.map.real_difference.Tie as tie
 
-pub real-difference-spec : {M : Type 1} → statement M
-real-difference-spec =
+pub real_difference_spec : {M : Type 1} → statement M
+real_difference_spec =
     tie.close
     (tie.spec
     (λ c κs. search rules)

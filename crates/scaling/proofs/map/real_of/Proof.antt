@@ -6,8 +6,8 @@ use borrow.Author.Rules.{rules}
 use Rattle.scaling.proofs.map.real_of.Statement.{statement}
 use Rattle.scaling.proofs.map.real_of.Tie as tie
 
-pub real-of-spec : {M : Type 1} → statement M
-real-of-spec =
+pub real_of_spec : {M : Type 1} → statement M
+real_of_spec =
     tie.close
     (tie.spec
     (λ c. search rules)

@@ -3,8 +3,8 @@ use borrow.Author.Rules.{rules}
 use Rattle.scaling.proofs.map.widest_of.Statement.{statement}
 use Rattle.scaling.proofs.map.widest_of.Tie as tie
 
-pub widest-of-spec : {M : Type 1} → statement M
-widest-of-spec =
+pub widest_of_spec : {M : Type 1} → statement M
+widest_of_spec =
     tie.close
     (tie.spec
     (λ c κs. search rules)

@@ -20,8 +20,8 @@ returns-2 c =
     let f : SFits w16 g.0.0 = search rules in
     rw g.1 (c.whole-exponent2.ensures ∙ ap wholeExponent (to_z-of_z f))
 
-pub exponent-of-spec : {M : Type 1} → statement M
-exponent-of-spec =
+pub exponent_of_spec : {M : Type 1} → statement M
+exponent_of_spec =
     tie.close
     (tie.spec
     (λ c. search rules)

@@ -43,8 +43,8 @@ returns c =
     l.invariant.is ∙ ap (λ (k : ℕ). wrapped w16 (pow (to_z w16 (of_z w16 s.args.x)) k)) e
     ∙ ap (λ (y : ℤ). wrapped w16 (pow y s.args.n)) (to_z-of_z s.ranges.x)
 
-pub power16-spec : {M : Type 1} → statement M
-power16-spec =
+pub power16_spec : {M : Type 1} → statement M
+power16_spec =
     tie.close
     (tie.spec
     invariant-loop

@@ -4,9 +4,9 @@ use Rattle.scaling.specs.Power.{power}
 use Rattle.scaling.proofs.power.power_of.Statement.{statement}
 use Rattle.scaling.proofs.power.power_of.Tie as tie
 
-pub power-of-spec : {M : Type 1} → statement M
+pub power_of_spec : {M : Type 1} → statement M
 unfolding power
-power-of-spec =
+power_of_spec =
     tie.close
     (tie.spec
     (λ c κs. search rules)

@@ -33,7 +33,7 @@ returns c =
     let e : l.i ≡ c.before.before.args.n = omega (arith, l.invariant.within, c.loop-test.false) in
     l.invariant.is ∙ ap (powerReal c.before.before.args.x) e
 
-pub power-real-spec : {M : Type 1} → statement M
-power-real-spec =
+pub power_real_spec : {M : Type 1} → statement M
+power_real_spec =
     tie.close
     (tie.spec invariant-loop decreases-loop loop-holds (λ c. search rules) (λ c. omega (arith, c.loop-test.true)) loop-again returns)

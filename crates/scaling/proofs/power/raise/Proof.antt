@@ -25,8 +25,8 @@ returns-2 c =
     let f : SFits w16 g.0.0 = search rules in
     rw g.1 (ap Int (int-raised g.0.0 f k.before.before.args.n c.power162.ensures))
 
-pub raise-spec : {M : Type 1} → statement M
-raise-spec =
+pub raise_spec : {M : Type 1} → statement M
+raise_spec =
     tie.close
     (tie.spec
     (λ c. search rules)

@@ -5,8 +5,8 @@ use Rattle.operator.specs.declared.Outcome.TheVariants.{Value}
 use Rattle.scaling.proofs.power.raise_by.Statement.{statement}
 use Rattle.scaling.proofs.power.raise_by.Tie as tie
 
-pub raise-by-spec : {M : Type 1} → statement M
-raise-by-spec =
+pub raise_by_spec : {M : Type 1} → statement M
+raise_by_spec =
     tie.close
     (tie.spec
     (λ c. search rules)

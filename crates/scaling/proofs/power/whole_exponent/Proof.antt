@@ -3,8 +3,8 @@ use Rattle.scaling.proofs.Powers.{exponent-casts, exponent-negative, exponent-ta
 use Rattle.scaling.proofs.power.whole_exponent.Statement.{statement}
 use Rattle.scaling.proofs.power.whole_exponent.Tie as tie
 
-pub whole-exponent-spec : {M : Type 1} → statement M
-whole-exponent-spec =
+pub whole_exponent_spec : {M : Type 1} → statement M
+whole_exponent_spec =
     tie.close
     (tie.spec
     (λ c. exponent-negative c.before.args.y c.before.ranges.y c.if1.true)

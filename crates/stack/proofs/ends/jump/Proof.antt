@@ -7,5 +7,5 @@ use Rattle.stack.proofs.ends.jump.Tie as tie
 returns : tie.Need-returns
 returns c = rw take-length at c.go.ensures
 
-pub jump-spec : {M : Type 1} → statement M
-jump-spec = tie.close (tie.spec (λ c κs. search rules) returns)
+pub jump_spec : {M : Type 1} → statement M
+jump_spec = tie.close (tie.spec (λ c κs. search rules) returns)

@@ -46,8 +46,8 @@ returns-3 c =
     rw (settle_goes a.code.now (pushed s) a.loopstart [] (omega arith) a.to (omega arith), append_assoc)
     (step-means a.stack.now (a.head.now ++ a.tail.now) c.with-bytes.ensures s.pre.0.there)
 
-pub push-bytes-spec : {M : Type 1} → statement M
-push-bytes-spec =
+pub push_bytes_spec : {M : Type 1} → statement M
+push_bytes_spec =
     tie.close
     (tie.spec
     (λ c. search rules)

@@ -29,8 +29,8 @@ returns-2 c = rw (eq-eqb _ _ c.before.before.if2.true) c.push-bytes.ensures
 returns-3 : tie.Need-returns-3
 returns-3 c = rw (ne_eqb _ _ c.before.before.if2.false) c.push-bytes2.ensures
 
-pub push-item-spec : {M : Type 1} → statement M
-push-item-spec =
+pub push_item_spec : {M : Type 1} → statement M
+push_item_spec =
     tie.close
     (tie.spec
     (λ c κs. search rules)

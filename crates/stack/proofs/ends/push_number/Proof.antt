@@ -30,8 +30,8 @@ returns c =
     let a = (start e).args in
     rw (← number_pushed a.a (take a.kept a.stack.now), ← e.encode.ensures) c.push-item.ensures
 
-pub push-number-spec : {M : Type 1} → statement M
-push-number-spec =
+pub push_number_spec : {M : Type 1} → statement M
+push_number_spec =
     tie.close
     (tie.spec
     (λ c κs. search rules)

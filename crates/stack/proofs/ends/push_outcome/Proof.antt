@@ -19,8 +19,8 @@ returns-2 c = rw c.before.enum_told.given.1 (last-means (start c.before).args.st
 returns-3 : tie.Need-returns-3
 returns-3 c = rw c.before.enum-told2.given.1 (last-means (start-2 c.before).args.stack.now c.last-step2.ensures)
 
-pub push-outcome-spec : {M : Type 1} → statement M
-push-outcome-spec =
+pub push_outcome_spec : {M : Type 1} → statement M
+push_outcome_spec =
     tie.close
     (tie.spec
     (λ c. search rules)

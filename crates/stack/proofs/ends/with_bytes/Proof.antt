@@ -46,8 +46,8 @@ returns c =
       omega (arith, s.pre),
     )
 
-pub with-bytes-spec : {M : Type 1} → statement M
-with-bytes-spec =
+pub with_bytes_spec : {M : Type 1} → statement M
+with_bytes_spec =
     tie.close
     (tie.spec
     (λ c. search rules)

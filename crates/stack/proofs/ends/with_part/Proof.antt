@@ -25,8 +25,8 @@ returns c =
     step-means a.stack.now (part a.stack.now a.at a.len)
     (rw (append-nil, part-to a.stack.now a.at a.len) at c.with-bytes.ensures) (omega (arith, s.pre))
 
-pub with-part-spec : {M : Type 1} → statement M
-with-part-spec =
+pub with_part_spec : {M : Type 1} → statement M
+with_part_spec =
     tie.close
     (tie.spec
     (λ c. search rules)

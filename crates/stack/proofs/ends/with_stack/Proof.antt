@@ -7,5 +7,5 @@ use Rattle.stack.proofs.ends.with_stack.Tie as tie
 returns : tie.Need-returns
 returns c = rw (take-length) at c.with_part.ensures
 
-pub with-stack-spec : {M : Type 1} → statement M
-with-stack-spec = tie.close (tie.spec (λ c κs. search rules) returns)
+pub with_stack_spec : {M : Type 1} → statement M
+with_stack_spec = tie.close (tie.spec (λ c κs. search rules) returns)

@@ -10,5 +10,5 @@ returns-2 : tie.Need-returns-2
 returns-2 c = let a = c.before.args in
     sym (get_or-eq_default a.bytes.now 0 {n = a.i} (omega arith))
 
-pub byte-at-spec : {M : Type 1} → statement M
-byte-at-spec = tie.close (tie.spec (λ c. search rules) (λ c. search rules) returns-2)
+pub byte_at_spec : {M : Type 1} → statement M
+byte_at_spec = tie.close (tie.spec (λ c. search rules) (λ c. search rules) returns-2)

@@ -31,8 +31,8 @@ returns c =
       omega (arith, e.1, lent s (below k) (inside k), inside k),
     )
 
-pub next-number-spec : {M : Type 1} → statement M
-next-number-spec =
+pub next_number_spec : {M : Type 1} → statement M
+next_number_spec =
     tie.close
     (tie.spec
     (λ c. search rules)

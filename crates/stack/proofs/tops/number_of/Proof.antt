@@ -17,8 +17,8 @@ returns c =
     ∙ (λ t. number_of first.before.before.args.kind
     (first.byte_at.ensures t ∷ second.byte-at2.ensures t ∷ third.byte-at3.ensures t ∷ fourth.byte-at4.ensures t ∷ []))
 
-pub number-of-spec : {M : Type 1} → statement M
-number-of-spec =
+pub number_of_spec : {M : Type 1} → statement M
+number_of_spec =
     tie.close
     (tie.spec
     (λ c κs. search rules)

@@ -25,8 +25,8 @@ returns-2 c =
     let h : a.kind + 1 ≤ length a.stack.now = omega (arith, c.before.wide.ensures) in
     (rw (le-leb _ _ h, c.before.wide.ensures), omega arith)
 
-pub number-on-top-spec : {M : Type 1} → statement M
-number-on-top-spec =
+pub number_on_top_spec : {M : Type 1} → statement M
+number_on_top_spec =
     tie.close
     (tie.spec
     (λ c κs. search rules)

@@ -92,8 +92,8 @@ returns-4 c =
       omega arith,
     )
 
-pub string-on-top-spec : {M : Type 1} → statement M
-string-on-top-spec =
+pub string_on_top_spec : {M : Type 1} → statement M
+string_on_top_spec =
     tie.close
     (tie.spec
     returns

@@ -71,8 +71,8 @@ returns-2 c =
     let a = (start p).args in
     (rw (no_value a.types a.stack.now p.top-value.ensures k.fault.given.1), omega arith)
 
-pub top-number-spec : {M : Type 1} → statement M
-top-number-spec =
+pub top_number_spec : {M : Type 1} → statement M
+top_number_spec =
     tie.close
     (tie.spec
     (λ c κs. search rules)

@@ -48,8 +48,8 @@ returns-4 c =
       c.number-on-top.ensures.1,
     )
 
-pub top-value-spec : {M : Type 1} → statement M
-top-value-spec =
+pub top_value_spec : {M : Type 1} → statement M
+top_value_spec =
     tie.close
     (tie.spec
     returns

@@ -108,8 +108,8 @@ returns-7 c =
     let p = c.before.before in
     ap startOr (sym c.enum-told3.given.1 ∙ placed p) ∙ sym (last (new p))
 
-pub admit-spec : {M : Type 1} → statement M
-admit-spec =
+pub admit_spec : {M : Type 1} → statement M
+admit_spec =
     tie.close
     (tie.spec
     (λ c κs. search rules)

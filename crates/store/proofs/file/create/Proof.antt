@@ -17,5 +17,5 @@ returns c =
     ∙ ap (λ (l : List ℕ). overwrite l a.start (zeros a.n)) made.enter.ensures
     ∙ created-steps a.disc.now a.name.now a.n a.start
 
-pub create-spec : {M : Type 1} → statement M
-create-spec = tie.close (tie.spec (λ c κs. search rules) (λ c κs. search rules) (λ c. search rules) returns)
+pub create_spec : {M : Type 1} → statement M
+create_spec = tie.close (tie.spec (λ c κs. search rules) (λ c κs. search rules) (λ c. search rules) returns)

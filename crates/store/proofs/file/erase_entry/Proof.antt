@@ -18,8 +18,8 @@ returns c =
     erased-steps a.disc.now (omega arith) _ _ a.i (n.result - 1) (omega (arith, n.ensures)) (omega (arith, n.ensures))
     (omega (arith, n.ensures)) (omega arith) moved.move_up.ensures zeroed.overwrite-at.ensures
 
-pub erase-entry-spec : {M : Type 1} → statement M
-erase-entry-spec =
+pub erase_entry_spec : {M : Type 1} → statement M
+erase_entry_spec =
     tie.close
     (tie.spec
     (λ c κs. search rules)

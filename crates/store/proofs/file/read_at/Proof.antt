@@ -18,5 +18,5 @@ returns c =
     copied.copy-part.ensures
     ∙ sym (part-of-part a.disc.now a.run.start a.run.len a.offset (length a.out.now) (omega arith))
 
-pub read-at-spec : {M : Type 1} → statement M
-read-at-spec = tie.close (tie.spec (λ c. search rules) (λ c. search rules) (λ c κs. search rules) (λ c. search rules) returns)
+pub read_at_spec : {M : Type 1} → statement M
+read_at_spec = tie.close (tie.spec (λ c. search rules) (λ c. search rules) (λ c κs. search rules) (λ c. search rules) returns)

@@ -36,8 +36,8 @@ returns c =
     sym (length-take-le c.text-length.result _ found.0) ∙ ap length found.1
     ∙ ap (λ (l : List ℕ). length (trimmed l)) (ahead (start c))
 
-pub text-ahead-spec : {M : Type 1} → statement M
-text-ahead-spec =
+pub text_ahead_spec : {M : Type 1} → statement M
+text_ahead_spec =
     tie.close
     (tie.spec
     (λ c. search rules)

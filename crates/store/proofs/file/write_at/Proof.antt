@@ -8,6 +8,6 @@ returns : tie.Need-returns
 unfolding writtenAt
 returns c = c.before.before.overwrite-at.ensures
 
-pub write-at-spec : {M : Type 1} → statement M
-write-at-spec =
+pub write_at_spec : {M : Type 1} → statement M
+write_at_spec =
     tie.close (tie.spec (λ c. search rules) (λ c. search rules) (λ c κs. search rules) (λ c. search rules) returns)

@@ -18,8 +18,8 @@ erase-entry-requires c κs =
     let searched = found.before.before in
     (ready searched.before.before, (lookup-at _ _ _ (sym searched.find.ensures ∙ found.i.given.1)).inside)
 
-pub erase-spec : {M : Type 1} → statement M
-erase-spec =
+pub erase_spec : {M : Type 1} → statement M
+erase_spec =
     tie.close
     (tie.spec
     (λ c κs. search rules)

@@ -11,8 +11,8 @@ invariant-loop count disc₀ i₀ disc i = i ≤ count
 abbrev decreases-loop : tie.decreases-loop
 decreases-loop count disc₀ i₀ disc i = count - i
 
-pub with-files-spec : {M : Type 1} → statement M
-with-files-spec =
+pub with_files_spec : {M : Type 1} → statement M
+with_files_spec =
     tie.close
     (tie.spec
     invariant-loop

@@ -15,5 +15,5 @@ returns c =
     ap (λ l. eqb (get_or l 14 0) 114) found.record-at.ensures.0
     ∙ ap isRunning (sym (process-read s.args.area.now s.args.slot s.requires.1))
 
-pub is-running-spec : {M : Type 1} → statement M
-is-running-spec = tie.close (tie.spec (λ c κs. search rules) (λ c. search rules) returns)
+pub is_running_spec : {M : Type 1} → statement M
+is_running_spec = tie.close (tie.spec (λ c κs. search rules) (λ c. search rules) returns)

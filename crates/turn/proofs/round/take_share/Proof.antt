@@ -123,8 +123,8 @@ returns c =
     s.args.out.now) d.turns-due.ensures
     ∙ ap (λ t. turnLeftBy t s.args.out.now) (due-share s.args.slot s.args.clock s.args.disc.now s.args.area.now)
 
-pub take-share-spec : {M : Type 1} → statement M
-take-share-spec =
+pub take_share_spec : {M : Type 1} → statement M
+take_share_spec =
     tie.close
     (tie.spec
     invariant-loop

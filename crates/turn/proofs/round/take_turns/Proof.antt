@@ -103,8 +103,8 @@ returns c =
       omega (arith, g.few, g.little),
     )
 
-pub take-turns-spec : {M : Type 1} → statement M
-take-turns-spec =
+pub take_turns_spec : {M : Type 1} → statement M
+take_turns_spec =
     tie.close
     (tie.spec
     invariant-loop

@@ -56,8 +56,8 @@ returns-2 c =
     let s = start k in
     rw (idle c) (λ t. turnLeft 0 s.args.disc.now (sym (whole k) t) (sym (paste-zero s.args.out.now 0 []) t))
 
-pub turn-if-running-spec : {M : Type 1} → statement M
-turn-if-running-spec =
+pub turn_if_running_spec : {M : Type 1} → statement M
+turn_if_running_spec =
     tie.close
     (tie.spec
     (λ c κs. let s = start c.before in (area-size s.pre.0, s.pre.1))

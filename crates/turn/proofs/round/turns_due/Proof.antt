@@ -51,8 +51,8 @@ returns-3 c =
     let one = two.before.before in
     rw (running one, share-is (tested one), ne_eqb _ 0 two.if2.false)
 
-pub turns-due-spec : {M : Type 1} → statement M
-turns-due-spec =
+pub turns_due_spec : {M : Type 1} → statement M
+turns_due_spec =
     tie.close
     (tie.spec
     (λ c κs. search rules)

@@ -227,8 +227,8 @@ returns-12 c =
     let own = told.action5.given.1 in
     done-as s own (stays s told.action5.given.0.0 (bounds s own) (put.wait.ensures (disc s)))
 
-pub carry-out-spec : {M : Type 1} → statement M
-carry-out-spec =
+pub carry_out_spec : {M : Type 1} → statement M
+carry_out_spec =
     tie.close
     (tie.spec
     (λ c. search rules)

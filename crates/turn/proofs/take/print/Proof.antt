@@ -76,8 +76,8 @@ returns-2 c =
     let text : printedBy d ≡ [] = prints-nothing d.action (about d) c.match.keys2 in
     (sym (ap length text), ap (overwrite s.args.out.now 0) (sym text))
 
-pub print-spec : {M : Type 1} → statement M
-print-spec =
+pub print_spec : {M : Type 1} → statement M
+print_spec =
     tie.close
     (tie.spec
     (λ c. search rules)

@@ -51,8 +51,8 @@ returns c =
     printed.print.result done.carry-out.new.0 done.carry-out.new.1.0 s.args.out.now printed.print.new.1.0
     done.carry-out.ensures printed.print.ensures
 
-pub take-turn-spec : {M : Type 1} → statement M
-take-turn-spec =
+pub take_turn_spec : {M : Type 1} → statement M
+take_turn_spec =
     tie.close
     (tie.spec
     next-step-requires

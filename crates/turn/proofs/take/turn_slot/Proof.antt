@@ -20,8 +20,8 @@ take-turn-requires c κs =
     let copied = ap (λ (l : List Process). get_or l s.args.slot noProcess) read.processes-of.ensures in
     (s.pre.0, s.pre.1, s.pre.2, copied, ap isRunning copied ∙ s.pre.3)
 
-pub turn-slot-spec : {M : Type 1} → statement M
-turn-slot-spec =
+pub turn_slot_spec : {M : Type 1} → statement M
+turn_slot_spec =
     tie.close
     (tie.spec
     (λ c κs. area-size (start c).requires.0)

@@ -7,8 +7,8 @@ use Rattle.validation.proofs.good.has_zeros.Tie as tie
 returns : tie.Need-returns
 returns c = let s = c.before.before.before in cc (seven-zeros s.args.area.now s.requires)
 
-pub has-zeros-spec : {M : Type 1} → statement M
-has-zeros-spec =
+pub has_zeros_spec : {M : Type 1} → statement M
+has_zeros_spec =
     tie.close
     (tie.spec
     (λ c κs. search rules)

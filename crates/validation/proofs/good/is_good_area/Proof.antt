@@ -63,8 +63,8 @@ returns-4 c =
     ∙ ap (λ (l : List ℕ). goodVariables (keep isId l) (variablesOf a.area.now)) d.before.before.before.live-ids.ensures
     ∙ variables-left a.disc.now a.area.now (records r) (header h) (sym (ids d.before) ∙ not-false _ d.if3.false)
 
-pub is-good-area-spec : {M : Type 1} → statement M
-is-good-area-spec =
+pub is_good_area_spec : {M : Type 1} → statement M
+is_good_area_spec =
     tie.close
     (tie.spec
     (λ c κs. search rules)

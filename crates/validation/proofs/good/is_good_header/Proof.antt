@@ -9,8 +9,8 @@ returns : tie.Need-returns
 unfolding goodHeader kernelOf
 returns c = cc
 
-pub is-good-header-spec : {M : Type 1} → statement M
-is-good-header-spec =
+pub is_good_header_spec : {M : Type 1} → statement M
+is_good_header_spec =
     tie.close
     (tie.spec
     (λ c κs. search rules)

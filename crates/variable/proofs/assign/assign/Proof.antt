@@ -108,8 +108,8 @@ returns-2 c = refused c.before.before NoEntry tt c.enum_told.given.1
 returns-3 : tie.Need-returns-3
 returns-3 c = refused c.before.before NoRun tt c.enum-told2.given.1
 
-pub assign-spec : {M : Type 1} → statement M
-assign-spec =
+pub assign_spec : {M : Type 1} → statement M
+assign_spec =
     tie.close
     (tie.spec
     (λ c κs. search rules)

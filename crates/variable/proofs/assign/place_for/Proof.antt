@@ -27,6 +27,6 @@ returns-2 c = let known = c.before in
 returns-3 : tie.Need-returns-3
 returns-3 c = sym (searched c.before.before ∙ ap addressOr c.enum_told.given.1)
 
-pub place-for-spec : {M : Type 1} → statement M
-place-for-spec =
+pub place_for_spec : {M : Type 1} → statement M
+place_for_spec =
     tie.close (tie.spec returns (λ c κs. search rules) (λ c. search rules) (λ c. search rules) returns-2 returns-3)

@@ -15,5 +15,5 @@ returns c =
     ∙ memory-written s.args.variables.now (λ i. omega (arith, bytes.before.slice-known.given i)) s.requires.0 s.args.at
     s.args.bytes.now s.requires.1
 
-pub put-memory-spec : {M : Type 1} → statement M
-put-memory-spec = tie.close (tie.spec (λ c κs. omega arith) (λ c. search rules) returns)
+pub put_memory_spec : {M : Type 1} → statement M
+put_memory_spec = tie.close (tie.spec (λ c κs. omega arith) (λ c. search rules) returns)

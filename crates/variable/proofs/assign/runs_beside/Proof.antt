@@ -65,8 +65,8 @@ returns c =
     let q : l.loop.i ≡ v.count = omega arith in
     listed-all v (is_of a.name a.owner) l.loop.invariant.2 q
 
-pub runs-beside-spec : {M : Type 1} → statement M
-runs-beside-spec =
+pub runs_beside_spec : {M : Type 1} → statement M
+runs_beside_spec =
     tie.close
     (tie.spec
     invariant-loop

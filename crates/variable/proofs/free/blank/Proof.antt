@@ -50,8 +50,8 @@ returns c =
     let q : l.loop.i ≡ l.before.before.args.end = omega arith in
     rw (← q) l.loop.invariant.3
 
-pub blank-spec : {M : Type 1} → statement M
-blank-spec =
+pub blank_spec : {M : Type 1} → statement M
+blank_spec =
     tie.close
     (tie.spec
     invariant-loop

@@ -97,8 +97,8 @@ returns c =
     let q : l.loop.i ≡ (start l).args.count = omega arith in
     rw q at l.loop.invariant.3
 
-pub close-up-spec : {M : Type 1} → statement M
-close-up-spec =
+pub close_up_spec : {M : Type 1} → statement M
+close_up_spec =
     tie.close
     (tie.spec
     invariant-loop

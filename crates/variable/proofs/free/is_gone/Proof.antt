@@ -9,5 +9,5 @@ returns c = rw c.before.if1.true
 returns-2 : tie.Need-returns-2
 returns-2 c = rw c.before.if1.false c.is-of.ensures
 
-pub is-gone-spec : {M : Type 1} → statement M
-is-gone-spec = tie.close (tie.spec returns (λ c κs. search rules) returns-2)
+pub is_gone_spec : {M : Type 1} → statement M
+is_gone_spec = tie.close (tie.spec returns (λ c κs. search rules) returns-2)

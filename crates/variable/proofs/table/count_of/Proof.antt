@@ -6,8 +6,8 @@ use Rattle.variable.proofs.Bytes.{count-read}
 use Rattle.variable.proofs.table.count_of.Statement.{statement}
 use Rattle.variable.proofs.table.count_of.Tie as tie
 
-pub count-of-spec : {M : Type 1} → statement M
-count-of-spec =
+pub count_of_spec : {M : Type 1} → statement M
+count_of_spec =
     tie.close
     (tie.spec
     (λ c. search rules)

@@ -18,8 +18,8 @@ returns c =
     let e = part-to a.variables.now (entries_at + a.i * entrySize) entrySize in
     rw (entry_read a.variables.now a.i (omega arith)) (cc)
 
-pub entry-at-spec : {M : Type 1} → statement M
-entry-at-spec =
+pub entry_at_spec : {M : Type 1} → statement M
+entry_at_spec =
     tie.close
     (tie.spec
     (λ c. search rules)

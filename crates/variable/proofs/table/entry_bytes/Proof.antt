@@ -6,5 +6,5 @@ use Rattle.variable.proofs.table.entry_bytes.Tie as tie
 returns : tie.Need-returns
 returns c = cc
 
-pub entry-bytes-spec : {M : Type 1} → statement M
-entry-bytes-spec = tie.close (tie.spec (λ c κs. search rules) (λ c κs. search rules) returns)
+pub entry_bytes_spec : {M : Type 1} → statement M
+entry_bytes_spec = tie.close (tie.spec (λ c κs. search rules) (λ c κs. search rules) returns)

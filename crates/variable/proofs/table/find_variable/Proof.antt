@@ -62,8 +62,8 @@ returns-2 c =
     (sym (index-tab-miss (λ k. get_or v.entries k noVariable) v.count (is_of a.name a.owner)
     (λ k h. l.loop.invariant.1 k (omega arith))))
 
-pub find-variable-spec : {M : Type 1} → statement M
-find-variable-spec =
+pub find_variable_spec : {M : Type 1} → statement M
+find_variable_spec =
     tie.close
     (tie.spec
     invariant-loop

@@ -14,5 +14,5 @@ returns c =
     laid.overwrite-at.ensures
     ∙ count-written s.args.variables.now (λ i. omega (arith, bytes.slice-known.given i)) s.requires s.args.count
 
-pub put-count-spec : {M : Type 1} → statement M
-put-count-spec = tie.close (tie.spec (λ c. search rules) (λ c κs. search rules) (λ c. search rules) returns)
+pub put_count_spec : {M : Type 1} → statement M
+put_count_spec = tie.close (tie.spec (λ c. search rules) (λ c κs. search rules) (λ c. search rules) returns)

@@ -21,8 +21,8 @@ returns c =
     ∙ ap (λ (b : List ℕ). overwrite a.variables.now (entries_at + a.i * entrySize) b) made.entry-bytes.ensures
     ∙ entry-written a.variables.now (λ i. omega (arith, bytes.slice-known.given i)) s.requires.0 a.i a.e s.requires.1
 
-pub put-entry-spec : {M : Type 1} → statement M
-put-entry-spec =
+pub put_entry_spec : {M : Type 1} → statement M
+put_entry_spec =
     tie.close
     (tie.spec
     (λ c κs. search rules)

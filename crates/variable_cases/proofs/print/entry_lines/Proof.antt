@@ -11,8 +11,8 @@ invariant-loop entries i₀ i = i ≤ 6
 abbrev decreases-loop : tie.decreases-loop
 decreases-loop entries i₀ i = 6 - i
 
-pub entry-lines-spec : {M : Type 1} → statement M
-entry-lines-spec =
+pub entry_lines_spec : {M : Type 1} → statement M
+entry_lines_spec =
     tie.close
     (tie.spec
     invariant-loop

@@ -11,8 +11,8 @@ invariant-loop memory i₀ t5 i = i ≤ 16
 abbrev decreases-loop : tie.decreases-loop
 decreases-loop memory i₀ t5 i = 16 - i
 
-pub memory-line-spec : {M : Type 1} → statement M
-memory-line-spec =
+pub memory_line_spec : {M : Type 1} → statement M
+memory_line_spec =
     tie.close
     (tie.spec
     invariant-loop

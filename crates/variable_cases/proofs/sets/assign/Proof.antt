@@ -20,8 +20,8 @@ assign-requires c κs =
     let n = value-length c in
     (search rules, omega arith, omega arith, omega arith)
 
-pub assign-spec : {M : Type 1} → statement M
-assign-spec =
+pub assign_spec : {M : Type 1} → statement M
+assign_spec =
     tie.close
     (tie.spec
     (λ c. search rules)

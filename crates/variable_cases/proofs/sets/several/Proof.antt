@@ -11,8 +11,8 @@ invariant-loop n size v₀ i₀ v i = i ≤ n
 abbrev decreases-loop : tie.decreases-loop
 decreases-loop n size v₀ i₀ v i = n - i
 
-pub several-spec : {M : Type 1} → statement M
-several-spec =
+pub several_spec : {M : Type 1} → statement M
+several_spec =
     tie.close
     (tie.spec
     invariant-loop

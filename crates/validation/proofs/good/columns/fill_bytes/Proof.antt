@@ -24,8 +24,8 @@ loop-again c =
     let p = l.before.before.requires in
     column-next _ _ _ l.loop.invariant (omega arith) (omega arith) c.wide.ensures.0
 
-pub fill-bytes-spec : {M : Type 1} → statement M
-fill-bytes-spec =
+pub fill_bytes_spec : {M : Type 1} → statement M
+fill_bytes_spec =
     tie.close
     (tie.spec
     invariant-loop

@@ -32,8 +32,8 @@ loop-again c =
     (rw (part-byte a at entrySize 2 (omega arith), part-byte a at entrySize 3 (omega arith))
     (ap₂ (λ (x y : ℕ). x + y) first.wide.ensures.0 c.wide2.ensures.0))
 
-pub fill-ends-spec : {M : Type 1} → statement M
-fill-ends-spec =
+pub fill_ends_spec : {M : Type 1} → statement M
+fill_ends_spec =
     tie.close
     (tie.spec
     invariant-loop

@@ -24,8 +24,8 @@ loop-again c =
     let p = l.before.before.requires in
     column-next _ _ _ l.loop.invariant (omega arith) (omega arith) c.word-at.ensures
 
-pub fill-words-spec : {M : Type 1} → statement M
-fill-words-spec =
+pub fill_words_spec : {M : Type 1} → statement M
+fill_words_spec =
     tie.close
     (tie.spec
     invariant-loop

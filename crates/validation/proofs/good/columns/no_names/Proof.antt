@@ -24,8 +24,8 @@ loop-holds c = record { few = omega arith; size = refl; first = refl }
 loop-again : tie.Need-loop-preserved invariant-loop decreases-loop
 loop-again c = filled_next _ _ c.before.loop.invariant (omega arith) refl
 
-pub no-names-spec : {M : Type 1} → statement M
-no-names-spec =
+pub no_names_spec : {M : Type 1} → statement M
+no_names_spec =
     tie.close
     (tie.spec
     invariant-loop

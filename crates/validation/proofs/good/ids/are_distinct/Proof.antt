@@ -52,8 +52,8 @@ returns-2 c =
     let p = s.requires in
     sym (ap (pairs differs) (sym (take_all l.loop.i s.args.ids.now (omega arith))) ∙ l.loop.invariant.1)
 
-pub are-distinct-spec : {M : Type 1} → statement M
-are-distinct-spec =
+pub are_distinct_spec : {M : Type 1} → statement M
+are_distinct_spec =
     tie.close
     (tie.spec
     invariant-loop

@@ -52,8 +52,8 @@ returns-2 c =
     l.loop.invariant.1 ∙ ap (λ (n : ℕ). all (other id) (take n a.ids.now)) q
     ∙ some-differs id (take a.i a.ids.now) l.before.if1.false
 
-pub is-new-spec : {M : Type 1} → statement M
-is-new-spec =
+pub is_new_spec : {M : Type 1} → statement M
+is_new_spec =
     tie.close
     (tie.spec
     invariant-loop

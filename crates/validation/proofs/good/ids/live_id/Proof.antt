@@ -15,8 +15,8 @@ returns-2 : tie.Need-returns-2
 unfolding slotId
 returns-2 c = rw (sym c.before.is_live.ensures ∙ c.if1.false)
 
-pub live-id-spec : {M : Type 1} → statement M
-live-id-spec =
+pub live_id_spec : {M : Type 1} → statement M
+live_id_spec =
     tie.close
     (tie.spec
     (λ c. search rules)

@@ -32,8 +32,8 @@ loop-again c =
     filled_next _ _ l.loop.invariant (omega arith)
     (c.live-id.ensures ∙ ap (λ (b : List ℕ). slotId (processOf b)) c.before.record-at.ensures.0)
 
-pub live-ids-spec : {M : Type 1} → statement M
-live-ids-spec =
+pub live_ids_spec : {M : Type 1} → statement M
+live_ids_spec =
     tie.close
     (tie.spec
     invariant-loop

@@ -73,8 +73,8 @@ returns-2 c =
     let q : l.loop.i ≡ slotCount = omega arith in
     sym (subst (λ (n : ℕ). all (test a.disc.now a.area.now) (tab (processIn a.area.now) n) ≡ true) q l.loop.invariant.1)
 
-pub are-good-spec : {M : Type 1} → statement M
-are-good-spec =
+pub are_good_spec : {M : Type 1} → statement M
+are_good_spec =
     tie.close
     (tie.spec
     invariant-loop

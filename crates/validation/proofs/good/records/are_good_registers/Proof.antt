@@ -13,8 +13,8 @@ returns : tie.Need-returns
 unfolding goodRegisters
 returns c = cc
 
-pub are-good-registers-spec : {M : Type 1} → statement M
-are-good-registers-spec =
+pub are_good_registers_spec : {M : Type 1} → statement M
+are_good_registers_spec =
     tie.close
     (tie.spec
     (λ c. search rules)

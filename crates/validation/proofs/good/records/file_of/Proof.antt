@@ -31,8 +31,8 @@ returns-2 c =
     let l = c.before in
     record { found = λ h. absurd (omega arith); missed = λ h k m. l.loop.invariant.1 k (omega arith) }
 
-pub file-of-spec : {M : Type 1} → statement M
-file-of-spec =
+pub file_of_spec : {M : Type 1} → statement M
+file_of_spec =
     tie.close
     (tie.spec
     invariant-loop

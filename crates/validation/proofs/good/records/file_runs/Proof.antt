@@ -38,8 +38,8 @@ returns c =
     column-filled _ _ _ l.loop.invariant (omega arith)
     ∙ ap (λ (k : ℕ). overwrite (replicate maxFiles 0) 0 (tab (run n.before.before.args.disc.now) k)) n.file-count.ensures
 
-pub file-runs-spec : {M : Type 1} → statement M
-file-runs-spec =
+pub file_runs_spec : {M : Type 1} → statement M
+file_runs_spec =
     tie.close
     (tie.spec
     invariant-loop

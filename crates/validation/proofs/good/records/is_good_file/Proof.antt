@@ -57,8 +57,8 @@ returns-3 c =
     (subst (λ (n : ℕ). FileOf a.runs.now n c.file-of.result) c.before.four-at.ensures c.file-of.ensures)
     (some t.before))
 
-pub is-good-file-spec : {M : Type 1} → statement M
-is-good-file-spec =
+pub is_good_file_spec : {M : Type 1} → statement M
+is_good_file_spec =
     tie.close
     (tie.spec
     (λ c. search rules)

@@ -71,8 +71,8 @@ returns-5 c =
           ∙ not-false _ p.if4.false,
     ) c.is-good-file.ensures
 
-pub is-good-live-spec : {M : Type 1} → statement M
-is-good-live-spec =
+pub is_good_live_spec : {M : Type 1} → statement M
+is_good_live_spec =
     tie.close
     (tie.spec
     (λ c κs. search rules)

@@ -68,8 +68,8 @@ returns-3 c =
     ∙ found-any s.args.disc.now s.args.runs.now s.pre.0 (disc-bytes k) s.args.bytes.now (record-bytes k) 16
     f.file-of.result (sought f) (named k) (λ z. f.before.if1.false ((known f).four-at.ensures ∙ z)) c.before.if2.false
 
-pub is-good-program-spec : {M : Type 1} → statement M
-is-good-program-spec =
+pub is_good_program_spec : {M : Type 1} → statement M
+is_good_program_spec =
     tie.close
     (tie.spec
     (λ c κs. search rules)

@@ -23,8 +23,8 @@ returns-3 c =
     let s = l.before.before in
     rw (ne_eqb _ _ s.if1.false, sym l.before.is_live.ensures ∙ not-false _ l.if2.false) c.is-good-live.ensures
 
-pub is-good-record-spec : {M : Type 1} → statement M
-is-good-record-spec =
+pub is_good_record_spec : {M : Type 1} → statement M
+is_good_record_spec =
     tie.close
     (tie.spec
     (λ c. search rules)

@@ -92,8 +92,8 @@ returns-3 c =
     let p = (first l.before).pre in
     sym (clash-none a.area.now a.count (omega arith) (λ k h m. l.loop.invariant.1 k h (omega arith)))
 
-pub are-beside-spec : {M : Type 1} → statement M
-are-beside-spec =
+pub are_beside_spec : {M : Type 1} → statement M
+are_beside_spec =
     tie.close
     (tie.spec
     invariant-loop

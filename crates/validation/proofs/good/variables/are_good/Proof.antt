@@ -84,8 +84,8 @@ returns-5 c =
     )
     c.are-beside.ensures
 
-pub are-good-spec : {M : Type 1} → statement M
-are-good-spec =
+pub are_good_spec : {M : Type 1} → statement M
+are_good_spec =
     tie.close
     (tie.spec
     (λ c. search rules)

@@ -46,8 +46,8 @@ returns c =
     let q : l.loop.i ≡ a.count = omega arith in
     l.loop.invariant.1 ∙ ap (λ (n : ℕ). all (owns a.ids.now) (take n a.owners.now)) q
 
-pub are-owned-spec : {M : Type 1} → statement M
-are-owned-spec =
+pub are_owned_spec : {M : Type 1} → statement M
+are_owned_spec =
     tie.close
     (tie.spec
     invariant-loop

@@ -61,8 +61,8 @@ returns c =
     let q : l.loop.i ≡ a.count = omega arith in
     l.loop.invariant.1 ∙ ap (λ (n : ℕ). all sized (tab (variableIn a.area.now) n)) q
 
-pub are-sized-spec : {M : Type 1} → statement M
-are-sized-spec =
+pub are_sized_spec : {M : Type 1} → statement M
+are_sized_spec =
     tie.close
     (tie.spec
     invariant-loop

@@ -37,8 +37,8 @@ loop-again c =
 returns : tie.Need-returns invariant-loop decreases-loop
 returns c = asked-all _ _ _ c.before.loop.invariant (omega arith)
 
-pub is-clash-spec : {M : Type 1} → statement M
-is-clash-spec =
+pub is_clash_spec : {M : Type 1} → statement M
+is_clash_spec =
     tie.close
     (tie.spec
     invariant-loop

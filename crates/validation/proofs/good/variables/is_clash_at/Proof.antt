@@ -14,8 +14,8 @@ returns-2 : tie.Need-returns-2
 unfolding reach
 returns-2 c = rw (lt-leb _ few c.before.if1.false) c.is-clash2.ensures
 
-pub is-clash-at-spec : {M : Type 1} → statement M
-is-clash-at-spec =
+pub is_clash_at_spec : {M : Type 1} → statement M
+is_clash_at_spec =
     tie.close
     (tie.spec
     (λ c. omega arith)

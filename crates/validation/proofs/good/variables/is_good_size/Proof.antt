@@ -20,8 +20,8 @@ limited kind size limit e = rw e
 returns : tie.Need-returns
 returns c = limited c.args.kind c.args.size _ (omega arith)
 
-pub is-good-size-spec : {M : Type 1} → statement M
-is-good-size-spec =
+pub is_good_size_spec : {M : Type 1} → statement M
+is_good_size_spec =
     tie.close
     (tie.spec
     returns)

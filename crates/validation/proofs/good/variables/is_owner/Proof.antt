@@ -45,8 +45,8 @@ returns c =
     ∙ ap (any (eqb a.id)) (take_all l.loop.i a.ids.now (omega arith)))
     ∙ owner-kept a.id a.ids.now
 
-pub is-owner-spec : {M : Type 1} → statement M
-is-owner-spec =
+pub is_owner_spec : {M : Type 1} → statement M
+is_owner_spec =
     tie.close
     (tie.spec
     invariant-loop
