@@ -1,0 +1,14 @@
+-- The record's bytes say the process of that slot.
+use mathlib.Core.Path.{sym, ap, ◌∙◌}
+use native.Mathlib.Omega.{arith}
+use borrow.Author.Rules.{rules}
+use Rattle.machine.specs.Area.{processOf}
+use Rattle.area.proofs.Reading.{process-read}
+use Rattle.area.proofs.records.process_at.Goals as goal
+
+-- The record's bytes say the process of that slot.
+
+pub returns : goal.returns
+returns c =
+    let a = c.args in
+    c.process_of.ensures ∙ ap processOf c.record_at.ensures.0 ∙ sym (process-read a.area.now a.slot (omega arith))

@@ -1,0 +1,16 @@
+-- The part from a place to 64 bytes behind it is a record's.
+use native.Mathlib.Omega.{arith}
+use borrow.Author.Rules.{rules}
+use Rattle.buffer.proofs.Parts.{part_length, part-to}
+use Rattle.machine.specs.Limits.{recordSize}
+use Rattle.area.specs.Parts.{recordAt}
+use Rattle.area.proofs.records.record_at.Goals as goal
+
+-- The part from a place to 64 bytes behind it is a record's.
+
+pub returns : goal.returns
+returns c =
+    let a = c.args in
+    let at = recordAt a.slot in
+    let e = part-to a.area.now at recordSize in
+    (e, rw e (part_length a.area.now at recordSize (omega arith)))

@@ -1,0 +1,17 @@
+-- The loop: the first i bytes are the same.
+use Prim.Native.Nat.{ℕ, ◌≤◌, ◌<◌, ◌-◌}
+use mathlib.Core.Path.{◌≡◌, sym, ap}
+use native.Mathlib.Omega.{arith}
+use borrow.Author.Count.{below_more}
+use lib.ListN.{length, get_or}
+use lib.Seq.{ext_get_or}
+use Rattle.buffer.proofs.Lists.{same_refl, same-differ}
+use Rattle.buffer.proofs.bytes.same_bytes.Given as goal
+
+-- The loop: the first i bytes are the same.
+
+abbrev pub invariant-loop-i : goal.invariant-loop-i
+invariant-loop-i l = (l.i ≤ length l.a) × ((k : ℕ) → k < l.i → get_or l.a k 0 ≡ get_or l.b k 0)
+
+abbrev pub decreases-loop-i : goal.decreases-loop-i
+decreases-loop-i l = length l.a - l.i

@@ -1,0 +1,38 @@
+use Prim.Native.Nat.{ℕ, ◌≤◌, ◌-◌}
+use mathlib.Core.Path.{◌≡◌, sym, ap, ap₂, ◌∙◌}
+use mathlib.Core.List.{List}
+use lib.ListN.{set}
+use Rattle.buffer.specs.Lists.{tab}
+use Rattle.buffer.proofs.Lists.{map-tab}
+use Rattle.place.specs.Place.{filled}
+use Rattle.place.specs.declared.Run.{Run}
+use Rattle.place.proofs.Place.{filled_next}
+use Rattle.disc.specs.Directory.{entry_at, fileCount, runOf}
+use native.Mathlib.Omega.{arith}
+use borrow.Author.Rules.{rules}
+use Rattle.disc.proofs.directory.taken_runs.Goals as goal
+
+-- The loop: the array holds the runs of the first i entries, and nothing behind them.
+
+-- the run of the file at k
+abbrev run_at : List ℕ → ℕ → Run
+run_at disc k = runOf (entry_at disc k)
+
+pub loop-i-init : goal.loop-i-init
+unfolding tab
+loop-i-init c = (omega arith, c.no_runs-runs.ensures)
+
+pub loop-i-preserved : goal.loop-i-preserved
+loop-i-preserved c =
+    let d = c.args.disc.now in
+    let e : c.run_of-run.result ≡ run_at d c.loop-i.i = c.run_of-run.ensures ∙ ap runOf c.entry_at.ensures in (
+      omega arith,
+      ap₂ (λ (runs : List Run) (run : Run). set runs c.loop-i.i run) c.loop-i.invariant.1 e
+          ∙ filled_next (run_at d) c.loop-i.i (omega arith),
+    )
+
+pub returns : goal.returns
+returns c =
+    let d = c.args.disc.now in
+    let q : c.loop-i.i ≡ fileCount d = omega arith in
+    rw (← q) (c.loop-i.invariant.1 ∙ ap filled (sym (map-tab runOf (entry_at d) c.loop-i.i)))

@@ -1,0 +1,12 @@
+-- Turn through C: the operation's answer under its number.
+use mathlib.Core.Path.{◌∙◌}
+use borrow.Author.Rules.{rules}
+use mir.Facts.{to_z-of_z}
+use Rattle.export.proofs.Numbered.{numbered}
+use Rattle.export.proofs.arduinos_turn.Goals as goal
+
+-- Turn through C: the operation's answer under its number.
+
+pub returns : goal.returns
+returns c =
+    numbered _ _ _ (to_z-of_z (search rules) ∙ c.number.ensures) c.turn.ensures

@@ -1,0 +1,9 @@
+-- `float::compare::equals_whole` meets its contract. Assumes nothing.
+use Rattle.float.proofs.Exactly.{equals-met}
+use Rattle.std.proofs.Common.{rules}
+use Rattle.float.proofs.compare.equals_whole.Goals as goal
+
+-- `float::compare::equals_whole` meets its contract. Assumes nothing.
+
+pub returns : goal.returns
+returns c = equals-met c.args.z c.ranges.z c.f32_to_f64_with_nan.ensures

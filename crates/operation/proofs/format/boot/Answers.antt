@@ -1,0 +1,21 @@
+-- An area of the right length is cleared, any other refused.
+use Prim.Native.Nat.{ℕ}
+use mathlib.Core.Path.{ap}
+use mathlib.Core.List.{List}
+use borrow.Author.Rules.{rules}
+use borrow.Author.Tests.{eq-eqb, ne_eqb}
+use Rattle.machine.specs.Answer.{bootAnswer}
+use Rattle.operation.specs.Answers.{answered}
+use Rattle.operation.specs.declared.Answer.TheVariants.{Done}
+use Rattle.operation.proofs.format.boot.Goals as goal
+
+-- An area of the right length is cleared, any other refused.
+
+pub returns-then-area-ne-AREA_LENGTH : goal.returns-then-area-ne-AREA_LENGTH
+unfolding bootAnswer
+returns-then-area-ne-AREA_LENGTH c disc out = rw (ne_eqb _ _ c.if-area-ne-AREA_LENGTH.true)
+
+pub returns : goal.returns
+unfolding bootAnswer
+returns c disc out =
+    rw (eq-eqb _ _ c.if-area-ne-AREA_LENGTH.false) (ap (λ (l : List ℕ). answered (Done 0) disc l out) c.clear_area.ensures)

@@ -1,0 +1,37 @@
+use Prim.Native.Nat.{◌-◌, ◌≤◌}
+use mathlib.Core.Path.{ap}
+use native.Mathlib.Omega.{arith}
+use borrow.Author.Rules.{rules}
+use lib.ListN.{length}
+use Rattle.buffer.proofs.Lines.{Written, lines, written_all, written_next, written_none, written-room}
+use Rattle.machine.specs.Area.{processOf}
+use Rattle.machine.specs.Limits.{slotCount}
+use Rattle.area.specs.Parts.{processIn}
+use Rattle.operation.specs.Lines.{line_of}
+use Rattle.operation.proofs.Lines.{live-lines}
+use Rattle.operation.proofs.list.put_list.Goals as goal
+
+pub put_line-at-requires : goal.put_line-at-requires
+put_line-at-requires c =
+    let room : length (lines line_of (processIn c.args.area.now) slotCount) ≤ length c.args.out.now =
+        omega (arith, ap length (live-lines c.args.area.now), c.requires.area_in_bounds) in
+    (
+      c.record_at.ensures.1,
+      written-room _ _ _ _ room c.loop-slot.invariant (omega arith) (ap processOf c.record_at.ensures.0),
+    )
+
+pub loop-slot-preserved : goal.loop-slot-preserved
+loop-slot-preserved c =
+    let room : length (lines line_of (processIn c.args.area.now) slotCount) ≤ length c.args.out.now =
+        omega (arith, ap length (live-lines c.args.area.now), c.requires.area_in_bounds) in
+    written_next _ _ _ _ room c.loop-slot.invariant (omega arith) (ap processOf c.record_at.ensures.0) c.put_line-at.ensures
+
+pub returns : goal.returns
+returns c =
+    rw (live-lines c.args.area.now) at (written_all _ _ _ _ c.loop-slot.invariant (omega arith))
+
+pub loop-slot-init : goal.loop-slot-init
+loop-slot-init c = written_none _ _ _ _
+
+pub shape_of-out : goal.shape_of-out
+shape_of-out c = c.loop-slot.invariant.size

@@ -1,0 +1,17 @@
+-- A number of 16 bits as it is, a refusal below 0.
+use mathlib.Core.Path.{sym, ap, ◌∙◌}
+use native.Mathlib.Omega.{arith}
+use mir.Facts.{to_z-of_z, to_z_pos}
+use mir.Syntax.{w32}
+use borrow.Author.Rules.{rules}
+use Rattle.operation.specs.Answers.{answerNumber}
+use Rattle.operation.proofs.numbers.number.Goals as goal
+
+-- A number of 16 bits as it is, a refusal below 0.
+
+pub returns-in-Done : goal.returns-in-Done
+returns-in-Done c = to_z_pos w32 {n = c.in-Done.n} (omega (arith, c.in-Done.given))
+    ∙ ap answerNumber (sym c.in-Done.is)
+
+pub returns-in-Refused : goal.returns-in-Refused
+returns-in-Refused c = to_z-of_z (search rules) ∙ c.refusal_number.ensures ∙ ap answerNumber (sym c.in-Refused.is)

@@ -1,0 +1,21 @@
+-- The head is laid above what is kept, behind it the tail, behind that zeros.
+use Prim.Native.Nat.{◌+◌, ◌-◌}
+use native.Mathlib.Omega.{arith}
+use borrow.Author.Rules.{rules}
+use lib.ListN.{length}
+use Rattle.buffer.specs.Buffer.{zeros}
+use Rattle.machine.specs.Area.{stackAt}
+use Rattle.machine.specs.Limits.{stackSize}
+use Rattle.area.specs.Parts.{recordAt}
+use Rattle.buffer.proofs.Runs.{three-laid}
+use Rattle.process.proofs.advance.put_stack.Goals as goal
+
+pub returns : goal.returns
+returns c =
+    let a = c.args in
+    let bottom = recordAt a.slot + stackAt in
+    let middle = a.kept + length a.head.now in
+    let sp = middle + length a.tail.now in
+    three-laid a.area.now a.head.now a.tail.now (zeros (stackSize - sp)) (bottom + a.kept) (bottom + middle) (bottom + sp)
+    (omega arith) (omega arith) (omega arith) c.overwrite_at.last.0 c.overwrite_at-2.last.0 c.zero_at.new.0
+    c.overwrite_at.ensures c.overwrite_at-2.ensures c.zero_at.ensures

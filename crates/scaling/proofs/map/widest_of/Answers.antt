@@ -1,0 +1,8 @@
+-- One number after another.
+use borrow.Author.Rules.{rules}
+use Rattle.scaling.proofs.map.widest_of.Goals as goal
+
+pub returns : goal.returns
+returns c =
+    rw (← c.wider_of.ensures, ← c.wider_of-of_two.ensures, ← c.wider_of-2.ensures, ← c.wider_of-3.ensures)
+    c.wider_of-4.ensures

@@ -1,0 +1,9 @@
+-- The whole stack is kept.
+use lib.Seq.{take-length}
+use borrow.Author.Rules.{rules}
+use Rattle.stack.proofs.ends.jump.Goals as goal
+
+-- The whole stack is kept.
+
+pub returns : goal.returns
+returns c = rw take-length at c.go.ensures

@@ -1,0 +1,15 @@
+-- The loop: the first i places are filled.
+use Prim.Native.Nat.{ℕ, ◌+◌, ◌*◌, ◌-◌}
+use mathlib.Core.List.{List}
+use native.Mathlib.Omega.{arith}
+use borrow.Author.Rules.{rules}
+use lib.ListN.{get_or}
+use Rattle.validation.proofs.Columns.{Column, column-filled, column-next, column-none}
+use Rattle.variable.specs.Limits.{entries_at, entrySize}
+use Rattle.validation.proofs.good.columns.fill_bytes.Given as goal
+
+abbrev pub invariant-loop-i : goal.invariant-loop-i
+invariant-loop-i l = Column l.initial.column (byte l.area l.field) l.count l.column l.i
+
+abbrev pub decreases-loop-i : goal.decreases-loop-i
+decreases-loop-i l = l.count - l.i

@@ -1,0 +1,22 @@
+use Prim.Native.Nat.{ℕ, ◌+◌, ◌-◌}
+use mathlib.Core.Path.{refl}
+use native.Mathlib.Omega.{arith}
+use Rattle.buffer.specs.Lists.{tab}
+use Rattle.validation.specs.Columns.{places}
+use Rattle.area.proofs.Tables.{Filled, filled-all, filled_next}
+use Rattle.validation.proofs.good.columns.no_names.Goals as goal
+
+-- The loop: the first i of them.
+
+abbrev noName : ℕ → ℕ
+noName i = 256 + i
+
+pub loop-i-init : goal.loop-i-init
+unfolding tab
+loop-i-init c = record { few = omega arith; size = refl; first = refl }
+
+pub loop-i-preserved : goal.loop-i-preserved
+loop-i-preserved c = filled_next _ _ c.loop-i.invariant (omega arith) refl
+
+pub returns : goal.returns
+returns c = filled-all _ _ c.loop-i.invariant (omega arith)

@@ -1,0 +1,14 @@
+-- The loop: the first i of them.
+use Prim.Native.Nat.{ℕ, ◌+◌, ◌-◌}
+use mathlib.Core.Path.{refl}
+use native.Mathlib.Omega.{arith}
+use Rattle.buffer.specs.Lists.{tab}
+use Rattle.validation.specs.Columns.{places}
+use Rattle.area.proofs.Tables.{Filled, filled-all, filled_next}
+use Rattle.validation.proofs.good.columns.no_names.Given as goal
+
+abbrev pub invariant-loop-i : goal.invariant-loop-i
+invariant-loop-i l = Filled noName places l.names l.i
+
+abbrev pub decreases-loop-i : goal.decreases-loop-i
+decreases-loop-i l = places - l.i

@@ -1,0 +1,59 @@
+-- Header, records, IDs and variables, one after the other.
+use mathlib.Core.Path.{◌≡◌, sym, ap, ◌∙◌}
+use mathlib.Core.Bool.{true}
+use mathlib.Core.List.{List}
+use Prim.Native.Nat.{ℕ}
+use borrow.Author.Rules.{rules}
+use borrow.Author.Tests.{not-true, not-false}
+use Rattle.buffer.specs.Lists.{all, keep, pairs}
+use Rattle.disc.specs.Directory.{files}
+use Rattle.variable.specs.Good.{goodVariables}
+use Rattle.variable.specs.Bytes.{variablesOf}
+use Rattle.machine.specs.Area.{kernelOf}
+use Rattle.machine.specs.GoodArea.{goodHeader, goodProcess}
+use Rattle.validation.specs.Columns.{differs, isId, slotIds}
+use Rattle.validation.proofs.Goodness.{bad-header, bad-ids, bad-records, variables-left}
+use Rattle.validation.proofs.good.is_good_area.Goals as goal
+
+header : (c : goal.Else-not-is_good_header) → goodHeader (kernelOf c.args.area.now) ≡ true
+header c = sym c.is_good_header.ensures ∙ c.if-not-is_good_header.false
+
+records : (c : goal.Else-not-are_good) → let a = c.args in
+    all (goodProcess (files a.disc.now) (kernelOf a.area.now).next) (kernelOf a.area.now).processes ≡ true
+records c = sym c.are_good.ensures ∙ c.if-not-are_good.false
+
+pub returns-then-not-is_good_header : goal.returns-then-not-is_good_header
+returns-then-not-is_good_header c =
+    let a = c.args in
+    sym (bad-header a.disc.now a.area.now (sym c.is_good_header.ensures ∙ c.if-not-is_good_header.true))
+
+pub returns-then-not-are_good : goal.returns-then-not-are_good
+returns-then-not-are_good c =
+    let a = c.args in
+    sym (bad-records a.disc.now a.area.now (sym c.are_good.ensures ∙ c.if-not-are_good.true))
+
+pub returns-then-not-are_distinct : goal.returns-then-not-are_distinct
+returns-then-not-are_distinct c =
+    let records : let a = c.args in
+    all (goodProcess (files a.disc.now) (kernelOf a.area.now).next) (kernelOf a.area.now).processes ≡ true =
+        sym c.are_good.ensures ∙ c.if-not-are_good.false in
+    let ids : let a = c.args in
+    c.are_distinct.result ≡ pairs differs (slotIds a.area.now) =
+        c.are_distinct.ensures ∙ ap (pairs differs) c.live_ids-ids.ensures in
+    let a = c.args in
+    sym (bad-ids a.disc.now a.area.now records (sym ids ∙ c.if-not-are_distinct.true))
+
+pub returns : goal.returns
+returns c =
+    let header : goodHeader (kernelOf c.args.area.now) ≡ true =
+        sym c.is_good_header.ensures ∙ c.if-not-is_good_header.false in
+    let records : let a = c.args in
+    all (goodProcess (files a.disc.now) (kernelOf a.area.now).next) (kernelOf a.area.now).processes ≡ true =
+        sym c.are_good.ensures ∙ c.if-not-are_good.false in
+    let ids : let a = c.args in
+    c.are_distinct.result ≡ pairs differs (slotIds a.area.now) =
+        c.are_distinct.ensures ∙ ap (pairs differs) c.live_ids-ids.ensures in
+    let a = c.args in
+    c.are_good-2.ensures
+    ∙ ap (λ (l : List ℕ). goodVariables (keep isId l) (variablesOf a.area.now)) c.live_ids-ids.ensures
+    ∙ variables-left a.disc.now a.area.now records header (sym ids ∙ c.if-not-are_distinct.false)

@@ -1,0 +1,32 @@
+use Prim.Native.Nat.{ℕ, ◌+◌, ◌*◌, ◌≤◌, ◌-◌}
+use mathlib.Core.Path.{ap, ◌∙◌}
+use mathlib.Core.List.{List}
+use native.Mathlib.Omega.{arith}
+use borrow.Author.Rules.{rules}
+use lib.ListN.{replicate}
+use Rattle.buffer.specs.Buffer.{fourAt, overwrite}
+use Rattle.buffer.specs.Lists.{tab}
+use Rattle.disc.specs.Layout.{entrySize, maxFiles, nameSize}
+use Rattle.validation.specs.Columns.{fileRuns}
+use Rattle.validation.proofs.Columns.{Column, column-filled, column-next, column-none}
+use Rattle.validation.proofs.good.records.file_runs.Goals as goal
+
+-- The loop: the first i places are filled.
+
+abbrev run : List ℕ → ℕ → ℕ
+run disc i = fourAt disc (i * entrySize + nameSize)
+
+pub loop-i-preserved : goal.loop-i-preserved
+loop-i-preserved c =
+    let p = c.requires in
+    let few : c.file_count-count.result ≤ maxFiles = omega (arith, c.file_count-count.ensures, p.few) in
+    column-next _ _ _ c.loop-i.invariant few (omega arith) c.four_at-run.ensures
+
+pub returns : goal.returns
+unfolding fileRuns
+returns c =
+    column-filled _ _ _ c.loop-i.invariant (omega arith)
+    ∙ ap (λ (k : ℕ). overwrite (replicate maxFiles 0) 0 (tab (run c.args.disc.now) k)) c.file_count-count.ensures
+
+pub loop-i-init : goal.loop-i-init
+loop-i-init c = column-none _ _ _

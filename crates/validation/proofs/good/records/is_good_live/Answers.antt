@@ -1,0 +1,67 @@
+-- Its tests are those of `goodLive`, in their order.
+use Prim.Native.Nat.{ℕ, ◌<◌, ◌≤◌}
+use mathlib.Core.Path.{◌≡◌, sym, subst, ◌∙◌}
+use mathlib.Core.Bool.{true}
+use borrow.Author.Rules.{rules}
+use borrow.Author.Tests.{le-leb, le-ltb, lt-leb, lt-ltb, not-true, not-false}
+use Rattle.buffer.proofs.Bools.{and_both}
+use Rattle.machine.specs.Area.{processOf}
+use Rattle.machine.specs.GoodArea.{goodId, goodLive, goodRegisters}
+use Rattle.machine.specs.declared.Process.{Process}
+use Rattle.validation.proofs.good.records.is_good_live.Goals as goal
+
+good-id : (c : goal.Else-next-id) → goodId c.args.next (processOf c.args.bytes.now) ≡ true
+good-id c =
+    let n = c.args.next in
+    let e = c.word_at-id.ensures in
+    and_both (le-leb _ _ (subst (λ (k : ℕ). 1 ≤ k) e c.if-id-lt1.false)) (lt-ltb _ _ (subst (λ (k : ℕ). k < n) e c.if-next-id.false))
+
+good-registers : (c : goal.Else-not-are_good_registers) → goodRegisters (processOf c.args.bytes.now) ≡ true
+good-registers c = sym c.are_good_registers.ensures ∙ c.if-not-are_good_registers.false
+
+pub returns-then-id-lt1 : goal.returns-then-id-lt1
+unfolding goodLive
+returns-then-id-lt1 c = rw (lt-leb _ _ (subst (λ (k : ℕ). k < 1) c.word_at-id.ensures c.if-id-lt1.true))
+
+pub returns-then-next-id : goal.returns-then-next-id
+unfolding goodLive
+returns-then-next-id c =
+    let n = c.args.next in
+    let e = c.word_at-id.ensures in
+    rw (le-leb _ _ (subst (λ (k : ℕ). 1 ≤ k) e c.if-id-lt1.false), le-ltb _ _ (subst (λ (k : ℕ). n ≤ k) e c.if-next-id.true))
+
+pub returns-then-not-are_good_registers : goal.returns-then-not-are_good_registers
+unfolding goodLive
+returns-then-not-are_good_registers c =
+    let good-id : goodId c.args.next (processOf c.args.bytes.now) ≡ true =
+        let n = c.args.next in
+    let e = c.word_at-id.ensures in
+    and_both (le-leb _ _ (subst (λ (k : ℕ). 1 ≤ k) e c.if-id-lt1.false)) (lt-ltb _ _ (subst (λ (k : ℕ). k < n) e c.if-next-id.false)) in
+    rw (good-id, sym c.are_good_registers.ensures ∙ c.if-not-are_good_registers.true)
+
+pub returns-then-not-is_good_program : goal.returns-then-not-is_good_program
+unfolding goodLive
+returns-then-not-is_good_program c =
+    let good-id : goodId c.args.next (processOf c.args.bytes.now) ≡ true =
+        let n = c.args.next in
+    let e = c.word_at-id.ensures in
+    and_both (le-leb _ _ (subst (λ (k : ℕ). 1 ≤ k) e c.if-id-lt1.false)) (lt-ltb _ _ (subst (λ (k : ℕ). k < n) e c.if-next-id.false)) in
+    let good-registers : goodRegisters (processOf c.args.bytes.now) ≡ true =
+        sym c.are_good_registers.ensures ∙ c.if-not-are_good_registers.false in
+    rw (good-id, good-registers, sym c.is_good_program.ensures ∙ c.if-not-is_good_program.true)
+
+pub returns : goal.returns
+unfolding goodLive
+returns c =
+    let good-id : goodId c.args.next (processOf c.args.bytes.now) ≡ true =
+        let n = c.args.next in
+    let e = c.word_at-id.ensures in
+    and_both (le-leb _ _ (subst (λ (k : ℕ). 1 ≤ k) e c.if-id-lt1.false)) (lt-ltb _ _ (subst (λ (k : ℕ). k < n) e c.if-next-id.false)) in
+    let good-registers : goodRegisters (processOf c.args.bytes.now) ≡ true =
+        sym c.are_good_registers.ensures ∙ c.if-not-are_good_registers.false in
+    rw (
+      good-id,
+      good-registers,
+      sym c.is_good_program.ensures
+          ∙ c.if-not-is_good_program.false,
+    ) c.is_good_file.ensures

@@ -1,0 +1,70 @@
+-- The count, then the parts of the test one after the other.
+use mathlib.Core.Path.{◌≡◌, sym, ◌∙◌}
+use mathlib.Core.Bool.{true}
+use native.Mathlib.Omega.{arith}
+use borrow.Author.Rules.{rules}
+use borrow.Author.Tests.{not-true, not-false}
+use lib.ListN.{take}
+use Rattle.buffer.specs.Lists.{all, keep, tab}
+use Rattle.validation.specs.Columns.{isId, sized}
+use Rattle.validation.proofs.Clashes.{owner-column-length, ownerColumn}
+use Rattle.validation.proofs.VariableTests.{column-owners, in_parts, isOwner, no-variables, too_many, variableCount}
+use Rattle.variable.specs.Limits.{countAt}
+use Rattle.variable.specs.Bytes.{variableIn}
+use Rattle.validation.proofs.good.variables.are_good.Goals as goal
+
+pub returns-then-count-gt-MAX_VARIABLES : goal.returns-then-count-gt-MAX_VARIABLES
+returns-then-count-gt-MAX_VARIABLES c =
+    let a = c.args in
+    sym (too_many (keep isId a.ids.now) a.area.now c.if-count-gt-MAX_VARIABLES.true)
+
+pub returns-then-count-eq0 : goal.returns-then-count-eq0
+returns-then-count-eq0 c = let a = c.args in sym (no-variables (keep isId a.ids.now) a.area.now c.if-count-eq0.true)
+
+pub returns-then-not-are_sized : goal.returns-then-not-are_sized
+returns-then-not-are_sized c =
+    let a = c.args in
+    rw (in_parts (keep isId a.ids.now) a.area.now c.if-count-gt-MAX_VARIABLES.false, sym c.are_sized.ensures ∙ c.if-not-are_sized.true)
+
+pub are_owned-requires : goal.are_owned-requires
+are_owned-requires c =
+    let m = c.if-count-gt-MAX_VARIABLES.false in
+    (rw c.fill_words.ensures (owner-column-length c.args.area.now (variableCount c.args.area.now) m), c.requires.1, omega arith)
+
+pub returns-then-not-are_owned : goal.returns-then-not-are_owned
+returns-then-not-are_owned c =
+    let good-sizes : let a = c.args.area.now in all sized (tab (variableIn a) (variableCount a)) ≡ true =
+        sym c.are_sized.ensures ∙ c.if-not-are_sized.false in
+    let owned : let a = c.args in let n = variableCount a.area.now in
+    c.are_owned.result ≡ all (isOwner (keep isId a.ids.now)) (take n (ownerColumn a.area.now n)) =
+        let a = c.args in
+    column-owners (keep isId a.ids.now) a.area.now c.are_owned.result c.fill_words.last.0 c.fill_words.ensures
+    c.are_owned.ensures in
+    let a = c.args in
+    rw (
+      in_parts (keep isId a.ids.now) a.area.now c.if-count-gt-MAX_VARIABLES.false,
+      good-sizes,
+      sym owned
+          ∙ c.if-not-are_owned.true,
+    )
+
+pub returns : goal.returns
+returns c =
+    let good-sizes : let a = c.args.area.now in all sized (tab (variableIn a) (variableCount a)) ≡ true =
+        sym c.are_sized.ensures ∙ c.if-not-are_sized.false in
+    let owned : let a = c.args in let n = variableCount a.area.now in
+    c.are_owned.result ≡ all (isOwner (keep isId a.ids.now)) (take n (ownerColumn a.area.now n)) =
+        let a = c.args in
+    column-owners (keep isId a.ids.now) a.area.now c.are_owned.result c.fill_words.last.0 c.fill_words.ensures
+    c.are_owned.ensures in
+    let a = c.args in
+    rw (
+      in_parts (keep isId a.ids.now) a.area.now c.if-count-gt-MAX_VARIABLES.false,
+      good-sizes,
+      sym owned
+          ∙ c.if-not-are_owned.false,
+    )
+    c.are_beside.ensures
+
+pub overflow_cast-count : goal.overflow_cast-count
+overflow_cast-count c = omega (arith, c.shared_slice_known-1.given countAt)

@@ -1,0 +1,19 @@
+-- The loop: whether the first i owners are live.
+use Prim.Native.Nat.{ℕ, ◌≤◌, ◌-◌}
+use mathlib.Core.Path.{◌≡◌, refl, sym, ap, ap₂, ◌∙◌}
+use mathlib.Core.Bool.{Bool, ◌&&◌}
+use mathlib.Core.List.{List}
+use native.Mathlib.Omega.{arith}
+use borrow.Author.Rules.{rules}
+use lib.Dec.{eqb}
+use lib.ListN.{take}
+use Rattle.buffer.specs.Lists.{all, any, keep}
+use Rattle.buffer.proofs.Equivalence.{all-take-more}
+use Rattle.validation.specs.Columns.{isId}
+use Rattle.validation.proofs.good.variables.are_owned.Given as goal
+
+abbrev pub invariant-loop-i : goal.invariant-loop-i
+invariant-loop-i l = (l.i ≤ l.count) × (l.good ≡ all (owns l.ids) (take l.i l.owners))
+
+abbrev pub decreases-loop-i : goal.decreases-loop-i
+decreases-loop-i l = l.count - l.i

@@ -1,0 +1,38 @@
+use Prim.Native.Nat.{ℕ, ◌+◌, ◌*◌, ◌≤◌, ◌-◌}
+use mathlib.Core.Path.{◌≡◌, refl, sym, ap, ap₂, ◌∙◌}
+use mathlib.Core.Bool.{Bool, ◌&&◌}
+use native.Mathlib.Omega.{arith}
+use borrow.Author.Rules.{rules}
+use Rattle.buffer.specs.Lists.{all, tab}
+use Rattle.buffer.proofs.Equivalence.{all-tab-more}
+use Rattle.buffer.proofs.Parts.{part-byte}
+use Rattle.validation.specs.Columns.{sized}
+use Rattle.variable.specs.Limits.{entries_at, entrySize}
+use Rattle.variable.specs.Bytes.{variableIn}
+use Rattle.validation.proofs.good.variables.are_sized.Goals as goal
+
+pub loop-i-init : goal.loop-i-init
+unfolding all tab
+loop-i-init c = (omega arith, refl)
+
+-- what the tests of a turn say of the variable
+tested : (c : goal.After-is_inside) → c.is_good_size.result && c.is_inside.result ≡ sized (variableIn c.args.area.now c.loop-i.i)
+unfolding sized
+tested c =
+    let a = c.args.area.now in
+    let at = entries_at + c.loop-i.i * entrySize in
+    cc (part-byte a at entrySize 1 (omega arith), part-byte a at entrySize 2 (omega arith), part-byte a at entrySize 3 (omega arith))
+
+pub loop-i-preserved : goal.loop-i-preserved
+loop-i-preserved c =
+    (
+      omega arith,
+      ap₂ (λ (x y : Bool). x && y) c.loop-i.invariant.1 (tested c)
+          ∙ sym (all-tab-more sized (variableIn c.args.area.now) c.loop-i.i),
+    )
+
+pub returns : goal.returns
+returns c =
+    let a = c.args in
+    let q : c.loop-i.i ≡ a.count = omega arith in
+    c.loop-i.invariant.1 ∙ ap (λ (n : ℕ). all sized (tab (variableIn a.area.now) n)) q

@@ -1,0 +1,15 @@
+-- The loop: whether two of which the first stands below i clash.
+use Prim.Native.Nat.{ℕ, ◌+◌, ◌-◌}
+use mathlib.Core.Path.{refl}
+use mathlib.Core.Bool.{Bool}
+use mathlib.Core.List.{List}
+use native.Mathlib.Omega.{arith}
+use Rattle.buffer.proofs.Equivalence.{Asked, asked-all, asked-next, asked-none}
+use Rattle.validation.specs.Columns.{clash}
+use Rattle.validation.proofs.good.variables.is_clash.Given as goal
+
+abbrev pub invariant-loop-i : goal.invariant-loop-i
+invariant-loop-i l = Asked (test l.starts l.ends l.names l.owners l.d) (λ i. l.i) l.n l.hit l.i
+
+abbrev pub decreases-loop-i : goal.decreases-loop-i
+decreases-loop-i l = l.n - l.i

@@ -1,0 +1,22 @@
+-- By the type, as `goodSize` has it.
+use Prim.Native.Nat.{ℕ}
+use mathlib.Core.Bool.{◌&&◌, ◌||◌}
+use mathlib.Core.Path.{◌≡◌}
+use native.Mathlib.Omega.{arith}
+use lib.Dec.{eqb, leb}
+use Rattle.variable.specs.Good.{goodSize}
+use Rattle.variable.specs.Limits.{maxString}
+use Rattle.validation.proofs.good.variables.is_good_size.Goals as goal
+
+-- By the type, as `goodSize` has it.
+
+-- the same test where strings have the same limit
+limited : (kind size limit : ℕ) → limit ≡ maxString
+    → (eqb kind 1 && eqb size 1)
+    || ((eqb kind 2 && eqb size 2) || ((eqb kind 4 && eqb size 4) || (eqb kind 3 && (leb 1 size && leb size limit))))
+    ≡ goodSize kind size
+unfolding goodSize
+limited kind size limit e = rw e
+
+pub returns : goal.returns
+returns c = limited c.args.kind c.args.size _ (omega arith)

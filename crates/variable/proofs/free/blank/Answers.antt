@@ -1,0 +1,39 @@
+use Prim.Native.Nat.{◌≤◌, ◌-◌}
+use mathlib.Core.Path.{◌≡◌, sym, ◌∙◌}
+use native.Mathlib.Omega.{arith}
+use borrow.Author.Rules.{rules}
+use lib.ListN.{length}
+use Rattle.variable.specs.Bytes.{variablesBytes, variablesOf, withEntries}
+use Rattle.variable.specs.Closing.{blanked}
+use Rattle.variable.specs.Limits.{variablesSize}
+use Rattle.variable.proofs.Bytes.{decoded-shaped, variables-whole}
+use Rattle.variable.proofs.Closing.{blanked-next, blanked-none}
+use Rattle.variable.proofs.free.blank.Goals as goal
+
+pub loop-i-init : goal.loop-i-init
+loop-i-init c =
+    let bytes = c.args.variables.now in (
+      c.requires.0,
+      omega arith,
+      omega arith,
+      sym (blanked-none (variablesOf bytes) c.args.from
+          ∙ variables-whole bytes (λ i. omega (arith, c.slice_known-1.given i)) c.requires.0),
+    )
+
+pub loop-i-preserved : goal.loop-i-preserved
+loop-i-preserved c =
+    let bytes = c.args.variables.now in (
+      omega arith,
+      omega arith,
+      omega arith,
+      blanked-next (variablesOf bytes) (decoded-shaped bytes (omega arith)) c.args.from c.loop-i.i (omega arith) (omega arith)
+          c.loop-i.invariant.3 c.no_variable.ensures c.put_entry.ensures,
+    )
+
+pub returns : goal.returns
+returns c =
+    let q : c.loop-i.i ≡ c.args.end = omega arith in
+    rw (← q) c.loop-i.invariant.3
+
+pub put_entry-requires : goal.put_entry-requires
+put_entry-requires c = (omega arith, omega arith)

@@ -1,0 +1,74 @@
+use Prim.Native.Nat.{◌≤◌, ◌-◌}
+use mathlib.Core.Path.{◌≡◌, sym, ap, ◌∙◌}
+use mathlib.Core.Bool.{not}
+use borrow.Author.Tests.{not-true, not-false}
+use native.Mathlib.Omega.{arith}
+use borrow.Author.Rules.{rules}
+use lib.ListN.{length}
+use Rattle.variable.specs.Bytes.{variablesOf}
+use Rattle.variable.specs.Closing.{ClosedUp}
+use Rattle.variable.specs.Limits.{variablesSize}
+use Rattle.variable.specs.Table.{isGone}
+use Rattle.variable.proofs.Bytes.{decoded-shaped, variables-whole}
+use Rattle.variable.proofs.Closing.{closed-gone, closed-kept, closed-moved, closed_none}
+use Rattle.variable.proofs.free.close_up.Goals as goal
+
+pub loop-i-init : goal.loop-i-init
+loop-i-init c =
+    let a = c.args in
+    let bytes = a.variables.now in (
+      c.requires.0,
+      omega arith,
+      omega arith,
+      closed_none (variablesOf bytes) (decoded-shaped bytes (omega arith)) (isGone a.every a.name a.owner)
+          (variables-whole bytes (λ i. omega (arith, c.slice_known-1.given i)) c.requires.0),
+    )
+
+-- it moves up
+pub loop-i-preserved-then-kept-i : goal.loop-i-preserved-then-kept-i
+loop-i-preserved-then-kept-i c =
+    let a = c.args in
+    let bytes = a.variables.now in (
+      omega arith,
+      omega arith,
+      omega arith,
+      closed-moved (variablesOf bytes) (decoded-shaped bytes (omega arith)) (isGone a.every a.name a.owner) c.loop-i.invariant.3
+          (omega arith) c.entry_at-e.ensures (ap not (sym c.is_gone.ensures ∙ c.if-not-is_gone.true))
+          c.put_entry.ensures,
+    )
+
+-- it stays where it is
+pub loop-i-preserved-else-kept-i : goal.loop-i-preserved-else-kept-i
+loop-i-preserved-else-kept-i c =
+    let a = c.args in
+    let bytes = a.variables.now in (
+      omega arith,
+      omega arith,
+      omega arith,
+      closed-kept (variablesOf bytes) (decoded-shaped bytes (omega arith)) (isGone a.every a.name a.owner) c.loop-i.invariant.3
+          (omega arith) c.entry_at-e.ensures (ap not (sym c.is_gone.ensures ∙ c.if-not-is_gone.true))
+          (omega arith),
+    )
+
+-- it goes
+pub loop-i-preserved : goal.loop-i-preserved
+loop-i-preserved c =
+    let a = c.args in
+    let bytes = a.variables.now in (
+      omega arith,
+      omega arith,
+      omega arith,
+      closed-gone (variablesOf bytes) (decoded-shaped bytes (omega arith)) (isGone a.every a.name a.owner) c.loop-i.invariant.3
+          (omega arith) c.entry_at-e.ensures (ap not (sym c.is_gone.ensures ∙ c.if-not-is_gone.false)),
+    )
+
+pub returns : goal.returns
+returns c =
+    let q : c.loop-i.i ≡ c.args.count = omega arith in
+    rw q at c.loop-i.invariant.3
+
+pub entry_at-e-requires : goal.entry_at-e-requires
+entry_at-e-requires c = (omega arith, omega arith)
+
+pub put_entry-requires : goal.put_entry-requires
+put_entry-requires c = (omega arith, omega arith)

@@ -1,0 +1,17 @@
+-- Closed up, zeros behind, the new count: the variables that are left.
+use native.Mathlib.Omega.{arith}
+use borrow.Author.Rules.{rules}
+use Rattle.variable.specs.Bytes.{variablesOf}
+use Rattle.variable.specs.Table.{isGone}
+use Rattle.variable.proofs.Bytes.{decoded-shaped}
+use Rattle.variable.proofs.Closing.{closed_all}
+use Rattle.variable.proofs.free.free.Goals as goal
+
+-- Closed up, zeros behind, the new count: the variables that are left.
+
+pub returns : goal.returns
+returns c =
+    let a = c.args in
+    let bytes = a.variables.now in
+    closed_all (variablesOf bytes) (decoded-shaped bytes (omega arith)) (isGone a.every a.name a.owner) c.requires.1
+    c.count_of-count.ensures c.close_up-kept.ensures c.blank.ensures c.put_count.ensures
