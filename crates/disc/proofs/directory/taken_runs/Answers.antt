@@ -1,22 +1,16 @@
-use Prim.Native.Nat.{ℕ, ◌≤◌, ◌-◌}
+-- The loop: the array holds the runs of the first i entries, and nothing behind them.
 use mathlib.Core.Path.{◌≡◌, sym, ap, ap₂, ◌∙◌}
 use mathlib.Core.List.{List}
 use lib.ListN.{set}
+use native.Mathlib.Omega.{arith}
 use Rattle.buffer.specs.Lists.{tab}
 use Rattle.buffer.proofs.Lists.{map-tab}
 use Rattle.place.specs.Place.{filled}
 use Rattle.place.specs.declared.Run.{Run}
 use Rattle.place.proofs.Place.{filled_next}
 use Rattle.disc.specs.Directory.{entry_at, fileCount, runOf}
-use native.Mathlib.Omega.{arith}
-use borrow.Author.Rules.{rules}
+use Rattle.disc.proofs.directory.taken_runs.Invariants.{run_at}
 use Rattle.disc.proofs.directory.taken_runs.Goals as goal
-
--- The loop: the array holds the runs of the first i entries, and nothing behind them.
-
--- the run of the file at k
-abbrev run_at : List ℕ → ℕ → Run
-run_at disc k = runOf (entry_at disc k)
 
 pub loop-i-init : goal.loop-i-init
 unfolding tab

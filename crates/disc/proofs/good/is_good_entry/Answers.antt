@@ -1,65 +1,52 @@
 -- Its tests are those of `goodEntry`, in their order, on the name and the run of the entry in place.
-use Prim.Native.Nat.{ℕ, ◌+◌, ◌<◌, ◌≤◌}
+use Prim.Native.Nat.{ℕ, ◌+◌, ◌*◌, ◌<◌, ◌≤◌}
 use mathlib.Core.Path.{◌≡◌, sym, ap, subst, ◌∙◌}
-use mathlib.Core.Bool.{true}
+use mathlib.Core.Bool.{Bool}
+use mathlib.Core.List.{List}
 use lib.Dec.{leb}
 use lib.ListN.{length}
-use borrow.Author.Rules.{rules}
-use borrow.Author.Tests.{le-leb, lt-leb, not-true, not-false}
+use borrow.Author.Tests.{le-leb, lt-leb}
+use Rattle.buffer.specs.Buffer.{part}
 use Rattle.place.specs.declared.Run.{Run}
-use Rattle.disc.specs.Directory.{entry_at, goodEntry, runOf}
-use Rattle.disc.specs.Layout.{dataStart}
+use Rattle.disc.specs.Directory.{entry_at, goodEntry}
+use Rattle.disc.specs.Layout.{dataStart, entrySize, nameSize}
 use Rattle.disc.specs.Name.{goodField}
-use Rattle.disc.specs.declared.Entry.{Entry}
 use Rattle.disc.proofs.InPlace.{name-in-place}
 use Rattle.disc.proofs.good.is_good_entry.Goals as goal
 
+-- what a test of the name in place says of the entry's
+field : (disc : List ℕ) (i : ℕ) (t : Bool) (b : Bool) → t ≡ goodField (part disc (i * entrySize) nameSize) → t ≡ b
+    → goodField (entry_at disc i).name ≡ b
+field disc i t b e h = sym (e ∙ ap goodField (name-in-place disc i)) ∙ h
+
 pub returns-then-not-is_good_field : goal.returns-then-not-is_good_field
 unfolding goodEntry
-returns-then-not-is_good_field c =
-    let field : c.is_good_field.result ≡ goodField (let a = c.args in entry_at a.disc.now a.i).name =
-        let a = c.args in c.is_good_field.ensures ∙ ap goodField (name-in-place a.disc.now a.i) in
-    rw (sym field ∙ c.if-not-is_good_field.true)
+returns-then-not-is_good_field c = rw (field c.args.disc.now c.args.i _ _ c.is_good_field.ensures c.if-not-is_good_field.true)
 
 pub returns-then-run-lt1 : goal.returns-then-run-lt1
 unfolding goodEntry
 returns-then-run-lt1 c =
-    let field : c.is_good_field.result ≡ goodField (let a = c.args in entry_at a.disc.now a.i).name =
-        let a = c.args in c.is_good_field.ensures ∙ ap goodField (name-in-place a.disc.now a.i) in
-    let good-field : goodField (let a = c.args in entry_at a.disc.now a.i).name ≡ true =
-        sym field ∙ c.if-not-is_good_field.false in
-    let of_entry : P c.run_at-run.result → P (runOf (let a = c.args in entry_at a.disc.now a.i)) =
-        λ P h. subst P c.run_at-run.ensures h in
-    rw (good-field, lt-leb _ _ (of_entry (λ u. u.len < 1) c.if-run-lt1.true))
+    rw (
+      field c.args.disc.now c.args.i _ _ c.is_good_field.ensures c.if-not-is_good_field.false,
+      lt-leb _ _ (subst (λ (u : Run). u.len < 1) c.run_at-run.ensures c.if-run-lt1.true),
+    )
 
 pub returns-then-run-lt-DATA_START : goal.returns-then-run-lt-DATA_START
 unfolding goodEntry
 returns-then-run-lt-DATA_START c =
-    let field : c.is_good_field.result ≡ goodField (let a = c.args in entry_at a.disc.now a.i).name =
-        let a = c.args in c.is_good_field.ensures ∙ ap goodField (name-in-place a.disc.now a.i) in
-    let good-field : goodField (let a = c.args in entry_at a.disc.now a.i).name ≡ true =
-        sym field ∙ c.if-not-is_good_field.false in
-    let of_entry : P c.run_at-run.result → P (runOf (let a = c.args in entry_at a.disc.now a.i)) =
-        λ P h. subst P c.run_at-run.ensures h in
     rw (
-      good-field,
-      le-leb _ _ (of_entry (λ u. 1 ≤ u.len) c.if-run-lt1.false),
-      lt-leb _ _ (of_entry (λ u. u.start < dataStart) c.if-run-lt-DATA_START.true),
+      field c.args.disc.now c.args.i _ _ c.is_good_field.ensures c.if-not-is_good_field.false,
+      le-leb _ _ (subst (λ (u : Run). 1 ≤ u.len) c.run_at-run.ensures c.if-run-lt1.false),
+      lt-leb _ _ (subst (λ (u : Run). u.start < dataStart) c.run_at-run.ensures c.if-run-lt-DATA_START.true),
     )
 
 pub returns : goal.returns
 unfolding goodEntry
 returns c =
-    let field : c.is_good_field.result ≡ goodField (let a = c.args in entry_at a.disc.now a.i).name =
-        let a = c.args in c.is_good_field.ensures ∙ ap goodField (name-in-place a.disc.now a.i) in
-    let good-field : goodField (let a = c.args in entry_at a.disc.now a.i).name ≡ true =
-        sym field ∙ c.if-not-is_good_field.false in
-    let of_entry : P c.run_at-run.result → P (runOf (let a = c.args in entry_at a.disc.now a.i)) =
-        λ P h. subst P c.run_at-run.ensures h in
     rw (
-      good-field,
-      le-leb _ _ (of_entry (λ u. 1 ≤ u.len) c.if-run-lt1.false),
-      le-leb _ _ (of_entry (λ u. dataStart ≤ u.start) c.if-run-lt-DATA_START.false),
+      field c.args.disc.now c.args.i _ _ c.is_good_field.ensures c.if-not-is_good_field.false,
+      le-leb _ _ (subst (λ (u : Run). 1 ≤ u.len) c.run_at-run.ensures c.if-run-lt1.false),
+      le-leb _ _ (subst (λ (u : Run). dataStart ≤ u.start) c.run_at-run.ensures c.if-run-lt-DATA_START.false),
     )
     (ap (λ (n : ℕ). leb n (length c.args.disc.now))
     (c.run_end.ensures.0 ∙ ap (λ (u : Run). u.start + u.len) c.run_at-run.ensures))
