@@ -1,13 +1,10 @@
 -- The digits stand at the end of their bytes: as many as lie behind start.
 use mathlib.Core.Path.{ap}
 use native.Mathlib.Omega.{arith}
-use borrow.Author.Rules.{rules}
 use Rattle.decimal.specs.Decimal.{maxDigits}
 use Rattle.decimal.specs.declared.Digits.{Digits}
 use Rattle.decimal.proofs.Laws.{digits-few}
 use Rattle.decimal.proofs.decimal_length.Goals as goal
-
--- The digits stand at the end of their bytes: as many as lie behind start.
 
 pub returns : goal.returns
 returns c =

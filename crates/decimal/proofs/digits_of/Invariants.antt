@@ -1,20 +1,16 @@
 -- The loop: the digits of n are those of rest less its last, and then those written; before these are zeros.
 use Prim.Native.Nat.{◌+◌, ◌/◌, ◌^◌, ◌<◌}
-use mathlib.Core.Path.{◌≡◌, refl, sym, ◌∙◌}
+use mathlib.Core.Path.{◌≡◌}
 use mathlib.Core.List.{◌++◌}
-use native.Mathlib.Omega.{arith}
 use lib.Dec.{leb}
-use lib.ListN.{length, drop, replicate, take, length-set}
-use borrow.Author.Tests.{lt-leb}
+use lib.ListN.{length, drop, replicate, take}
 use Rattle.decimal.specs.Decimal.{decimal, ifMore, lastDigits, maxDigits}
-use Rattle.decimal.proofs.Laws.{as-digits, digit-next, room, shorter, zeros-shorter}
 use Rattle.decimal.proofs.digits_of.Given as goal
-
--- The loop: the digits of n are those of rest less its last, and then those written; before these are zeros.
 
 abbrev pub invariant-loop-rest : goal.invariant-loop-rest
 invariant-loop-rest l = (l.start < maxDigits) × (length l.bytes ≡ maxDigits) × (l.rest < 10 ^ (l.start + 1))
-    × (take l.start l.bytes ≡ replicate l.start 0) × (decimal l.n ≡ ifMore (leb 10 l.rest) (lastDigits l.start (l.rest / 10)) ++ drop l.start l.bytes)
+    × (take l.start l.bytes ≡ replicate l.start 0)
+    × (decimal l.n ≡ ifMore (leb 10 l.rest) (lastDigits l.start (l.rest / 10)) ++ drop l.start l.bytes)
 
 abbrev pub decreases-loop-rest : goal.decreases-loop-rest
 decreases-loop-rest l = l.rest
