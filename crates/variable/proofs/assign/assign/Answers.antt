@@ -1,16 +1,18 @@
 -- The place is that of the table without the old variable; only where there is one are the bytes written.
-use Prim.Native.Nat.{◌+◌, ◌<◌, ◌≤◌}
+use Prim.Native.Nat.{ℕ, ◌+◌, ◌<◌, ◌≤◌}
 use mathlib.Core.Path.{◌≡◌, sym, ◌∙◌}
+use mathlib.Core.List.{List}
 use native.Mathlib.Omega.{arith}
 use borrow.Author.Rules.{rules}
-use lib.ListN.{length}
-use Rattle.variable.specs.Assign.{assigned, placeFor, value_of}
+use lib.ListN.{get_or, length, take}
+use Rattle.variable.specs.Assign.{added, assigned, entryLimit, highEnd, low_end, newVariable, placeFor, placing, takenRuns, value_of}
 use Rattle.variable.specs.Bytes.{variablesBytes, variablesOf}
-use Rattle.variable.specs.Closing.{SetLeaves}
-use Rattle.variable.specs.Limits.{maxVariables, memorySize}
-use Rattle.variable.specs.Table.{freed, is_of}
+use Rattle.variable.specs.Closing.{Lists, SetLeaves}
+use Rattle.variable.specs.Limits.{maxVariables, memorySize, variablesSize}
+use Rattle.variable.specs.Table.{Shaped, freed, is_of}
 use Rattle.variable.specs.declared.Placing.{Placing}
-use Rattle.variable.specs.declared.Placing.TheVariants.{NoEntry, NoRun}
+use Rattle.variable.specs.declared.Placing.TheVariants.{Address, NoEntry, NoRun}
+use Rattle.variable.specs.declared.Taken.{Taken}
 use Rattle.variable.specs.declared.Variables.{Variables}
 use Rattle.variable.proofs.Bytes.{decoded-shaped, variables-said, variables-whole}
 use Rattle.variable.proofs.Freeing.{freed-shaped}
@@ -18,78 +20,77 @@ use Rattle.variable.proofs.Listing.{listed-few, placed-beside}
 use Rattle.variable.proofs.Setting.{NotPlaced, set-done, set-refused, set_room}
 use Rattle.variable.proofs.assign.assign.Goals as goal
 
+-- ---- the bytes of the variables and of the value, the runs listed and the place found among them
+module _ (bytes : List ℕ) (size : length bytes ≡ variablesSize) (few : (variablesOf bytes).count ≤ maxVariables)
+    (name owner kind : ℕ) (value : List ℕ) {t : Taken} {p : Placing}
+    (listed : Lists t (takenRuns (freed (variablesOf bytes) (is_of name owner))))
+    (found : p ≡ placing (take t.count t.runs) low_end highEnd t.count entryLimit (length value)) where
+  -- the variables without the old one
+  abbrev rest : Variables
+  rest = freed (variablesOf bytes) (is_of name owner)
+
+  shaped : Shaped (variablesOf bytes)
+  shaped = decoded-shaped bytes (omega arith)
+
+  searched : p ≡ placeFor rest (length value)
+  searched = placed-beside (variablesOf bytes) (is_of name owner) listed (length value) few found
+
+  -- nothing is written
+  refused : ((i : ℕ) → get_or bytes i 0 < 256) → {q : Placing} → p ≡ q → NotPlaced q
+      → SetLeaves q bytes (assigned (variablesOf bytes) name owner (value_of kind value))
+  refused known {q} e none =
+      set-refused (variablesOf bytes) shaped few name owner kind value q none (sym searched ∙ e) (sym (variables-whole bytes known size))
+
+  module _ {a : ℕ} (placed : p ≡ Address a) where
+    -- the new variable has an entry and lies inside memory
+    room : (rest.count < maxVariables) × (a + length value ≤ memorySize)
+    room = set_room (variablesOf bytes) shaped few name owner kind value a (sym searched ∙ placed)
+
+    -- once the old one is freed
+    room-freed : {left : List ℕ} → left ≡ variablesBytes rest
+        → ((variablesOf left).count < maxVariables) × (a + length value ≤ memorySize)
+    room-freed x =
+        let said = variables-said rest (freed-shaped (variablesOf bytes) (is_of name owner) few shaped) x in
+        rw said room
+
+    done : {one two : List ℕ} → one ≡ variablesBytes rest
+        → two ≡ variablesBytes (added (variablesOf one) (newVariable name owner (value_of kind value) a) value)
+        → SetLeaves (Address a) two (assigned (variablesOf bytes) name owner (value_of kind value))
+    done x y = set-done (variablesOf bytes) shaped few name owner kind value a (sym searched ∙ placed) x y
+
 pub place_for-requires : goal.place_for-requires
 place_for-requires c =
-    (listed-few (variablesOf c.args.variables.now) (is_of c.args.name c.args.owner) c.runs_beside-taken.ensures c.requires.1, omega arith, c.requires.2)
+    let a = c.args in
+    (listed-few (variablesOf a.variables.now) (is_of a.name a.owner) c.runs_beside-taken.ensures c.requires.1, omega arith, c.requires.2)
 
-pub overflow-cast-t19 : goal.overflow-cast-t19
-overflow-cast-t19 c =
-    let searched : let a = c.args in
-    c.place_for.result ≡ placeFor (freed (variablesOf c.args.variables.now) (is_of a.name a.owner)) (length a.bytes.now) =
-        placed-beside (variablesOf c.args.variables.now) (is_of c.args.name c.args.owner) c.runs_beside-taken.ensures (length c.args.bytes.now) c.requires.1
-    c.place_for.ensures in
-    let room : let a = c.in-Address.a in
-    ((freed (variablesOf c.args.variables.now) (is_of c.args.name c.args.owner)).count < maxVariables) × (a + length c.args.bytes.now ≤ memorySize) =
-        let bytes = c.args.variables.now in
-    set_room (variablesOf c.args.variables.now) (decoded-shaped bytes (omega arith)) c.requires.1 c.args.name c.args.owner c.args.kind
-    c.args.bytes.now c.in-Address.a (sym searched ∙ c.in-Address.is) in
-    let r = room in
+pub overflow_cast-e : goal.overflow_cast-e
+overflow_cast-e c =
+    let a = c.args in
+    let r = room a.variables.now c.requires.0 c.requires.1 a.name a.owner a.kind a.bytes.now c.runs_beside-taken.ensures
+        c.place_for.ensures c.in-Address.is in
     omega (arith, r.1, c.requires.2)
 
 pub add-requires : goal.add-requires
 add-requires c =
-    let searched : let a = c.args in
-    c.place_for.result ≡ placeFor (freed (variablesOf c.args.variables.now) (is_of a.name a.owner)) (length a.bytes.now) =
-        placed-beside (variablesOf c.args.variables.now) (is_of c.args.name c.args.owner) c.runs_beside-taken.ensures (length c.args.bytes.now) c.requires.1
-    c.place_for.ensures in
-    let room : let a = c.in-Address.a in
-    ((freed (variablesOf c.args.variables.now) (is_of c.args.name c.args.owner)).count < maxVariables) × (a + length c.args.bytes.now ≤ memorySize) =
-        let bytes = c.args.variables.now in
-    set_room (variablesOf c.args.variables.now) (decoded-shaped bytes (omega arith)) c.requires.1 c.args.name c.args.owner c.args.kind
-    c.args.bytes.now c.in-Address.a (sym searched ∙ c.in-Address.is) in
-    let gone = is_of c.args.name c.args.owner in
-    let shaped = decoded-shaped c.args.variables.now (omega arith) in
-    let rest : variablesOf c.free.new.0 ≡ freed (variablesOf c.args.variables.now) gone =
-    variables-said (freed (variablesOf c.args.variables.now) gone) (freed-shaped (variablesOf c.args.variables.now) gone c.requires.1 shaped) c.free.ensures in
-    let r = room in
-    (search rules, rw rest r.0, r.1)
+    let a = c.args in
+    let r = room-freed a.variables.now c.requires.0 c.requires.1 a.name a.owner a.kind a.bytes.now c.runs_beside-taken.ensures
+        c.place_for.ensures c.in-Address.is c.free.ensures in
+    (search rules, r.0, r.1)
 
 pub returns-in-Address : goal.returns-in-Address
 returns-in-Address c =
-    let searched : let a = c.args in
-    c.place_for.result ≡ placeFor (freed (variablesOf c.args.variables.now) (is_of a.name a.owner)) (length a.bytes.now) =
-        placed-beside (variablesOf c.args.variables.now) (is_of c.args.name c.args.owner) c.runs_beside-taken.ensures (length c.args.bytes.now) c.requires.1
-    c.place_for.ensures in
     let a = c.args in
-    set-done (variablesOf c.args.variables.now) (decoded-shaped a.variables.now (omega arith)) c.requires.1 a.name a.owner a.kind a.bytes.now
-    c.in-Address.a (sym searched ∙ c.in-Address.is) c.free.ensures c.add.ensures
+    done a.variables.now c.requires.0 c.requires.1 a.name a.owner a.kind a.bytes.now c.runs_beside-taken.ensures
+    c.place_for.ensures c.in-Address.is c.free.ensures c.add.ensures
 
 pub returns-in-NoEntry : goal.returns-in-NoEntry
 returns-in-NoEntry c =
-    let searched : let a = c.args in
-    c.place_for.result ≡ placeFor (freed (variablesOf c.args.variables.now) (is_of a.name a.owner)) (length a.bytes.now) =
-        placed-beside (variablesOf c.args.variables.now) (is_of c.args.name c.args.owner) c.runs_beside-taken.ensures (length c.args.bytes.now) c.requires.1
-    c.place_for.ensures in
-    let unchanged : variablesBytes (variablesOf c.args.variables.now) ≡ c.args.variables.now =
-        variables-whole c.args.variables.now (λ i. omega (arith, c.slice_known-1.given i)) c.requires.0 in
-    let refused : NotPlaced p → c.place_for.result ≡ p → let a = c.args in
-    SetLeaves p a.variables.now (assigned (variablesOf c.args.variables.now) a.name a.owner (value_of a.kind a.bytes.now)) =
-        λ p none e. let a = c.args in
-    set-refused (variablesOf c.args.variables.now) (decoded-shaped a.variables.now (omega arith)) c.requires.1 a.name a.owner a.kind
-    a.bytes.now p none (sym searched ∙ e) (sym unchanged) in
-    refused NoEntry tt c.in-NoEntry.is
+    let a = c.args in
+    refused a.variables.now c.requires.0 c.requires.1 a.name a.owner a.kind a.bytes.now c.runs_beside-taken.ensures
+    c.place_for.ensures (λ i. search rules) c.in-NoEntry.is tt
 
 pub returns-in-NoRun : goal.returns-in-NoRun
 returns-in-NoRun c =
-    let searched : let a = c.args in
-    c.place_for.result ≡ placeFor (freed (variablesOf c.args.variables.now) (is_of a.name a.owner)) (length a.bytes.now) =
-        placed-beside (variablesOf c.args.variables.now) (is_of c.args.name c.args.owner) c.runs_beside-taken.ensures (length c.args.bytes.now) c.requires.1
-    c.place_for.ensures in
-    let unchanged : variablesBytes (variablesOf c.args.variables.now) ≡ c.args.variables.now =
-        variables-whole c.args.variables.now (λ i. omega (arith, c.slice_known-1.given i)) c.requires.0 in
-    let refused : NotPlaced p → c.place_for.result ≡ p → let a = c.args in
-    SetLeaves p a.variables.now (assigned (variablesOf c.args.variables.now) a.name a.owner (value_of a.kind a.bytes.now)) =
-        λ p none e. let a = c.args in
-    set-refused (variablesOf c.args.variables.now) (decoded-shaped a.variables.now (omega arith)) c.requires.1 a.name a.owner a.kind
-    a.bytes.now p none (sym searched ∙ e) (sym unchanged) in
-    refused NoRun tt c.in-NoRun.is
+    let a = c.args in
+    refused a.variables.now c.requires.0 c.requires.1 a.name a.owner a.kind a.bytes.now c.runs_beside-taken.ensures
+    c.place_for.ensures (λ i. search rules) c.in-NoRun.is tt

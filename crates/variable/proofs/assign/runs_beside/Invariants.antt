@@ -16,7 +16,7 @@ use Rattle.variable.proofs.assign.runs_beside.Given as goal
 
 abbrev pub invariant-loop-i : goal.invariant-loop-i
 invariant-loop-i l = (l.i ≤ l.count) × (l.listed ≤ l.i)
-    × Lists (record { l.runs = l.runs; l.count = l.listed }) (runsOf (variablesOf l.variables) (is_of l.name l.owner) l.i)
+    × Lists (record { runs = l.runs; count = l.listed }) (runsOf (variablesOf l.variables) (is_of l.name l.owner) l.i)
 
 abbrev pub decreases-loop-i : goal.decreases-loop-i
 decreases-loop-i l = l.count - l.i
