@@ -7,4 +7,4 @@ pub returns : goal.returns
 returns c =
     subtract-wraps w16 c.args.a c.args.b c.ranges.a c.ranges.b c.wrapping_sub_u16.result
     c.bits16.ensures c.bits16-2.ensures c.signed16.ensures
-    c.wrapping_sub_u16.type-inv c.wrapping_sub_u16.ensures.value
+    c.wrapping_sub_u16.type_inv c.wrapping_sub_u16.ensures.value
