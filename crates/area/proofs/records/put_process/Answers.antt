@@ -14,27 +14,20 @@ use Rattle.area.proofs.records.put_process.Goals as goal
 
 pub overwrite_at-requires : goal.overwrite_at-requires
 overwrite_at-requires c =
-    let sizes : (length c.args.p.name ≡ nameSize) × (length c.args.p.stack ≡ stackSize) =
-        search rules in
-    let h = sizes in
+    let sizes : (length c.args.p.name ≡ nameSize) × (length c.args.p.stack ≡ stackSize) = search rules in
     omega arith
 
 pub overwrite_at-requires-3 : goal.overwrite_at-requires-3
 overwrite_at-requires-3 c =
-    let sizes : (length c.args.p.name ≡ nameSize) × (length c.args.p.stack ≡ stackSize) =
-        search rules in
-    let h = sizes in
+    let sizes : (length c.args.p.name ≡ nameSize) × (length c.args.p.stack ≡ stackSize) = search rules in
     omega arith
 
 pub returns : goal.returns
 returns c =
-    let sizes : (length c.args.p.name ≡ nameSize) × (length c.args.p.stack ≡ stackSize) =
-        search rules in
     let p = c.args.p in
-    let d = c.args.area.now in
     let at = recordAt c.args.slot in
-    let h = sizes in
-    three-laid d p.name (registerBytes p) p.stack at (at + nameSize) (at + stackAt) (omega arith) (omega arith) (omega arith)
-    c.overwrite_at.last.0 c.overwrite_at-2.last.0 c.overwrite_at-3.new.0 c.overwrite_at.ensures
-    (c.overwrite_at-2.ensures ∙ ap (overwrite c.overwrite_at.last.0 (at + nameSize)) c.register_bytes-registers.ensures)
-    c.overwrite_at-3.ensures
+    let sizes : (length p.name ≡ nameSize) × (length p.stack ≡ stackSize) = search rules in
+    let one = c.overwrite_at.new.dst in
+    three-laid c.args.area.now p.name (registerBytes p) p.stack at (at + nameSize) (at + stackAt)
+    (omega arith) (omega arith) (omega arith) one c.overwrite_at-2.new.dst c.overwrite_at-3.new.dst c.overwrite_at.ensures
+    (c.overwrite_at-2.ensures ∙ ap (overwrite one (at + nameSize)) c.register_bytes-registers.ensures) c.overwrite_at-3.ensures
