@@ -1,10 +1,6 @@
--- `root::whole_root` meets its contract: the root stays between low and low + width. Assumes nothing.
-use mathlib.Core.Logic.{⊎_elim}
-use native.Mathlib.Omega.{arith}
-use Rattle.root.proofs.Bisection.{product-below, Between, upper-half, lower-half, single}
+-- The loop: the root is from low up and below low + width.
+use Rattle.root.proofs.Bisection.{Between}
 use Rattle.root.proofs.whole_root.Given as goal
-
--- `root::whole_root` meets its contract: the root stays between low and low + width. Assumes nothing.
 
 abbrev pub invariant-loop-width : goal.invariant-loop-width
 invariant-loop-width l = Between l.n l.low l.width
