@@ -2,12 +2,9 @@
 use Prim.Native.Nat.{ℕ}
 use mathlib.Core.Path.{ap, ◌∙◌}
 use mathlib.Core.List.{List}
-use borrow.Author.Rules.{rules}
 use Rattle.buffer.specs.Buffer.{overwrite, zeros}
 use Rattle.store.proofs.Steps.{created-steps}
 use Rattle.store.proofs.file.create.Goals as goal
-
--- `file::create` meets its contract: the file is entered, and its bytes are zeroed.
 
 pub returns : goal.returns
 returns c =

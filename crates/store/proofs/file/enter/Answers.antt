@@ -7,10 +7,7 @@ use Rattle.disc.specs.Directory.{entryBytes}
 use Rattle.disc.specs.Layout.{entrySize}
 use Rattle.store.proofs.Steps.{entered-steps}
 use native.Mathlib.Omega.{arith}
-use borrow.Author.Rules.{rules}
 use Rattle.store.proofs.file.enter.Goals as goal
-
--- `file::enter` meets its contract: the new entry is put last, and the count goes up.
 
 pub returns : goal.returns
 returns c =

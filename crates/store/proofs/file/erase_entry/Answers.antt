@@ -3,10 +3,7 @@ use Prim.Native.Nat.{◌-◌}
 use lib.ListN.{length-set}
 use Rattle.store.proofs.Steps.{erased-steps}
 use native.Mathlib.Omega.{arith}
-use borrow.Author.Rules.{rules}
 use Rattle.store.proofs.file.erase_entry.Goals as goal
-
--- `file::erase_entry` meets its contract: later entries move up, zeros go into the vacated one, and the count goes down.
 
 pub returns : goal.returns
 returns c =

@@ -1,14 +1,14 @@
-use Prim.Native.Nat.{ℕ, ◌+◌, ◌≤◌, ◌-◌}
+-- The loop: the first i bytes are moved.
+use Prim.Native.Nat.{ℕ, ◌+◌}
 use mathlib.Core.Path.{◌≡◌, refl, ap, ◌∙◌}
 use mathlib.Core.List.{List}
 use lib.ListN.{length, get_or, set, length-set}
-use lib.Seq.{paste, paste-zero}
+use lib.Seq.{paste-zero}
 use Rattle.buffer.specs.Buffer.{part}
 use Rattle.buffer.proofs.Buffer.{moved-next, overwrite-next, overwrite-end}
 use Rattle.buffer.proofs.Parts.{part_length}
 use Rattle.disc.specs.Layout.{entrySize}
 use native.Mathlib.Omega.{arith}
-use borrow.Author.Rules.{rules}
 use Rattle.store.proofs.file.move_up.Goals as goal
 
 pub loop-i-init : goal.loop-i-init

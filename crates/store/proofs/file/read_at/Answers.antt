@@ -5,10 +5,7 @@ use Rattle.disc.specs.Directory.{contents}
 use Rattle.store.specs.File.{readAt}
 use Rattle.buffer.proofs.Parts.{part-of-part}
 use native.Mathlib.Omega.{arith}
-use borrow.Author.Rules.{rules}
 use Rattle.store.proofs.file.read_at.Goals as goal
-
--- `file::read_at` meets its contract: a part of the disc is a part of the file.
 
 pub returns : goal.returns
 unfolding readAt contents

@@ -1,9 +1,6 @@
 -- `file::write_at` meets its contract: `overwrite_at` does what `writtenAt` says.
 use Rattle.store.specs.File.{writtenAt}
-use borrow.Author.Rules.{rules}
 use Rattle.store.proofs.file.write_at.Goals as goal
-
--- `file::write_at` meets its contract: `overwrite_at` does what `writtenAt` says.
 
 pub returns : goal.returns
 unfolding writtenAt
