@@ -4,10 +4,7 @@ use Rattle.disc.specs.Directory.{entry_at}
 use Rattle.disc.specs.Layout.{entrySize}
 use Rattle.disc.proofs.Entries.{entry-fields}
 use native.Mathlib.Omega.{arith}
-use borrow.Author.Rules.{rules}
 use Rattle.disc.proofs.directory.entry_at.Goals as goal
-
--- `directory::entry_at` meets its contract: the name and the two words are the fields of the entry's bytes.
 
 pub returns : goal.returns
 unfolding entry_at

@@ -5,8 +5,6 @@ use Rattle.disc.specs.Directory.{fileCount}
 use Rattle.disc.specs.Layout.{countAt}
 use Rattle.disc.proofs.directory.file_count.Goals as goal
 
--- `directory::file_count` meets its contract: a byte fits a usize.
-
 pub returns : goal.returns
 unfolding fileCount
 returns c = search rules

@@ -1,9 +1,7 @@
-use Prim.Native.Nat.{ℕ, ◌≤◌, ◌<◌, ◌-◌}
+-- The loop: none of the first i entries has the name.
 use mathlib.Core.Path.{◌≡◌, sym, ap, ap₂, ◌∙◌}
-use mathlib.Core.Bool.{true, false}
-use mathlib.Core.List.{List}
+use mathlib.Core.Bool.{true}
 use borrow.Author.Count.{below_more}
-use borrow.Author.Tests.{not-true, not-false}
 use Rattle.buffer.specs.Lists.{index, same}
 use Rattle.buffer.proofs.Tables.{index-tab-is, index-tab-miss}
 use Rattle.disc.specs.Directory.{entry_at, fileCount, files, lookup, named}
@@ -11,7 +9,6 @@ use Rattle.disc.specs.Name.{goodName}
 use Rattle.disc.specs.declared.Entry.{Entry}
 use Rattle.disc.proofs.Names.{good-name-is}
 use native.Mathlib.Omega.{arith}
-use borrow.Author.Rules.{rules}
 use Rattle.disc.proofs.directory.find.Goals as goal
 
 good : (c : goal.Else-not-is_good_name) → goodName c.args.name.now ≡ true

@@ -3,8 +3,6 @@ use mathlib.Core.Path.{refl}
 use Rattle.disc.specs.Directory.{isDiscLength}
 use Rattle.disc.proofs.good.is_disc_length.Goals as goal
 
--- The test of the length is read here as it is said.
-
 pub returns : goal.returns
 unfolding isDiscLength
 returns c = refl

@@ -1,8 +1,8 @@
-use Prim.Native.Nat.{ℕ, ◌≤◌, ◌<◌, ◌-◌}
+-- The loop: the first i entries are good and beside each other.
+use Prim.Native.Nat.{◌<◌}
 use mathlib.Core.Path.{◌≡◌, refl, sym, ◌∙◌}
-use mathlib.Core.Bool.{true, and-false}
-use mathlib.Core.List.{List}
-use borrow.Author.Tests.{le-leb, lt-leb, not-true, not-false}
+use mathlib.Core.Bool.{and-false}
+use borrow.Author.Tests.{le-leb, lt-leb}
 use lib.Dec.{leb}
 use lib.ListN.{length}
 use Rattle.buffer.specs.Lists.{all, pairs, tab}
@@ -10,7 +10,6 @@ use Rattle.buffer.proofs.Lists.{all-tab-next, all-tab-stop, pairs-tab-next, pair
 use Rattle.disc.specs.Directory.{beside, entry_at, fileCount, goodDisc, goodEntry, goodFiles}
 use Rattle.disc.specs.Layout.{maxFiles}
 use native.Mathlib.Omega.{arith}
-use borrow.Author.Rules.{rules}
 use Rattle.disc.proofs.good.is_good_disc.Goals as goal
 
 pub returns-then-count-gt-MAX_FILES : goal.returns-then-count-gt-MAX_FILES

@@ -1,9 +1,6 @@
-use Prim.Native.Nat.{◌≤◌, ◌-◌}
-use mathlib.Core.Path.{◌≡◌}
+-- The loop: so far the field passes the test of `Fields`.
 use native.Mathlib.Omega.{arith}
-use borrow.Author.Rules.{rules}
-use Rattle.disc.specs.Layout.{maxName}
-use Rattle.disc.proofs.Fields.{byteFrom, passedFirst, pass-begins, pass-ends, pass-more}
+use Rattle.disc.proofs.Fields.{pass-begins, pass-ends, pass-more}
 use Rattle.disc.proofs.good.is_good_field.Goals as goal
 
 pub loop-i-init : goal.loop-i-init

@@ -1,13 +1,9 @@
 -- The loop: so far the field passes the test of `Fields`.
 use Prim.Native.Nat.{◌≤◌, ◌-◌}
 use mathlib.Core.Path.{◌≡◌}
-use native.Mathlib.Omega.{arith}
-use borrow.Author.Rules.{rules}
 use Rattle.disc.specs.Layout.{maxName}
-use Rattle.disc.proofs.Fields.{byteFrom, passedFirst, pass-begins, pass-ends, pass-more}
+use Rattle.disc.proofs.Fields.{byteFrom, passedFirst}
 use Rattle.disc.proofs.good.is_good_field.Given as goal
-
--- The loop: so far the field passes the test of `Fields`.
 
 abbrev pub invariant-loop-i : goal.invariant-loop-i
 invariant-loop-i l = (l.i ≤ maxName) × (l.good ≡ passedFirst (byteFrom l.disc l.at) l.i)

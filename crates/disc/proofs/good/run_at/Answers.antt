@@ -1,5 +1,4 @@
 -- The two words are those of the entry.
-use borrow.Author.Rules.{rules}
 use Rattle.disc.proofs.InPlace.{run-in-place}
 use Rattle.disc.proofs.good.run_at.Goals as goal
 

@@ -1,6 +1,5 @@
 -- Three equal numbers of four bytes are twelve equal bytes.
 use native.Mathlib.Omega.{arith}
-use borrow.Author.Rules.{rules}
 use Rattle.buffer.proofs.Fours.{three-fours}
 use Rattle.disc.proofs.good.same_name.Goals as goal
 

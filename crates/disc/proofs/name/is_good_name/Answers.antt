@@ -1,16 +1,14 @@
-use Prim.Native.Nat.{ℕ, ◌≤◌, ◌-◌}
+-- The loop: each of the first i bytes is one of a name.
 use mathlib.Core.Path.{◌≡◌, refl, sym, ap, ◌∙◌}
-use mathlib.Core.Bool.{true, false, and-false}
-use mathlib.Core.List.{List}
-use borrow.Author.Tests.{le-leb, lt-leb, not-true, not-false}
+use mathlib.Core.Bool.{false, and-false}
+use borrow.Author.Tests.{le-leb, lt-leb}
 use lib.Dec.{leb}
-use lib.ListN.{length, take, get_or}
+use lib.ListN.{length, get_or}
 use lib.Seq.{take_all}
 use Rattle.buffer.specs.Lists.{all}
 use Rattle.buffer.proofs.Lists.{all-take-next, all-stop}
 use Rattle.disc.specs.Name.{goodName, isNameByte}
 use native.Mathlib.Omega.{arith}
-use borrow.Author.Rules.{rules}
 use Rattle.disc.proofs.name.is_good_name.Goals as goal
 
 pub returns-then-name-lt1 : goal.returns-then-name-lt1

@@ -2,8 +2,6 @@
 use borrow.Author.Tests.{le-leb, lt-leb}
 use Rattle.disc.proofs.name.is_name_byte.Goals as goal
 
--- `name::is_name_byte` meets its contract: two comparisons.
-
 pub returns-then-b-ge33 : goal.returns-then-b-ge33
 returns-then-b-ge33 c = rw (le-leb _ _ c.if-b-ge33.true)
 

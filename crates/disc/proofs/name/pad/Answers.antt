@@ -1,7 +1,6 @@
 -- `name::pad` meets its contract: a name laid over zeros is the name and zeros behind it.
 use mathlib.Core.Path.{◌∙◌}
 use Rattle.buffer.proofs.Buffer.{overwrite-zeros}
-use borrow.Author.Rules.{rules}
 use Rattle.disc.specs.Layout.{nameSize}
 use Rattle.disc.proofs.name.pad.Goals as goal
 

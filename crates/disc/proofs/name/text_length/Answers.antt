@@ -1,7 +1,7 @@
-use Prim.Native.Nat.{ℕ, ◌≤◌, ◌<◌, ◌-◌}
-use mathlib.Core.Path.{◌≡◌, sym}
+-- The loop: no byte before n is zero.
+use mathlib.Core.Path.{sym}
 use borrow.Author.Count.{below_more}
-use lib.ListN.{length, get_or, get_or-eq_default}
+use lib.ListN.{get_or-eq_default}
 use Rattle.disc.proofs.Names.{trimmed-at}
 use native.Mathlib.Omega.{arith}
 use Rattle.disc.proofs.name.text_length.Goals as goal
