@@ -1,48 +1,30 @@
 -- What is printed, by what `decode` makes of the value and by its exponent. Assumes nothing.
-use Rattle.std.proofs.Common.{arith, rules}
-use Rattle.float.specs.Decode.{IsFinite}
+use Rattle.std.proofs.Common.{arith}
 use Rattle.float.proofs.Values.{finite, printed-infinite, printed-minus, printed-nan, printed-overflow, printed-plus}
 use Rattle.float.proofs.print.to_printed.Goals as goal
-
-pub returns-in-Infinite : goal.returns-in-Infinite
-returns-in-Infinite c =
-    let g = c.negative-1.given in
-    printed-infinite c.args.x c.decode.ensures g.0.0 g.1
-
-pub returns-then-negative : goal.returns-then-negative
-returns-then-negative c =
-    let parts : let g = c.negative-in-Finite-1.given.0 in
-    IsFinite c.args.x g.0 g.1.0 g.1.1.0 =
-        finite c.args.x c.decode.ensures c.in-Finite.is in
-    printed-minus parts c.if-exponent-lt-LARGE.true c.if-negative.true c.whole_size-hundredths.ensures
-
-pub returns-else-negative : goal.returns-else-negative
-returns-else-negative c =
-    let parts : let g = c.negative-in-Finite-1.given.0 in
-    IsFinite c.args.x g.0 g.1.0 g.1.1.0 =
-        finite c.args.x c.decode.ensures c.in-Finite.is in
-    printed-plus parts c.if-exponent-lt-LARGE.true c.if-negative.false c.whole_size-hundredths.ensures
-
-pub overflow_mul-significand : goal.overflow_mul-significand
-overflow_mul-significand c =
-    let parts : let g = c.negative-in-Finite-1.given.0 in
-    IsFinite c.args.x g.0 g.1.0 g.1.1.0 =
-        finite c.args.x c.decode.ensures c.in-Finite.is in
-    omega (arith, parts.short)
-
-pub whole_size-hundredths-requires : goal.whole_size-hundredths-requires
-whole_size-hundredths-requires c =
-    let parts : let g = c.negative-in-Finite-1.given.0 in
-    IsFinite c.args.x g.0 g.1.0 g.1.1.0 =
-        finite c.args.x c.decode.ensures c.in-Finite.is in
-    omega (arith, parts.short, c.if-exponent-lt-LARGE.true)
 
 pub returns-in-NotANumber : goal.returns-in-NotANumber
 returns-in-NotANumber c = printed-nan c.args.x c.decode.ensures c.in-NotANumber.is
 
+pub returns-in-Infinite : goal.returns-in-Infinite
+returns-in-Infinite c = printed-infinite c.args.x c.decode.ensures c.in-Infinite.negative c.in-Infinite.is
+
+pub overflow_mul-significand : goal.overflow_mul-significand
+overflow_mul-significand c = omega (arith, (finite c.args.x c.decode.ensures c.in-Finite.is).short)
+
+pub whole_size-hundredths-requires : goal.whole_size-hundredths-requires
+whole_size-hundredths-requires c = omega (arith, (finite c.args.x c.decode.ensures c.in-Finite.is).short)
+
+pub returns-then-negative : goal.returns-then-negative
+returns-then-negative c =
+    let parts = finite c.args.x c.decode.ensures c.in-Finite.is in
+    printed-minus parts c.if-exponent-lt-LARGE.true c.if-negative.true c.whole_size-hundredths.ensures
+
+pub returns-else-negative : goal.returns-else-negative
+returns-else-negative c =
+    let parts = finite c.args.x c.decode.ensures c.in-Finite.is in
+    printed-plus parts c.if-exponent-lt-LARGE.true c.if-negative.false c.whole_size-hundredths.ensures
+
 pub returns-else-exponent-lt-LARGE : goal.returns-else-exponent-lt-LARGE
 returns-else-exponent-lt-LARGE c =
-    let parts : let g = c.negative-in-Finite-1.given.0 in
-    IsFinite c.args.x g.0 g.1.0 g.1.1.0 =
-        finite c.args.x c.decode.ensures c.in-Finite.is in
-    printed-overflow parts c.if-exponent-lt-LARGE.false
+    printed-overflow (finite c.args.x c.decode.ensures c.in-Finite.is) c.if-exponent-lt-LARGE.false

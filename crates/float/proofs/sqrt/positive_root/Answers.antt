@@ -1,10 +1,8 @@
--- `float::sqrt::positive_root` meets its contract. Assumes nothing.
-use Rattle.std.proofs.Common.{◌∙◌, arith, rules}
+-- The root has 25 digits, and its half, rounded up, 24. Assumes nothing.
+use Rattle.std.proofs.Common.{◌∙◌, arith}
 use Rattle.root.proofs.Squares.{met-root}
 use Rattle.float.proofs.RoundedRoot.{half-24, root-25, root-bits}
 use Rattle.float.proofs.sqrt.positive_root.Goals as goal
-
--- `float::sqrt::positive_root` meets its contract. Assumes nothing.
 
 pub overflow_add-rounded : goal.overflow_add-rounded
 overflow_add-rounded c =
@@ -13,8 +11,8 @@ overflow_add-rounded c =
     let i = met-root c.whole_root.ensures in
     omega (arith, (root-25 a.significand a.exponent z.result.radicand z.result.shift c.whole_root.result z.ensures i).1)
 
-pub overflow-cast-from-bits : goal.overflow-cast-from-bits
-overflow-cast-from-bits c =
+pub overflow_cast-shift : goal.overflow_cast-shift
+overflow_cast-shift c =
     let a = c.args in
     let z = c.scale-scaled in
     let i = met-root c.whole_root.ensures in

@@ -1,9 +1,7 @@
--- `float::sqrt::scale` meets its contract: radicand * 4 ^ shift stays as it is. Assumes nothing.
-use Rattle.std.proofs.Common.{◌-◌, arith}
-use Rattle.float.proofs.Scaling.{Scaling, done, shift-left, start, start-below, turn}
+-- The loop: radicand * 4 ^ shift stays as it is.
+use Rattle.std.proofs.Common.{◌-◌}
+use Rattle.float.proofs.Scaling.{Scaling}
 use Rattle.float.proofs.sqrt.scale.Given as goal
-
--- `float::sqrt::scale` meets its contract: radicand * 4 ^ shift stays as it is. Assumes nothing.
 
 abbrev pub invariant-loop-radicand : goal.invariant-loop-radicand
 invariant-loop-radicand l = Scaling l.significand l.exponent l.radicand l.shift

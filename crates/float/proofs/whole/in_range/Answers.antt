@@ -1,12 +1,7 @@
--- `float::whole::in_range` meets its contract. Assumes nothing.
-use Rattle.std.proofs.Common.{arith, rules}
-use Rattle.float.proofs.Ranges.{beyond-negative, beyond-positive, is_negative, is_positive, negated_fits}
+-- By the sign and by the size. Assumes nothing.
+use Rattle.std.proofs.Common.{arith}
+use Rattle.float.proofs.Ranges.{beyond-negative, beyond-positive, is_negative, is_positive}
 use Rattle.float.proofs.whole.in_range.Goals as goal
-
--- `float::whole::in_range` meets its contract. Assumes nothing.
-
-pub overflow-sub-t11 : goal.overflow-sub-t11
-overflow-sub-t11 c = negated_fits c.args.size (omega arith)
 
 pub returns-then-size-max : goal.returns-then-size-max
 returns-then-size-max c =
