@@ -12,15 +12,15 @@ overflow_cast-x-in-Int c = widens w16 w32 tt c.in-Int.x (search rules)
 
 pub returns-in-Char : goal.returns-in-Char
 returns-in-Char c =
-    let g = c.a-1.given in
-    rw g.1 (c.whole_size.ensures ∙ ap (λ (z : ℤ). sized (within c.args.max z))
-    (widened w8 w32 tt g.0.0 (search rules)))
+    rw c.in-Char.is (
+    c.whole_size.ensures ∙ ap (λ (z : ℤ). sized (within c.args.max z))
+    (widened w8 w32 tt c.in-Char.x (search rules)))
 
 pub returns-in-Int : goal.returns-in-Int
 returns-in-Int c =
-    let g = c.a-in-Int-1.given in
-    rw g.1 (c.whole_size-in-Int.ensures ∙ ap (λ (z : ℤ). sized (within c.args.max z))
-    (widened w16 w32 tt g.0.0 (search rules)))
+    rw c.in-Int.is (
+    c.whole_size-in-Int.ensures ∙ ap (λ (z : ℤ). sized (within c.args.max z))
+    (widened w16 w32 tt c.in-Int.x (search rules)))
 
 pub returns-in-Float : goal.returns-in-Float
 returns-in-Float c = rw c.in-Float.is c.to_size.ensures

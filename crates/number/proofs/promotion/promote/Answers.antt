@@ -17,8 +17,7 @@ returns-in-Char-b c =
 
 pub returns-in-Int-b : goal.returns-in-Int-b
 returns-in-Int-b c =
-    let g = c.a-1.given in
-    rw (g.1, c.in-Int-b.is) (ap₂ Ints (widened w8 w16 tt g.0.0 (search rules)) (search rules))
+    rw (c.in-Char.is, c.in-Int-b.is) (ap₂ Ints (widened w8 w16 tt c.in-Char.x (search rules)) (search rules))
 
 pub returns-in-Float-b : goal.returns-in-Float-b
 returns-in-Float-b c =
@@ -26,8 +25,7 @@ returns-in-Float-b c =
 
 pub returns-in-Char-b-2 : goal.returns-in-Char-b-2
 returns-in-Char-b-2 c =
-    let g = c.b-in-Int-1.given in
-    rw (c.in-Int.is, g.1) (ap₂ Ints (search rules) (widened w8 w16 tt g.0.0 (search rules)))
+    rw (c.in-Int.is, c.in-Char-b-2.is) (ap₂ Ints (search rules) (widened w8 w16 tt c.in-Char-b-2.y (search rules)))
 
 pub returns-in-Int-b-2 : goal.returns-in-Int-b-2
 returns-in-Int-b-2 c =
