@@ -23,6 +23,7 @@ pub fn flagged(holds: bool) -> Outcome
     }
 }
 
+#[tactic(auto, unfolding(crate::specs::Arithmetic::whole))]
 fn calculate8(operator: Arithmetic, x: i8, y: i8) -> Outcome
     ensures { result ≡ whole w8 Number.Char operator x y }
 {
@@ -47,6 +48,7 @@ fn calculate8(operator: Arithmetic, x: i8, y: i8) -> Outcome
     }
 }
 
+#[tactic(auto, unfolding(crate::specs::Arithmetic::whole))]
 fn calculate16(operator: Arithmetic, x: i16, y: i16) -> Outcome
     ensures { result ≡ whole w16 Number.Int operator x y }
 {
@@ -71,6 +73,7 @@ fn calculate16(operator: Arithmetic, x: i16, y: i16) -> Outcome
     }
 }
 
+#[tactic(auto, unfolding(crate::specs::Arithmetic::real))]
 fn calculate_floats(operator: Arithmetic, x: f32, y: f32) -> Outcome
     ensures { result ≡ real operator x y }
 {
@@ -93,6 +96,7 @@ fn calculate(operator: Arithmetic, pair: Pair) -> Outcome
     }
 }
 
+#[tactic(auto, unfolding(crate::specs::Binary::ordered))]
 fn compare_wholes(operator: Comparison, x: i16, y: i16) -> bool
     ensures { result ≡ ordered operator x y }
 {
@@ -106,6 +110,7 @@ fn compare_wholes(operator: Comparison, x: i16, y: i16) -> bool
     }
 }
 
+#[tactic(auto, unfolding(crate::specs::Binary::orderedFloats))]
 fn compare_floats(operator: Comparison, x: f32, y: f32) -> bool
     ensures { result ≡ orderedFloats operator x y }
 {
@@ -129,6 +134,7 @@ fn compare(operator: Comparison, pair: Pair) -> bool
     }
 }
 
+#[tactic(auto, unfolding(crate::specs::Binary::connected))]
 fn connect(operator: Connective, x: bool, y: bool) -> bool
     ensures { result ≡ connected operator x y }
 {
@@ -139,6 +145,7 @@ fn connect(operator: Connective, x: bool, y: bool) -> bool
     }
 }
 
+#[tactic(auto, unfolding(crate::specs::Binary::wholeBits))]
 fn combine8(operator: Connective, x: i8, y: i8) -> i8
     ensures { result ≡ wholeBits w8 operator x y }
 {
@@ -149,6 +156,7 @@ fn combine8(operator: Connective, x: i8, y: i8) -> i8
     }
 }
 
+#[tactic(auto, unfolding(crate::specs::Binary::wholeBits))]
 fn combine16(operator: Connective, x: i16, y: i16) -> i16
     ensures { result ≡ wholeBits w16 operator x y }
 {
@@ -189,6 +197,7 @@ pub fn choose(operator: Extremum, pair: Pair) -> Number
 }
 
 // Each operator of two operands; `a` was pushed first.
+#[tactic(auto, unfolding(crate::specs::Binary::binary))]
 pub fn apply(operator: Binary, a: Number, b: Number) -> Outcome
     ensures { result ≡ binary operator a b }
 {

@@ -20,6 +20,7 @@ pub enum Types {
     Nothing,
 }
 
+#[tactic(auto, unfolding(crate::specs::Instruction::lookup))]
 fn scaling_operator(instruction: u8) -> Operator
     ensures { result ≡ lookup instruction scalingTable Operator.NotAnOperator }
 {
@@ -31,6 +32,7 @@ fn scaling_operator(instruction: u8) -> Operator
     }
 }
 
+#[tactic(auto, unfolding(crate::specs::Instruction::lookup))]
 fn unary_operator(instruction: u8) -> Operator
     ensures { result ≡ lookup instruction unaryTable
         (lookup instruction scalingTable Operator.NotAnOperator) }
@@ -54,6 +56,7 @@ fn unary_operator(instruction: u8) -> Operator
     }
 }
 
+#[tactic(auto, unfolding(crate::specs::Instruction::operatorOf, crate::specs::Instruction::lookup))]
 pub fn operator(instruction: u8) -> Operator
     ensures { result ≡ operatorOf instruction }
 {
@@ -163,6 +166,7 @@ pub fn types_of(operator: Operator, place: u8) -> Types
     }
 }
 
+#[tactic(auto, unfolding(crate::specs::Instruction::includes))]
 pub fn takes(types: Types, kind: u8) -> bool
     ensures { result ≡ includes types kind }
 {

@@ -45,6 +45,7 @@ fn absolute_value(a: Number) -> Number
     }
 }
 
+#[tactic(auto, unfolding(crate::specs::Conversion::convertedWhole))]
 fn convert_whole(conversion: Conversion, x: i16) -> Outcome
     ensures { result ≡ convertedWhole conversion x }
 {
@@ -76,6 +77,7 @@ fn float_to_int(x: f32, rounding: Rounding) -> Outcome
     }
 }
 
+#[tactic(auto, unfolding(crate::specs::Conversion::convertedFloat))]
 fn convert_float(conversion: Conversion, x: f32) -> Outcome
     ensures { result ≡ convertedFloat conversion x }
 {
@@ -121,6 +123,7 @@ fn root_of(a: Number) -> Outcome
     }
 }
 
+#[tactic(auto, unfolding(crate::specs::Unary::unary))]
 pub fn apply(operator: Unary, a: Number) -> Outcome
     ensures { result ≡ unary operator a }
 {

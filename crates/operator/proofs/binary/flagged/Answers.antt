@@ -1,9 +1,0 @@
--- By the flag.
-
-use Rattle.operator.proofs.binary.flagged.Goals as goal
-
-pub returns-then-holds : goal.returns-then-holds
-returns-then-holds c = rw c.if-holds.true
-
-pub returns-else-holds : goal.returns-else-holds
-returns-else-holds c = rw c.if-holds.false
