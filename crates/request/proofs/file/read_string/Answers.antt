@@ -1,9 +1,11 @@
 -- READSTRING: no file, no zero before the file's end, or the text with its zero.
-use Prim.Native.Nat.{◌+◌, ◌≤◌, ◌<◌}
+use Prim.Native.Nat.{ℕ, ◌+◌, ◌≤◌, ◌<◌}
 use mathlib.Core.Path.{◌≡◌, sym, ap, ◌∙◌}
+use mathlib.Core.List.{List}
 use native.Mathlib.Omega.{arith}
-use borrow.Author.Rules.{rules}
 use lib.ListN.{length, drop}
+use Rattle.machine.specs.Beyond.{fileRun}
+use Rattle.machine.specs.declared.OpenFile.{OpenFile}
 use Rattle.place.specs.declared.Run.{Run}
 use Rattle.disc.specs.Directory.{contents}
 use Rattle.disc.specs.Name.{trimmed}
@@ -12,49 +14,28 @@ use Rattle.request.proofs.Accesses.{no-file, past_end, text-granted, text-receiv
 use Rattle.request.proofs.Answering.{answers, breaks-off}
 use Rattle.request.proofs.file.read_string.Goals as goal
 
-text-is : (c : goal.After-text_ahead-n) → let a = c.args in c.text_ahead-n.result ≡ length (textIn a.disc.now a.p.file)
-text-is c =
-    let a = c.args in
-    c.text_ahead-n.ensures
-    ∙ ap (λ (r : Run). length (trimmed (drop a.p.file.offset (contents a.disc.now r)))) c.file_run.ensures
-
-inside : (c : goal.Else-file-eq0) → let a = c.args in a.p.file.start + a.p.file.len ≤ length a.disc.now
-inside c = c.requires.1.inside c.if-file-eq0.false
-
-short : (c : goal.After-text_ahead-n) → c.text_ahead-n.result ≤ c.args.p.file.len
-short c =
-    let inside : let a = c.args in a.p.file.start + a.p.file.len ≤ length a.disc.now =
-        c.requires.1.inside c.if-file-eq0.false in
-    omega (arith, text-is c, text-short c.requires.0 c.args.disc.now inside)
+text-is : (disc : List ℕ) (f : OpenFile) {run : Run} {n : ℕ} → n ≡ length (trimmed (drop f.offset (contents disc run))) → run ≡ fileRun f
+    → n ≡ length (textIn disc f)
+text-is disc f e r = e ∙ ap (λ (x : Run). length (trimmed (drop f.offset (contents disc x)))) r
 
 pub text_ahead-n-requires : goal.text_ahead-n-requires
-text_ahead-n-requires c =
-    let inside : let a = c.args in a.p.file.start + a.p.file.len ≤ length a.disc.now =
-        c.requires.1.inside c.if-file-eq0.false in
-    rw c.file_run.ensures (c.requires.1.offset, inside)
+text_ahead-n-requires c = rw c.file_run.ensures (c.requires.1.offset, c.requires.1.inside c.if-file-eq0.false)
 
 pub overflow_add-n : goal.overflow_add-n
-overflow_add-n c = let h = short c in search rules
+overflow_add-n c =
+    let a = c.args in
+    let n = text-is a.disc.now a.p.file c.text_ahead-n.ensures c.file_run.ensures in
+    omega (arith, n, text-short c.requires.0 a.disc.now (c.requires.1.inside c.if-file-eq0.false))
 
-pub overflow-add-if2 : goal.overflow-add-if2
-overflow-add-if2 c =
-    let text-is : let a = c.args in c.text_ahead-n.result ≡ length (textIn a.disc.now a.p.file) =
-        let a = c.args in
-    c.text_ahead-n.ensures
-    ∙ ap (λ (r : Run). length (trimmed (drop a.p.file.offset (contents a.disc.now r)))) c.file_run.ensures in
-    let inside : let a = c.args in a.p.file.start + a.p.file.len ≤ length a.disc.now =
-        c.requires.1.inside c.if-file-eq0.false in
-    let short : c.text_ahead-n.result ≤ c.args.p.file.len =
-        omega (arith, text-is, text-short c.requires.0 c.args.disc.now inside) in
-    let h = short in search rules
+pub overflow_add-file : goal.overflow_add-file
+overflow_add-file c =
+    let a = c.args in
+    let n = text-is a.disc.now a.p.file c.text_ahead-n.ensures c.file_run.ensures in
+    omega (arith, n, text-short c.requires.0 a.disc.now (c.requires.1.inside c.if-file-eq0.false))
 
 pub push_text-requires : goal.push_text-requires
 push_text-requires c =
-    let inside : let a = c.args in a.p.file.start + a.p.file.len ≤ length a.disc.now =
-        c.requires.1.inside c.if-file-eq0.false in
-    let ahead : let a = c.args in Ahead a.disc.now a.p.file (c.text_ahead-n.result + 1) =
-        record { within = omega (arith, c.if-file-n.false); inside = inside } in
-    (c.requires.0, ahead)
+    (c.requires.0, record { within = omega (arith, c.if-file-n.false); inside = c.requires.1.inside c.if-file-eq0.false })
 
 pub returns-then-file-eq0 : goal.returns-then-file-eq0
 returns-then-file-eq0 c =
@@ -64,27 +45,17 @@ returns-then-file-eq0 c =
 
 pub returns-then-file-n : goal.returns-then-file-n
 returns-then-file-n c =
-    let text-is : let a = c.args in c.text_ahead-n.result ≡ length (textIn a.disc.now a.p.file) =
-        let a = c.args in
-    c.text_ahead-n.ensures
-    ∙ ap (λ (r : Run). length (trimmed (drop a.p.file.offset (contents a.disc.now r)))) c.file_run.ensures in
     let a = c.args in
-    let f = a.p.file in
-    let disc = a.disc.now in
-    let past : f.len < f.offset + (length (textIn disc f) + 1) = omega (arith, text-is, c.if-file-n.true) in
-    breaks-off c.requires.0 disc (text-granted c.requires.0 disc (past_end f _ c.if-file-eq0.false past)) c.finish-then-file-n.ensures
+    let n = text-is a.disc.now a.p.file c.text_ahead-n.ensures c.file_run.ensures in
+    breaks-off c.requires.0 a.disc.now
+    (text-granted c.requires.0 a.disc.now (past_end a.p.file _ c.if-file-eq0.false (omega (arith, n, c.if-file-n.true))))
+    c.finish-then-file-n.ensures
 
 pub returns : goal.returns
 returns c =
-    let text-is : let a = c.args in c.text_ahead-n.result ≡ length (textIn a.disc.now a.p.file) =
-        let a = c.args in
-    c.text_ahead-n.ensures
-    ∙ ap (λ (r : Run). length (trimmed (drop a.p.file.offset (contents a.disc.now r)))) c.file_run.ensures in
-    let inside : let a = c.args in a.p.file.start + a.p.file.len ≤ length a.disc.now =
-        c.requires.1.inside c.if-file-eq0.false in
-    let ahead : let a = c.args in Ahead a.disc.now a.p.file (c.text_ahead-n.result + 1) =
-        record { within = omega (arith, c.if-file-n.false); inside = inside } in
     let a = c.args in
-    let disc = a.disc.now in
-    answers c.requires.0 disc c.push_text.ensures
-    (sym (text-received c.requires.0 disc (omega (arith, text-is)) c.if-file-eq0.false (ahead)))
+    let n = text-is a.disc.now a.p.file c.text_ahead-n.ensures c.file_run.ensures in
+    let ahead : Ahead a.disc.now a.p.file (c.text_ahead-n.result + 1) =
+        record { within = omega (arith, c.if-file-n.false); inside = c.requires.1.inside c.if-file-eq0.false } in
+    answers c.requires.0 a.disc.now c.push_text.ensures
+    (sym (text-received c.requires.0 a.disc.now (omega (arith, n)) c.if-file-eq0.false ahead))

@@ -55,7 +55,7 @@ returns-in-Inside c =
     let disc = a.disc.now in
     let e = c.write_at.ensures
     ∙ ap (λ (r : Run). writtenAt disc r a.p.file.offset (about a.d)) c.file_run.ensures in
-    ap (λ (l : List ℕ). left l c.go_on.new.0) e
+    ap (λ (l : List ℕ). left l c.go_on.new.area) e
     ∙ goes_on c.requires.0 disc (write_granted c.requires.0 disc size (sym c.access.ensures ∙ c.in-Inside.is))
     (own-keeping c.requires.0) c.advanced.ensures c.go_on.ensures
 

@@ -18,24 +18,6 @@ use Rattle.request.proofs.open.open_file.Goals as goal
 -- OPEN: the file of that name is open, or a new one.
 
 -- ---- the states: the name lent, looked up, found, its entry read
-abbrev start : tie.After-find-arg → goal.Start
-start c =
-    let known = c.before.before in
-    known.before.before.before
-
-pub slice_bounds-bytes-end : goal.slice_bounds-bytes-end
-slice_bounds-bytes-end c =
-    let size : length c.args.d.bytes ≡ stackSize =
-        search rules in
-    let s = start c in
-    about-inside s.pre.0 (size s)
-
-pub slice_bounds-find-end : goal.slice_bounds-find-end
-slice_bounds-find-end c =
-    let size : length c.args.d.bytes ≡ stackSize =
-        search rules in
-    let s = start c in sym (about-length s.pre.0 (size s))
-
 pub entry_at-entry-requires : goal.entry_at-entry-requires
 entry_at-entry-requires c =
     let a = c.args in

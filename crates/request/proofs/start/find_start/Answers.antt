@@ -11,13 +11,6 @@ use Rattle.disc.proofs.Lookups.{lookup-at}
 use Rattle.request.proofs.Slots.{ended-slot-is, starting-by}
 use Rattle.request.proofs.start.find_start.Goals as goal
 
-slot-found : (c : goal.In-At) → endedSlot (kernelOf c.args.area.now) ≡ At c.in-At.slot
-slot-found c = sym c.ended_slot.ensures ∙ c.in-At.is
-
-file-found : (c : goal.In-At-find) → let a = c.args in
-    lookup a.disc.now a.name.now ≡ At c.in-At-find.i
-file-found c = sym c.find.ensures ∙ c.in-At-find.is
-
 pub returns-then-next_id-eq-ID_LIMIT : goal.returns-then-next_id-eq-ID_LIMIT
 returns-then-next_id-eq-ID_LIMIT c =
     let slot-found : endedSlot (kernelOf c.args.area.now) ≡ At c.in-At.slot =
