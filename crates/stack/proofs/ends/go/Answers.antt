@@ -1,6 +1,5 @@
 -- Nothing is pushed.
 use mathlib.Core.List.{append-nil}
-use borrow.Author.Rules.{rules}
 use Rattle.stack.proofs.ends.go.Goals as goal
 
 -- Nothing is pushed.

@@ -1,6 +1,5 @@
 -- The whole stack is kept.
 use lib.Seq.{take-length}
-use borrow.Author.Rules.{rules}
 use Rattle.stack.proofs.ends.jump.Goals as goal
 
 -- The whole stack is kept.

@@ -7,7 +7,6 @@ use native.Mathlib.Omega.{arith}
 use Rattle.buffer.specs.declared.Found.TheVariants.{At}
 use Rattle.machine.proofs.Instructions.Settling.{settle-full, settle_goes, settle-outside}
 use Rattle.stack.proofs.Steps.{last-means, pushed-length, step-means}
-use borrow.Author.Rules.{rules}
 use Rattle.stack.proofs.ends.push_bytes.Goals as goal
 
 pub returns-then-kept-head-gt-STACK_SIZE : goal.returns-then-kept-head-gt-STACK_SIZE

@@ -7,7 +7,6 @@ use Rattle.buffer.specs.declared.Found.TheVariants.{At}
 use Rattle.machine.specs.Stack.{pushItem}
 use Rattle.machine.proofs.Instructions.Settling.{settle-full}
 use Rattle.stack.proofs.Steps.{item-long, last-means}
-use borrow.Author.Rules.{rules}
 use Rattle.stack.proofs.ends.push_item.Goals as goal
 
 pub returns-then-bytes-gt-STACK_SIZE : goal.returns-then-bytes-gt-STACK_SIZE

@@ -5,7 +5,6 @@ use lib.ListN.{length, take}
 use lib.Seq.{length-take-le}
 use Rattle.number.specs.declared.value.Encoded.{Encoded}
 use Rattle.stack.proofs.Steps.{encoded-inside, number_pushed}
-use borrow.Author.Rules.{rules}
 use Rattle.stack.proofs.ends.push_number.Goals as goal
 
 pub slice_bounds-push_item-end : goal.slice_bounds-push_item-end

@@ -1,6 +1,5 @@
 -- By the outcome.
 use Rattle.stack.proofs.Steps.{last-means}
-use borrow.Author.Rules.{rules}
 use Rattle.stack.proofs.ends.push_outcome.Goals as goal
 
 pub returns-in-Value : goal.returns-in-Value

@@ -8,13 +8,12 @@ use lib.ListN.{length, replicate, length-append, length-replicate}
 use Rattle.buffer.specs.Buffer.{overwrite}
 use Rattle.buffer.proofs.Buffer.{overwrite-joined, overwrite-zeros}
 use Rattle.machine.specs.Limits.{stackSize}
-use borrow.Author.Rules.{rules}
 use Rattle.stack.proofs.ends.with_bytes.Goals as goal
 
 pub returns : goal.returns
 returns c =
     let laid : let a = c.args in
-    c.overwrite_at-2.new.0 ≡ a.head.now ++ a.tail.now ++ replicate (stackSize - length (a.head.now ++ a.tail.now)) 0 =
+    c.overwrite_at-2.new.dst ≡ a.head.now ++ a.tail.now ++ replicate (stackSize - length (a.head.now ++ a.tail.now)) 0 =
         let a = c.args in
     let s = a.head.now in
     let t = a.tail.now in

@@ -4,7 +4,6 @@ use native.Mathlib.Omega.{arith}
 use Rattle.buffer.specs.Buffer.{part}
 use Rattle.buffer.proofs.Parts.{part_length, part-to}
 use Rattle.stack.proofs.Steps.{step-means}
-use borrow.Author.Rules.{rules}
 use Rattle.stack.proofs.ends.with_part.Goals as goal
 
 pub with_bytes-requires : goal.with_bytes-requires

@@ -1,6 +1,5 @@
 -- No bytes, and the whole stack is kept.
 use lib.Seq.{take-length}
-use borrow.Author.Rules.{rules}
 use Rattle.stack.proofs.ends.with_stack.Goals as goal
 
 -- No bytes, and the whole stack is kept.

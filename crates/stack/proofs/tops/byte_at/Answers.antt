@@ -2,7 +2,6 @@
 use lib.ListN.{get_or-eq_default}
 use mathlib.Core.Path.{sym}
 use native.Mathlib.Omega.{arith}
-use borrow.Author.Rules.{rules}
 use Rattle.stack.proofs.tops.byte_at.Goals as goal
 
 -- Past the end a list has zeros.

@@ -6,7 +6,6 @@ use native.Mathlib.Omega.{arith}
 use Rattle.stack.specs.Tops.{bytesBelow}
 use Rattle.stack.specs.declared.TopNumber.{TopNumber}
 use Rattle.stack.proofs.Chains.{found_below, lent}
-use borrow.Author.Rules.{rules}
 use Rattle.stack.proofs.tops.next_number.Goals as goal
 
 pub returns-in-Is : goal.returns-in-Is

@@ -1,5 +1,4 @@
 -- The number, or 0.
-use borrow.Author.Rules.{rules}
 use Rattle.stack.proofs.tops.number_in.Goals as goal
 
 pub returns-in-NoNumber : goal.returns-in-NoNumber

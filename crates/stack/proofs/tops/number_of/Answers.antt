@@ -1,7 +1,6 @@
 -- A byte that is missing counts as zero, in the definition as here.
 use mathlib.Core.List.{[], ◌∷◌}
 use mathlib.Core.Path.{◌∙◌}
-use borrow.Author.Rules.{rules}
 use Rattle.number.specs.Value.{number_of}
 use Rattle.stack.proofs.tops.number_of.Goals as goal
 

@@ -4,7 +4,6 @@ use lib.ListN.{length}
 use native.Mathlib.Omega.{arith}
 use borrow.Author.Tests.{le-leb, lt-leb}
 use Rattle.machine.specs.Stack.{popNumber}
-use borrow.Author.Rules.{rules}
 use Rattle.stack.proofs.tops.number_on_top.Goals as goal
 
 pub returns-then-n-size : goal.returns-then-n-size

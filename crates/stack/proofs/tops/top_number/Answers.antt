@@ -9,7 +9,6 @@ use Rattle.number.specs.Value.{number_of}
 use Rattle.number.specs.declared.Number.{Number}
 use Rattle.stack.specs.Tops.{numberAbove}
 use Rattle.stack.proofs.Popping.{OnTop, no_value, number_small, numeric-number, value-on-top}
-use borrow.Author.Rules.{rules}
 use Rattle.stack.proofs.tops.top_number.Goals as goal
 
 pub overflow_add-end : goal.overflow_add-end
@@ -33,7 +32,7 @@ number_of-requires c =
     value-on-top a.types a.stack.now c.top_value.ensures c.in-Lies.is in
     let few : c.in-Lies.len ≤ 4 =
         let v = value in
-    let n = numeric-number c.args.types c.in-Lies.kind c.requires v.off.true in
+    let n = numeric-number c.args.types c.in-Lies.kind c.requires v.off.taken in
     let z = sym v.size ∙ v.off.number (number-no-string c.in-Lies.kind n) in
     omega (arith, number_small c.in-Lies.kind n) in
     rw (part-to c.args.stack.now c.in-Lies.at c.in-Lies.len) (omega (arith, value.size, few))

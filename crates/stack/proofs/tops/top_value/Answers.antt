@@ -4,7 +4,6 @@ use lib.ListN.{length}
 use native.Mathlib.Omega.{arith}
 use borrow.Author.Tests.{eq-eqb, le-leb, lt-leb, ne_eqb, not-false, not-true}
 use Rattle.machine.specs.Stack.{pop}
-use borrow.Author.Rules.{rules}
 use Rattle.stack.proofs.tops.top_value.Goals as goal
 
 pub returns-then-n-lt1 : goal.returns-then-n-lt1
