@@ -1,6 +1,5 @@
 -- The clock's two bytes above the whole stack.
 use lib.Seq.{take-length}
-use borrow.Author.Rules.{rules}
 use Rattle.control.proofs.clock.push_clock.Goals as goal
 
 pub returns : goal.returns

@@ -4,7 +4,6 @@ use Prim.Native.Nat.{◌+◌, ◌≤◌, ◌<◌}
 use native.Mathlib.Omega.{arith}
 use borrow.Author.Tests.{le-leb, lt-leb}
 use Rattle.stack.proofs.Steps.{last-means}
-use borrow.Author.Rules.{rules}
 use Rattle.control.proofs.flow.choose_while.Goals as goal
 
 pub returns-then-zero : goal.returns-then-zero

@@ -1,20 +1,16 @@
 -- The number goes, and what lies below it stays.
-use native.Mathlib.Omega.{arith}
 use Rattle.operator.specs.declared.instruction.Types.TheVariants.{AnyNumber}
-use Rattle.stack.proofs.Popping.{NumberOnTop, number-faults, number-on-top}
-use borrow.Author.Rules.{rules}
+use Rattle.stack.proofs.Popping.{number-faults, number-on-top}
 use Rattle.control.proofs.flow.drop_number.Goals as goal
 
 pub go-requires : goal.go-requires
 go-requires c =
-    let top : NumberOnTop AnyNumber c.args.stack.now c.in-Is.field-0 c.in-Is.below =
-        number-on-top AnyNumber c.args.stack.now c.top_number.ensures c.in-Is.is in
-    record { short = c.requires.short; low = c.requires.low; there = omega (arith, (top).below) }
+    let top = number-on-top AnyNumber c.args.stack.now c.top_number.ensures c.in-Is.is in
+    record { short = c.requires.short; low = c.requires.low; there = top.below }
 
 pub returns-in-Is : goal.returns-in-Is
 returns-in-Is c =
-    let top : NumberOnTop AnyNumber c.args.stack.now c.in-Is.field-0 c.in-Is.below =
-        number-on-top AnyNumber c.args.stack.now c.top_number.ensures c.in-Is.is in
+    let top = number-on-top AnyNumber c.args.stack.now c.top_number.ensures c.in-Is.is in
     rw top.pops c.go.ensures
 
 pub returns-in-NoNumber : goal.returns-in-NoNumber

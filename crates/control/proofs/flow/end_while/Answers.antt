@@ -7,7 +7,6 @@ use native.Mathlib.Omega.{arith}
 use borrow.Author.Tests.{le-leb, lt-leb}
 use Rattle.machine.proofs.Instructions.Settling.{settle-nowhere}
 use Rattle.stack.proofs.Steps.{last-means}
-use borrow.Author.Rules.{rules}
 use Rattle.control.proofs.flow.end_while.Goals as goal
 
 pub returns-then-n-lt1 : goal.returns-then-n-lt1

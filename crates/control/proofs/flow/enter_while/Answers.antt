@@ -1,16 +1,10 @@
 -- Both argument bytes are there; the number chooses.
-use Prim.Native.Nat.{◌+◌, ◌≤◌}
-use lib.ListN.{length}
-use native.Mathlib.Omega.{arith}
+use Rattle.std.proofs.Common.{◌+◌, ◌≤◌, length, arith}
 use borrow.Author.Tests.{le-leb, lt-leb}
 use Rattle.operator.specs.declared.instruction.Types.TheVariants.{AnyNumber}
-use Rattle.stack.proofs.Popping.{NumberOnTop, number-faults, number-on-top}
+use Rattle.stack.proofs.Popping.{number-faults, number-on-top}
 use Rattle.stack.proofs.Steps.{last-means}
-use borrow.Author.Rules.{rules}
 use Rattle.control.proofs.flow.enter_while.Goals as goal
-
-fits : (c : goal.Else-code-to) → c.args.at + 1 + 2 ≤ length c.args.code.now
-fits c = omega arith
 
 pub returns-then-code-to : goal.returns-then-code-to
 returns-then-code-to c =
@@ -19,25 +13,17 @@ returns-then-code-to c =
 
 pub choose_while-requires : goal.choose_while-requires
 choose_while-requires c =
-    let fits : c.args.at + 1 + 2 ≤ length c.args.code.now =
-        omega arith in
-    let top : let st = c.args.stack.now in
-    NumberOnTop AnyNumber st c.in-Is.x c.in-Is.below =
-        number-on-top AnyNumber c.args.stack.now c.top_number.ensures c.in-Is.is in
-    (record { short = c.requires.short; low = c.requires.low; there = top.below }, fits)
+    let top = number-on-top AnyNumber c.args.stack.now c.top_number.ensures c.in-Is.is in
+    (record { short = c.requires.short; low = c.requires.low; there = top.below }, omega arith)
 
 pub returns-in-Is : goal.returns-in-Is
 returns-in-Is c =
-    let fits : c.args.at + 1 + 2 ≤ length c.args.code.now =
-        omega arith in
-    let top : let st = c.args.stack.now in
-    NumberOnTop AnyNumber st c.in-Is.x c.in-Is.below =
-        number-on-top AnyNumber c.args.stack.now c.top_number.ensures c.in-Is.is in
-    let t = top in
-    rw (le-leb _ _ fits, t.pops, t.is, ← c.is_zero.ensures) c.choose_while.ensures
+    let a = c.args in
+    let fits : a.at + 1 + 2 ≤ length a.code.now = omega arith in
+    let top = number-on-top AnyNumber a.stack.now c.top_number.ensures c.in-Is.is in
+    rw (le-leb _ _ fits, top.pops, top.is, ← c.is_zero.ensures) c.choose_while.ensures
 
 pub returns-in-NoNumber : goal.returns-in-NoNumber
 returns-in-NoNumber c =
-    let fits : c.args.at + 1 + 2 ≤ length c.args.code.now =
-        omega arith in
-    rw (le-leb _ _ (fits)) (number-faults _ _ c.top_number.ensures c.in-NoNumber.is _ c.last_step-in-NoNumber.ensures _)
+    let fits : c.args.at + 1 + 2 ≤ length c.args.code.now = omega arith in
+    rw (le-leb _ _ fits) (number-faults _ _ c.top_number.ensures c.in-NoNumber.is _ c.last_step-in-NoNumber.ensures _)

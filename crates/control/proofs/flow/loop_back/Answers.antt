@@ -3,7 +3,6 @@ use mathlib.Core.List.{[]}
 use borrow.Author.Tests.{eq-eqb, ne_eqb}
 use Rattle.machine.proofs.Instructions.Settling.{settle-nowhere}
 use Rattle.stack.proofs.Steps.{last-means}
-use borrow.Author.Rules.{rules}
 use Rattle.control.proofs.flow.loop_back.Goals as goal
 
 pub returns-then-loopstart-eq-NO_LOOP : goal.returns-then-loopstart-eq-NO_LOOP
