@@ -1,4 +1,6 @@
 // The decimal digits of a number, as every printed number has them.
+#![tactic(auto)]
+
 ghost use Rattle.std.specs.Prelude.{◌≡◌, ◌+◌, ◌<◌, ◌≤◌, length};
 ghost use Rattle.buffer.specs.Laid.{Laid};
 ghost use Rattle.decimal.specs.Decimal.{decimal, digitsOf, maxDigits};

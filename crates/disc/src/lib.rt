@@ -1,4 +1,6 @@
 // What a disc is: its layout, names, the directory of ten entries, and which discs are good.
+#![tactic(auto)]
+
 pub mod directory;
 pub mod good;
 pub mod layout;

@@ -1,6 +1,8 @@
 // The C boundary. Document 01: "The box firmware, in C, calls each operation with numbers and byte buffers." Each
 // function is one equation with the machine's answer, for every buffer of every length; include/arduinos.h declares
 // them.
+#![tactic(auto)]
+
 ghost use Rattle.std.specs.Prelude.{List, ◌≡◌, ℕ};
 ghost use Rattle.machine.specs.Answer.{answer, bootAnswer, command, erase, files, formatAnswer, freeSpace, list, other};
 ghost use Rattle.machine.specs.Answer.{retrieve, round, run, share, store, turn};

@@ -1,6 +1,8 @@
 // Whole numbers of 8 and 16 bits: their bits and bytes, the operations whose exact result is kept modulo 256 or 65,536,
 // and division that cuts toward zero. Each contract gives the definition of specs/Modular.antt, or the library's, at
 // its width.
+#![tactic(auto)]
+
 ghost use Rattle.std.specs.Prelude.{◌≡◌, ◌+◌, ◌*◌, ◌/◌, ◌%◌, ◌^◌, pos, ◌+ℤ◌, ◌-ℤ◌, ◌*ℤ◌, neg_ℤ, ◌≢◌, int_div, int_rem};
 ghost use Rattle.std.specs.Int.{w8, w16};
 ghost use Rattle.std.proofs.Common.{to_z, of_z};

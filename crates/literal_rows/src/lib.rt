@@ -1,4 +1,6 @@
 // Literal rows: calls on bytes, against bytes written out at their offsets.
+#![tactic(auto)]
+
 ghost use Rattle.literal_rows.specs.Goodness.{AreaRows, DiscRows, LongDiscRows};
 ghost use Rattle.literal_rows.specs.NewFileExample.{NewFileExample};
 ghost use Rattle.literal_rows.specs.NewFiles.{NewFilesOnBytes};

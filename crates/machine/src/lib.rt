@@ -1,5 +1,7 @@
 // What the kernel is: definitions in specs/, their consequences in proofs/. The code of the work area and of the turn
 // comes in crates that use this one.
+#![tactic(auto)]
+
 pub mod instruction;
 pub mod limits;
 

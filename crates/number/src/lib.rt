@@ -1,5 +1,7 @@
 // Numbers of the stack machine: their bytes, two at one type, one against a whole number or the clock, their text.
 // Document 01: "A number taken off the stack is a CHAR, an INT or a FLOAT, signed 8, signed 16, binary32."
+#![tactic(auto)]
+
 pub mod clock;
 pub mod compare;
 pub mod promotion;

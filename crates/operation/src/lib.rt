@@ -1,4 +1,6 @@
 // The operations on disc and work area, for every buffer of every length. A refused one writes nothing.
+#![tactic(auto)]
+
 pub mod checks;
 pub mod commands;
 pub mod files;

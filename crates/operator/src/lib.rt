@@ -1,4 +1,6 @@
 // The operators on numbers: which instruction is which, the types it takes, and what it answers.
+#![tactic(auto)]
+
 pub mod binary;
 pub mod instruction;
 pub mod operators;

@@ -1,4 +1,6 @@
 // What disc and process table answer to an instruction that reaches beyond its process.
+#![tactic(auto)]
+
 pub mod file;
 pub mod fork;
 pub mod open;

@@ -1,4 +1,6 @@
 // The whole square root of a natural number.
+#![tactic(auto)]
+
 ghost use Rattle.std.specs.Prelude.{◌≡◌};
 ghost use Rattle.root.specs.Root.{wholeRoot};
 

@@ -1,4 +1,6 @@
 // Tables of rows, computed of the definitions: the bench cases, the misreadings, DELAYUNTIL, scaling, shares.
+#![tactic(auto)]
+
 ghost use Rattle.rows.specs.Cases.{Bench, Delays, Misreadings, Scalings};
 ghost use Rattle.rows.specs.ShareRows.{Shares};
 

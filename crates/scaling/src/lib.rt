@@ -1,4 +1,6 @@
 // Document 02, Q-3: what CONSTRAIN, MAP and POW answer.
+#![tactic(auto)]
+
 pub mod constrain;
 pub mod map;
 pub mod power;

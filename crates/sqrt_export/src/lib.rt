@@ -1,4 +1,6 @@
 // The root of a FLOAT by its bits, for C to call: tools/sqrt compares it with C's sqrtf on every pattern.
+#![tactic(auto)]
+
 ghost use Rattle.std.specs.Prelude.{◌≡◌};
 ghost use Rattle.std.specs.Float.{binary32};
 ghost use Rattle.std.specs.Float.Ieee.{of_bits, to_bits};

@@ -1,4 +1,6 @@
 // The stack of one process: what lies on top, and what an instruction does.
+#![tactic(auto)]
+
 pub mod ends;
 pub mod tops;
 

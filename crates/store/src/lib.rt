@@ -1,4 +1,6 @@
 // The file store: files on a disc that the caller lends, by name; what the operations on the disc alone answer.
+#![tactic(auto)]
+
 pub mod file;
 
 // Document 01's refusals that concern the disc alone.

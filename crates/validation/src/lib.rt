@@ -1,4 +1,6 @@
 // The tests of disc and work area that every operation on both buffers makes first, on their bytes.
+#![tactic(auto)]
+
 pub mod good;
 
 ghost use Rattle.std.specs.Prelude.{◌≡◌};

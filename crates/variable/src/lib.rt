@@ -1,4 +1,6 @@
 // Variable memory: 256 bytes and 25 entries that all processes share, in the 407 bytes at the front of the work area.
+#![tactic(auto)]
+
 pub mod assign;
 pub mod free;
 pub mod table;
