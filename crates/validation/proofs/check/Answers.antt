@@ -10,12 +10,6 @@ use Rattle.machine.specs.Area.{isAreaLength}
 use Rattle.validation.specs.Tests.{tested}
 use Rattle.validation.proofs.check.Goals as goal
 
-area-long : (c : goal.Else-area-ne-AREA_LENGTH) → isAreaLength (length c.args.area.now) ≡ true
-area-long c = eq-eqb _ _ c.if-area-ne-AREA_LENGTH.false
-
-good-disc : (c : goal.Else-not-is_good_disc) → goodDisc c.args.disc.now ≡ true
-good-disc c = sym c.is_good_disc.ensures ∙ c.if-not-is_good_disc.false
-
 pub returns-then-not-is_disc_length : goal.returns-then-not-is_disc_length
 unfolding tested
 returns-then-not-is_disc_length c = rw (sym c.is_disc_length.ensures ∙ c.if-not-is_disc_length.true)
@@ -23,49 +17,41 @@ returns-then-not-is_disc_length c = rw (sym c.is_disc_length.ensures ∙ c.if-no
 pub returns-then-area-ne-AREA_LENGTH : goal.returns-then-area-ne-AREA_LENGTH
 unfolding tested
 returns-then-area-ne-AREA_LENGTH c =
-    let disc-long : isDiscLength (length c.args.disc.now) ≡ true =
-        sym c.is_disc_length.ensures ∙ c.if-not-is_disc_length.false in
-    rw (disc-long, ne_eqb _ _ c.if-area-ne-AREA_LENGTH.true)
+    rw (sym c.is_disc_length.ensures ∙ c.if-not-is_disc_length.false, ne_eqb _ _ c.if-area-ne-AREA_LENGTH.true)
 
 pub is_good_disc-requires : goal.is_good_disc-requires
-is_good_disc-requires c =
-    let disc-long : isDiscLength (length c.args.disc.now) ≡ true =
-        sym c.is_disc_length.ensures ∙ c.if-not-is_disc_length.false in
-    (disc-bounds _ (disc-long)).low
+is_good_disc-requires c = (disc-bounds _ (sym c.is_disc_length.ensures ∙ c.if-not-is_disc_length.false)).low
 
 pub returns-then-not-is_good_disc : goal.returns-then-not-is_good_disc
 unfolding tested
 returns-then-not-is_good_disc c =
-    let disc-long : isDiscLength (length c.args.disc.now) ≡ true =
-        sym c.is_disc_length.ensures ∙ c.if-not-is_disc_length.false in
-    let area-long : isAreaLength (length c.args.area.now) ≡ true =
-        eq-eqb _ _ c.if-area-ne-AREA_LENGTH.false in
-    rw (disc-long, area-long, sym c.is_good_disc.ensures ∙ c.if-not-is_good_disc.true)
+    rw (
+      sym c.is_disc_length.ensures ∙ c.if-not-is_disc_length.false,
+      eq-eqb _ _ c.if-area-ne-AREA_LENGTH.false,
+      sym c.is_good_disc.ensures ∙ c.if-not-is_good_disc.true,
+    )
 
 pub is_good_area-requires : goal.is_good_area-requires
 is_good_area-requires c =
-    let disc-long : isDiscLength (length c.args.disc.now) ≡ true =
-        sym c.is_disc_length.ensures ∙ c.if-not-is_disc_length.false in
-    (readable c.args.disc.now disc-long (good-disc c), good-disc c, c.if-area-ne-AREA_LENGTH.false)
+    let good = sym c.is_good_disc.ensures ∙ c.if-not-is_good_disc.false in
+    (readable c.args.disc.now (sym c.is_disc_length.ensures ∙ c.if-not-is_disc_length.false) good, good, c.if-area-ne-AREA_LENGTH.false)
 
 pub returns-then-not-is_good_area : goal.returns-then-not-is_good_area
 unfolding tested
 returns-then-not-is_good_area c =
-    let disc-long : isDiscLength (length c.args.disc.now) ≡ true =
-        sym c.is_disc_length.ensures ∙ c.if-not-is_disc_length.false in
-    let area-long : isAreaLength (length c.args.area.now) ≡ true =
-        eq-eqb _ _ c.if-area-ne-AREA_LENGTH.false in
-    let good-disc : goodDisc c.args.disc.now ≡ true =
-        sym c.is_good_disc.ensures ∙ c.if-not-is_good_disc.false in
-    rw (disc-long, area-long, good-disc, sym c.is_good_area.ensures ∙ c.if-not-is_good_area.true)
+    rw (
+      sym c.is_disc_length.ensures ∙ c.if-not-is_disc_length.false,
+      eq-eqb _ _ c.if-area-ne-AREA_LENGTH.false,
+      sym c.is_good_disc.ensures ∙ c.if-not-is_good_disc.false,
+      sym c.is_good_area.ensures ∙ c.if-not-is_good_area.true,
+    )
 
 pub returns : goal.returns
 unfolding tested
 returns c =
-    let disc-long : isDiscLength (length c.args.disc.now) ≡ true =
-        sym c.is_disc_length.ensures ∙ c.if-not-is_disc_length.false in
-    let area-long : isAreaLength (length c.args.area.now) ≡ true =
-        eq-eqb _ _ c.if-area-ne-AREA_LENGTH.false in
-    let good-disc : goodDisc c.args.disc.now ≡ true =
-        sym c.is_good_disc.ensures ∙ c.if-not-is_good_disc.false in
-    rw (disc-long, area-long, good-disc, sym c.is_good_area.ensures ∙ c.if-not-is_good_area.false)
+    rw (
+      sym c.is_disc_length.ensures ∙ c.if-not-is_disc_length.false,
+      eq-eqb _ _ c.if-area-ne-AREA_LENGTH.false,
+      sym c.is_good_disc.ensures ∙ c.if-not-is_good_disc.false,
+      sym c.is_good_area.ensures ∙ c.if-not-is_good_area.false,
+    )

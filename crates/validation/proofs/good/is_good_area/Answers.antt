@@ -15,13 +15,6 @@ use Rattle.validation.specs.Columns.{differs, isId, slotIds}
 use Rattle.validation.proofs.Goodness.{bad-header, bad-ids, bad-records, variables-left}
 use Rattle.validation.proofs.good.is_good_area.Goals as goal
 
-header : (c : goal.Else-not-is_good_header) → goodHeader (kernelOf c.args.area.now) ≡ true
-header c = sym c.is_good_header.ensures ∙ c.if-not-is_good_header.false
-
-records : (c : goal.Else-not-are_good) → let a = c.args in
-    all (goodProcess (files a.disc.now) (kernelOf a.area.now).next) (kernelOf a.area.now).processes ≡ true
-records c = sym c.are_good.ensures ∙ c.if-not-are_good.false
-
 pub returns-then-not-is_good_header : goal.returns-then-not-is_good_header
 returns-then-not-is_good_header c =
     let a = c.args in
@@ -34,26 +27,15 @@ returns-then-not-are_good c =
 
 pub returns-then-not-are_distinct : goal.returns-then-not-are_distinct
 returns-then-not-are_distinct c =
-    let records : let a = c.args in
-    all (goodProcess (files a.disc.now) (kernelOf a.area.now).next) (kernelOf a.area.now).processes ≡ true =
-        sym c.are_good.ensures ∙ c.if-not-are_good.false in
-    let ids : let a = c.args in
-    c.are_distinct.result ≡ pairs differs (slotIds a.area.now) =
-        c.are_distinct.ensures ∙ ap (pairs differs) c.live_ids-ids.ensures in
     let a = c.args in
-    sym (bad-ids a.disc.now a.area.now records (sym ids ∙ c.if-not-are_distinct.true))
+    let ids = c.are_distinct.ensures ∙ ap (pairs differs) c.live_ids-ids.ensures in
+    sym (bad-ids a.disc.now a.area.now (sym c.are_good.ensures ∙ c.if-not-are_good.false) (sym ids ∙ c.if-not-are_distinct.true))
 
 pub returns : goal.returns
 returns c =
-    let header : goodHeader (kernelOf c.args.area.now) ≡ true =
-        sym c.is_good_header.ensures ∙ c.if-not-is_good_header.false in
-    let records : let a = c.args in
-    all (goodProcess (files a.disc.now) (kernelOf a.area.now).next) (kernelOf a.area.now).processes ≡ true =
-        sym c.are_good.ensures ∙ c.if-not-are_good.false in
-    let ids : let a = c.args in
-    c.are_distinct.result ≡ pairs differs (slotIds a.area.now) =
-        c.are_distinct.ensures ∙ ap (pairs differs) c.live_ids-ids.ensures in
     let a = c.args in
+    let ids = c.are_distinct.ensures ∙ ap (pairs differs) c.live_ids-ids.ensures in
     c.are_good-2.ensures
     ∙ ap (λ (l : List ℕ). goodVariables (keep isId l) (variablesOf a.area.now)) c.live_ids-ids.ensures
-    ∙ variables-left a.disc.now a.area.now records header (sym ids ∙ c.if-not-are_distinct.false)
+    ∙ variables-left a.disc.now a.area.now (sym c.are_good.ensures ∙ c.if-not-are_good.false)
+    (sym c.is_good_header.ensures ∙ c.if-not-is_good_header.false) (sym ids ∙ c.if-not-are_distinct.false)

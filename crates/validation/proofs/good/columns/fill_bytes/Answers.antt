@@ -5,12 +5,10 @@ use borrow.Author.Rules.{rules}
 use lib.ListN.{get_or}
 use Rattle.validation.proofs.Columns.{Column, column-filled, column-next, column-none}
 use Rattle.variable.specs.Limits.{entries_at, entrySize}
+use Rattle.validation.proofs.good.columns.fill_bytes.Invariants.{byte}
 use Rattle.validation.proofs.good.columns.fill_bytes.Goals as goal
 
 -- The loop: the first i places are filled.
-
-abbrev byte : List ℕ → ℕ → ℕ → ℕ
-byte area field i = get_or area (entries_at + i * entrySize + field) 0
 
 pub loop-i-preserved : goal.loop-i-preserved
 loop-i-preserved c =

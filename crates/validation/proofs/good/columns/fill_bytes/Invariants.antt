@@ -8,6 +8,9 @@ use Rattle.validation.proofs.Columns.{Column, column-filled, column-next, column
 use Rattle.variable.specs.Limits.{entries_at, entrySize}
 use Rattle.validation.proofs.good.columns.fill_bytes.Given as goal
 
+abbrev pub byte : List ℕ → ℕ → ℕ → ℕ
+byte area field i = get_or area (entries_at + i * entrySize + field) 0
+
 abbrev pub invariant-loop-i : goal.invariant-loop-i
 invariant-loop-i l = Column l.initial.column (byte l.area l.field) l.count l.column l.i
 

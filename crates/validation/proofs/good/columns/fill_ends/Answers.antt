@@ -7,12 +7,10 @@ use Rattle.buffer.proofs.Parts.{part-byte}
 use Rattle.validation.proofs.Columns.{Column, column-filled, column-next, column-none}
 use Rattle.variable.specs.Limits.{entries_at, entrySize}
 use Rattle.variable.specs.Bytes.{variableIn}
+use Rattle.validation.proofs.good.columns.fill_ends.Invariants.{end}
 use Rattle.validation.proofs.good.columns.fill_ends.Goals as goal
 
 -- The loop: the first i places are filled.
-
-abbrev end : List ℕ → ℕ → ℕ
-end area i = let e = variableIn area i in e.address + e.size
 
 pub loop-i-preserved : goal.loop-i-preserved
 loop-i-preserved c =

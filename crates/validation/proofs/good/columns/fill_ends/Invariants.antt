@@ -10,6 +10,9 @@ use Rattle.variable.specs.Limits.{entries_at, entrySize}
 use Rattle.variable.specs.Bytes.{variableIn}
 use Rattle.validation.proofs.good.columns.fill_ends.Given as goal
 
+abbrev pub end : List ℕ → ℕ → ℕ
+end area i = let e = variableIn area i in e.address + e.size
+
 abbrev pub invariant-loop-i : goal.invariant-loop-i
 invariant-loop-i l = Column l.initial.column (end l.area) l.count l.column l.i
 

@@ -5,12 +5,10 @@ use borrow.Author.Rules.{rules}
 use Rattle.buffer.specs.Buffer.{word_at}
 use Rattle.validation.proofs.Columns.{Column, column-filled, column-next, column-none}
 use Rattle.variable.specs.Limits.{entries_at, entrySize}
+use Rattle.validation.proofs.good.columns.fill_words.Invariants.{word}
 use Rattle.validation.proofs.good.columns.fill_words.Goals as goal
 
 -- The loop: the first i places are filled.
-
-abbrev word : List ℕ → ℕ → ℕ → ℕ
-word area field i = word_at area (entries_at + i * entrySize + field)
 
 pub loop-i-preserved : goal.loop-i-preserved
 loop-i-preserved c =

@@ -8,6 +8,9 @@ use Rattle.validation.proofs.Columns.{Column, column-filled, column-next, column
 use Rattle.variable.specs.Limits.{entries_at, entrySize}
 use Rattle.validation.proofs.good.columns.fill_words.Given as goal
 
+abbrev pub word : List ℕ → ℕ → ℕ → ℕ
+word area field i = word_at area (entries_at + i * entrySize + field)
+
 abbrev pub invariant-loop-i : goal.invariant-loop-i
 invariant-loop-i l = Column l.initial.column (word l.area l.field) l.count l.column l.i
 

@@ -4,12 +4,10 @@ use native.Mathlib.Omega.{arith}
 use Rattle.buffer.specs.Lists.{tab}
 use Rattle.validation.specs.Columns.{places}
 use Rattle.area.proofs.Tables.{Filled, filled-all, filled_next}
+use Rattle.validation.proofs.good.columns.no_names.Invariants.{noName}
 use Rattle.validation.proofs.good.columns.no_names.Goals as goal
 
 -- The loop: the first i of them.
-
-abbrev noName : ℕ → ℕ
-noName i = 256 + i
 
 pub loop-i-init : goal.loop-i-init
 unfolding tab

@@ -7,6 +7,9 @@ use Rattle.validation.specs.Columns.{places}
 use Rattle.area.proofs.Tables.{Filled, filled-all, filled_next}
 use Rattle.validation.proofs.good.columns.no_names.Given as goal
 
+abbrev pub noName : ℕ → ℕ
+noName i = 256 + i
+
 abbrev pub invariant-loop-i : goal.invariant-loop-i
 invariant-loop-i l = Filled noName places l.names l.i
 

@@ -9,12 +9,10 @@ use Rattle.machine.specs.Limits.{slotCount}
 use Rattle.area.specs.Parts.{processIn}
 use Rattle.validation.specs.Columns.{slotId}
 use Rattle.area.proofs.Tables.{Filled, filled-all, filled_next}
+use Rattle.validation.proofs.good.ids.live_ids.Invariants.{idIn}
 use Rattle.validation.proofs.good.ids.live_ids.Goals as goal
 
 -- The loop: the IDs of the first i slots.
-
-abbrev idIn : List ℕ → ℕ → ℕ
-idIn area i = slotId (processIn area i)
 
 pub loop-i-init : goal.loop-i-init
 unfolding tab

@@ -12,6 +12,9 @@ use Rattle.validation.specs.Columns.{slotId}
 use Rattle.area.proofs.Tables.{Filled, filled-all, filled_next}
 use Rattle.validation.proofs.good.ids.live_ids.Given as goal
 
+abbrev pub idIn : List ℕ → ℕ → ℕ
+idIn area i = slotId (processIn area i)
+
 abbrev pub invariant-loop-i : goal.invariant-loop-i
 invariant-loop-i l = Filled (idIn l.area) slotCount l.ids l.i
 

@@ -17,6 +17,10 @@ use Rattle.machine.specs.declared.Process.{Process}
 use Rattle.area.specs.Parts.{processIn}
 use Rattle.validation.proofs.good.records.are_good.Given as goal
 
+-- the test of one record
+abbrev pub test : List ℕ → List ℕ → Process → Bool
+test disc area = goodProcess (files disc) (word_at area next_at)
+
 abbrev pub invariant-loop-i : goal.invariant-loop-i
 invariant-loop-i l = (l.i ≤ slotCount) × (all (test l.disc l.area) (tab (processIn l.area) l.i) ≡ true)
 

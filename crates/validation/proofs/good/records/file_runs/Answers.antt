@@ -9,12 +9,10 @@ use Rattle.buffer.specs.Lists.{tab}
 use Rattle.disc.specs.Layout.{entrySize, maxFiles, nameSize}
 use Rattle.validation.specs.Columns.{fileRuns}
 use Rattle.validation.proofs.Columns.{Column, column-filled, column-next, column-none}
+use Rattle.validation.proofs.good.records.file_runs.Invariants.{run}
 use Rattle.validation.proofs.good.records.file_runs.Goals as goal
 
 -- The loop: the first i places are filled.
-
-abbrev run : List ℕ → ℕ → ℕ
-run disc i = fourAt disc (i * entrySize + nameSize)
 
 pub loop-i-preserved : goal.loop-i-preserved
 loop-i-preserved c =

@@ -12,6 +12,9 @@ use Rattle.validation.specs.Columns.{fileRuns}
 use Rattle.validation.proofs.Columns.{Column, column-filled, column-next, column-none}
 use Rattle.validation.proofs.good.records.file_runs.Given as goal
 
+abbrev pub run : List ℕ → ℕ → ℕ
+run disc i = fourAt disc (i * entrySize + nameSize)
+
 abbrev pub invariant-loop-i : goal.invariant-loop-i
 invariant-loop-i l = Column (replicate maxFiles 0) (run l.disc) l.count l.runs l.i
 

@@ -10,14 +10,8 @@ use Rattle.machine.specs.GoodArea.{goodId, goodLive, goodRegisters}
 use Rattle.machine.specs.declared.Process.{Process}
 use Rattle.validation.proofs.good.records.is_good_live.Goals as goal
 
-good-id : (c : goal.Else-next-id) → goodId c.args.next (processOf c.args.bytes.now) ≡ true
-good-id c =
-    let n = c.args.next in
-    let e = c.word_at-id.ensures in
-    and_both (le-leb _ _ (subst (λ (k : ℕ). 1 ≤ k) e c.if-id-lt1.false)) (lt-ltb _ _ (subst (λ (k : ℕ). k < n) e c.if-next-id.false))
-
-good-registers : (c : goal.Else-not-are_good_registers) → goodRegisters (processOf c.args.bytes.now) ≡ true
-good-registers c = sym c.are_good_registers.ensures ∙ c.if-not-are_good_registers.false
+good-id : (p : Process) {id next : ℕ} → id ≡ p.id → 1 ≤ id → id < next → goodId next p ≡ true
+good-id p {id} {next} e low high = rw (← e) (and_both (le-leb 1 id low) (lt-ltb id next high))
 
 pub returns-then-id-lt1 : goal.returns-then-id-lt1
 unfolding goodLive
@@ -33,35 +27,25 @@ returns-then-next-id c =
 pub returns-then-not-are_good_registers : goal.returns-then-not-are_good_registers
 unfolding goodLive
 returns-then-not-are_good_registers c =
-    let good-id : goodId c.args.next (processOf c.args.bytes.now) ≡ true =
-        let n = c.args.next in
-    let e = c.word_at-id.ensures in
-    and_both (le-leb _ _ (subst (λ (k : ℕ). 1 ≤ k) e c.if-id-lt1.false)) (lt-ltb _ _ (subst (λ (k : ℕ). k < n) e c.if-next-id.false)) in
-    rw (good-id, sym c.are_good_registers.ensures ∙ c.if-not-are_good_registers.true)
+    rw (
+      good-id (processOf c.args.bytes.now) c.word_at-id.ensures c.if-id-lt1.false c.if-next-id.false,
+      sym c.are_good_registers.ensures ∙ c.if-not-are_good_registers.true,
+    )
 
 pub returns-then-not-is_good_program : goal.returns-then-not-is_good_program
 unfolding goodLive
 returns-then-not-is_good_program c =
-    let good-id : goodId c.args.next (processOf c.args.bytes.now) ≡ true =
-        let n = c.args.next in
-    let e = c.word_at-id.ensures in
-    and_both (le-leb _ _ (subst (λ (k : ℕ). 1 ≤ k) e c.if-id-lt1.false)) (lt-ltb _ _ (subst (λ (k : ℕ). k < n) e c.if-next-id.false)) in
-    let good-registers : goodRegisters (processOf c.args.bytes.now) ≡ true =
-        sym c.are_good_registers.ensures ∙ c.if-not-are_good_registers.false in
-    rw (good-id, good-registers, sym c.is_good_program.ensures ∙ c.if-not-is_good_program.true)
+    rw (
+      good-id (processOf c.args.bytes.now) c.word_at-id.ensures c.if-id-lt1.false c.if-next-id.false,
+      sym c.are_good_registers.ensures ∙ c.if-not-are_good_registers.false,
+      sym c.is_good_program.ensures ∙ c.if-not-is_good_program.true,
+    )
 
 pub returns : goal.returns
 unfolding goodLive
 returns c =
-    let good-id : goodId c.args.next (processOf c.args.bytes.now) ≡ true =
-        let n = c.args.next in
-    let e = c.word_at-id.ensures in
-    and_both (le-leb _ _ (subst (λ (k : ℕ). 1 ≤ k) e c.if-id-lt1.false)) (lt-ltb _ _ (subst (λ (k : ℕ). k < n) e c.if-next-id.false)) in
-    let good-registers : goodRegisters (processOf c.args.bytes.now) ≡ true =
-        sym c.are_good_registers.ensures ∙ c.if-not-are_good_registers.false in
     rw (
-      good-id,
-      good-registers,
-      sym c.is_good_program.ensures
-          ∙ c.if-not-is_good_program.false,
+      good-id (processOf c.args.bytes.now) c.word_at-id.ensures c.if-id-lt1.false c.if-next-id.false,
+      sym c.are_good_registers.ensures ∙ c.if-not-are_good_registers.false,
+      sym c.is_good_program.ensures ∙ c.if-not-is_good_program.false,
     ) c.is_good_file.ensures

@@ -1,7 +1,8 @@
 -- No file is empty; a run that is no file's, and the name of the file of that run.
-use mathlib.Core.Path.{sym, ap, subst, ◌∙◌}
+use mathlib.Core.Path.{◌≡◌, sym, ap, subst, ◌∙◌}
 use Prim.Native.Nat.{ℕ}
 use mathlib.Core.Bool.{Bool}
+use mathlib.Core.List.{List}
 use native.Mathlib.Omega.{arith}
 use borrow.Author.Rules.{rules}
 use lib.ListN.{take}
@@ -16,56 +17,37 @@ use Rattle.validation.specs.Columns.{FileOf}
 use Rattle.validation.proofs.Files.{empty-any, found-any, missed-any}
 use Rattle.validation.proofs.good.records.is_good_program.Goals as goal
 
-disc-bytes : (c : goal.After-shared_slice_known-2-1) → Bytes c.args.disc.now
-disc-bytes c n = omega (arith, c.shared_slice_known-1.given n)
-
-record-bytes : (c : goal.After-shared_slice_known-2-1) → Bytes c.args.bytes.now
-record-bytes c n = omega (arith, c.shared_slice_known-2-1.given n)
-
 -- the name in the record against an entry's
-abbrev named : goal.After-shared_slice_known-2-1 → Entry → Bool
-named c e = same (take nameSize c.args.bytes.now) e.name
+abbrev named : List ℕ → Entry → Bool
+named bytes e = same (take nameSize bytes) e.name
+
+sought : (runs bytes : List ℕ) {run file : ℕ} → run ≡ fourAt bytes 16 → FileOf runs run file → FileOf runs (fourAt bytes 16) file
+sought runs bytes {run} {file} e s = subst (λ (n : ℕ). FileOf runs n file) e s
 
 pub returns-then-run-eq0 : goal.returns-then-run-eq0
 unfolding isProgram
 returns-then-run-eq0 c =
-    let disc-bytes : Bytes c.args.disc.now =
-        λ n. omega (arith, c.shared_slice_known-1.given n) in
-    let record-bytes : Bytes c.args.bytes.now =
-        λ n. omega (arith, c.shared_slice_known-2-1.given n) in
-    let named : Entry → Bool =
-        λ e. same (take nameSize c.args.bytes.now) e.name in
-    sym (empty-any c.args.disc.now c.args.runs.now c.requires.0 disc-bytes c.args.bytes.now record-bytes 16 named
-    (sym c.four_at-run.ensures ∙ c.if-run-eq0.true))
+    let a = c.args in
+    let known : Bytes a.disc.now = λ n. omega (arith, c.type_inv.disc n) in
+    sym (empty-any a.disc.now a.runs.now c.requires.0 known a.bytes.now (λ n. omega (arith, c.type_inv.bytes n)) 16
+    (named a.bytes.now) (sym c.four_at-run.ensures ∙ c.if-run-eq0.true))
 
 pub returns-then-file-ge-MAX_FILES : goal.returns-then-file-ge-MAX_FILES
 unfolding isProgram
 returns-then-file-ge-MAX_FILES c =
-    let disc-bytes : Bytes c.args.disc.now =
-        λ n. omega (arith, c.shared_slice_known-1.given n) in
-    let record-bytes : Bytes c.args.bytes.now =
-        λ n. omega (arith, c.shared_slice_known-2-1.given n) in
-    let named : Entry → Bool =
-        λ e. same (take nameSize c.args.bytes.now) e.name in
-    let sought : let a = c.args in FileOf a.runs.now (fourAt a.bytes.now 16) c.file_of-file.result =
-        let a = c.args in
-    subst (λ (n : ℕ). FileOf a.runs.now n c.file_of-file.result) c.four_at-run.ensures c.file_of-file.ensures in
-    sym (missed-any c.args.disc.now c.args.runs.now c.requires.0 disc-bytes c.args.bytes.now record-bytes 16
-    c.file_of-file.result sought named c.if-file-ge-MAX_FILES.true)
+    let a = c.args in
+    let known : Bytes a.disc.now = λ n. omega (arith, c.type_inv.disc n) in
+    sym (missed-any a.disc.now a.runs.now c.requires.0 known a.bytes.now (λ n. omega (arith, c.type_inv.bytes n)) 16
+    c.file_of-file.result (sought a.runs.now a.bytes.now c.four_at-run.ensures c.file_of-file.ensures)
+    (named a.bytes.now) c.if-file-ge-MAX_FILES.true)
 
 pub returns : goal.returns
 unfolding isProgram
 returns c =
-    let disc-bytes : Bytes c.args.disc.now =
-        λ n. omega (arith, c.shared_slice_known-1.given n) in
-    let record-bytes : Bytes c.args.bytes.now =
-        λ n. omega (arith, c.shared_slice_known-2-1.given n) in
-    let named : Entry → Bool =
-        λ e. same (take nameSize c.args.bytes.now) e.name in
-    let sought : let a = c.args in FileOf a.runs.now (fourAt a.bytes.now 16) c.file_of-file.result =
-        let a = c.args in
-    subst (λ (n : ℕ). FileOf a.runs.now n c.file_of-file.result) c.four_at-run.ensures c.file_of-file.ensures in
+    let a = c.args in
+    let known : Bytes a.disc.now = λ n. omega (arith, c.type_inv.disc n) in
     c.same_name.ensures
-    ∙ ap (same (take nameSize c.args.bytes.now)) (name-in-place c.args.disc.now c.file_of-file.result)
-    ∙ found-any c.args.disc.now c.args.runs.now c.requires.0 disc-bytes c.args.bytes.now record-bytes 16
-    c.file_of-file.result sought named (λ z. c.if-run-eq0.false (c.four_at-run.ensures ∙ z)) c.if-file-ge-MAX_FILES.false
+    ∙ ap (same (take nameSize a.bytes.now)) (name-in-place a.disc.now c.file_of-file.result)
+    ∙ found-any a.disc.now a.runs.now c.requires.0 known a.bytes.now (λ n. omega (arith, c.type_inv.bytes n)) 16
+    c.file_of-file.result (sought a.runs.now a.bytes.now c.four_at-run.ensures c.file_of-file.ensures) (named a.bytes.now)
+    (λ z. c.if-run-eq0.false (c.four_at-run.ensures ∙ z)) c.if-file-ge-MAX_FILES.false

@@ -1,14 +1,28 @@
-use Prim.Native.Nat.{ℕ, ◌≤◌, ◌<◌, ◌-◌}
+-- The columns filled, the loop tests all pairs of one distance after another.
+use Prim.Native.Nat.{ℕ, ◌+◌, ◌≤◌, ◌<◌, ◌-◌}
 use mathlib.Core.Path.{◌≡◌, sym, ap, ◌∙◌}
-use mathlib.Core.Bool.{false}
+use mathlib.Core.Bool.{Bool, false}
 use mathlib.Core.List.{List}
 use native.Mathlib.Omega.{arith}
 use borrow.Author.Rules.{rules}
 use Rattle.buffer.specs.Buffer.{overwrite}
+use Rattle.buffer.specs.Lists.{any, tab}
 use Rattle.buffer.proofs.Fours.{Bytes}
-use Rattle.validation.specs.Columns.{bytes_of, reach}
-use Rattle.validation.proofs.Clashes.{clash-in-columns, clash-next, clash-none, clash-stops, clashBy, reach-enough}
+use Rattle.variable.specs.Limits.{maxVariables}
+use Rattle.validation.specs.Columns.{bytes_of, clash, places, reach}
+use Rattle.validation.proofs.Clashes.{clash-in-columns, clash-next, clash-none, clash-stops, clashBy, endColumn, ownerColumn, reach-enough, startColumn}
 use Rattle.validation.proofs.good.variables.are_beside.Goals as goal
+
+-- what the test of a turn says of the variables
+module _ (area : List ℕ) (bytes : Bytes area) (count d : ℕ) (few : count ≤ maxVariables) (low : 1 ≤ d) (inside : d < count) where
+  tested : (starts ends none names owners : List ℕ) {hit : Bool} → starts ≡ startColumn area count → ends ≡ endColumn area count
+      → none ≡ tab (λ i. 256 + i) places → names ≡ overwrite none 0 (bytes_of area 0 count) → owners ≡ ownerColumn area count
+      → hit ≡ any (λ i. clash starts ends names owners i (i + d)) (tab (λ i. i) (reach (count - d)))
+      → hit ≡ clashBy area count d
+  tested starts ends none names owners s e n m o h =
+      let named = m ∙ ap (λ (l : List ℕ). overwrite l 0 (bytes_of area 0 count)) n in
+      h ∙ clash-in-columns area count starts ends names owners s e named o d (reach (count - d))
+      ∙ reach-enough area count few bytes d low inside
 
 pub returns-then-count-lt2 : goal.returns-then-count-lt2
 returns-then-count-lt2 c =
@@ -18,49 +32,24 @@ returns-then-count-lt2 c =
 pub loop-d-init : goal.loop-d-init
 loop-d-init c = (omega arith, λ k l m. absurd (omega arith))
 
-bytes : (c : goal.After-fill_bytes-2) → Bytes c.args.area.now
-bytes c = λ k. omega (arith, c.shared_slice_known-1.given k)
-
 pub returns-then-is_clash_at : goal.returns-then-is_clash_at
 returns-then-is_clash_at c =
-    let bytes : Bytes c.args.area.now =
-        λ k. omega (arith, c.shared_slice_known-1.given k) in
-    let tested : let a = c.args in
-    c.is_clash_at.result ≡ clashBy a.area.now a.count c.loop-d.d =
-        let a = c.args in
-    let p = c.requires in
-    c.is_clash_at.ensures
-    ∙ clash-in-columns a.area.now a.count c.fill_bytes.last.0 c.fill_ends.last.0 c.fill_bytes-2.last.0 a.owners.now
-    c.fill_bytes.ensures c.fill_ends.ensures
-    (c.fill_bytes-2.ensures ∙ ap (λ (m : List ℕ). overwrite m 0 (bytes_of a.area.now 0 a.count)) c.no_names-names.ensures)
-    p.2 c.loop-d.d (reach (a.count - c.loop-d.d))
-    ∙ reach-enough a.area.now a.count (omega arith) bytes c.loop-d.d c.loop-d.invariant.0
-    c.loop-d-test.true in
     let a = c.args in
-    let p = c.requires in
-    sym (clash-stops a.area.now a.count (omega arith) bytes c.loop-d.d
-    c.loop-d.invariant.0 (omega arith) (sym tested ∙ c.if-is_clash_at.true))
+    let said = tested a.area.now (λ k. omega (arith, c.type_inv.area k)) a.count c.loop-d.d c.requires.1 c.loop-d.invariant.0 c.loop-d-test.true
+        c.fill_bytes.new.column c.fill_ends.new.column c.no_names-names.result c.fill_bytes-2.new.column a.owners.now
+        c.fill_bytes.ensures c.fill_ends.ensures c.no_names-names.ensures c.fill_bytes-2.ensures c.requires.2 c.is_clash_at.ensures in
+    sym (clash-stops a.area.now a.count c.requires.1 (λ k. omega (arith, c.type_inv.area k)) c.loop-d.d
+    c.loop-d.invariant.0 c.loop-d-test.true (sym said ∙ c.if-is_clash_at.true))
 
 pub loop-d-preserved : goal.loop-d-preserved
 loop-d-preserved c =
-    let bytes : Bytes c.args.area.now =
-        λ k. omega (arith, c.shared_slice_known-1.given k) in
-    let tested : let a = c.args in
-    c.is_clash_at.result ≡ clashBy a.area.now a.count c.loop-d.d =
-        let a = c.args in
-    let p = c.requires in
-    c.is_clash_at.ensures
-    ∙ clash-in-columns a.area.now a.count c.fill_bytes.last.0 c.fill_ends.last.0 c.fill_bytes-2.last.0 a.owners.now
-    c.fill_bytes.ensures c.fill_ends.ensures
-    (c.fill_bytes-2.ensures ∙ ap (λ (m : List ℕ). overwrite m 0 (bytes_of a.area.now 0 a.count)) c.no_names-names.ensures)
-    p.2 c.loop-d.d (reach (a.count - c.loop-d.d))
-    ∙ reach-enough a.area.now a.count (omega arith) bytes c.loop-d.d c.loop-d.invariant.0
-    c.loop-d-test.true in
     let a = c.args in
-    (omega arith, clash-next a.area.now a.count c.loop-d.d c.loop-d.invariant.1 (sym tested ∙ c.if-is_clash_at.false))
+    let said = tested a.area.now (λ k. omega (arith, c.type_inv.area k)) a.count c.loop-d.d c.requires.1 c.loop-d.invariant.0 c.loop-d-test.true
+        c.fill_bytes.new.column c.fill_ends.new.column c.no_names-names.result c.fill_bytes-2.new.column a.owners.now
+        c.fill_bytes.ensures c.fill_ends.ensures c.no_names-names.ensures c.fill_bytes-2.ensures c.requires.2 c.is_clash_at.ensures in
+    (omega arith, clash-next a.area.now a.count c.loop-d.d c.loop-d.invariant.1 (sym said ∙ c.if-is_clash_at.false))
 
 pub returns : goal.returns
 returns c =
     let a = c.args in
-    let p = c.requires in
-    sym (clash-none a.area.now a.count (omega arith) (λ k h m. c.loop-d.invariant.1 k h (omega arith)))
+    sym (clash-none a.area.now a.count c.requires.1 (λ k h m. c.loop-d.invariant.1 k h (omega arith)))

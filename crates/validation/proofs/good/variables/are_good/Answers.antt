@@ -33,38 +33,23 @@ are_owned-requires c =
 
 pub returns-then-not-are_owned : goal.returns-then-not-are_owned
 returns-then-not-are_owned c =
-    let good-sizes : let a = c.args.area.now in all sized (tab (variableIn a) (variableCount a)) ≡ true =
-        sym c.are_sized.ensures ∙ c.if-not-are_sized.false in
-    let owned : let a = c.args in let n = variableCount a.area.now in
-    c.are_owned.result ≡ all (isOwner (keep isId a.ids.now)) (take n (ownerColumn a.area.now n)) =
-        let a = c.args in
-    column-owners (keep isId a.ids.now) a.area.now c.are_owned.result c.fill_words.last.0 c.fill_words.ensures
-    c.are_owned.ensures in
     let a = c.args in
+    let owned = column-owners (keep isId a.ids.now) a.area.now c.are_owned.result c.fill_words.new.column c.fill_words.ensures
+        c.are_owned.ensures in
     rw (
       in_parts (keep isId a.ids.now) a.area.now c.if-count-gt-MAX_VARIABLES.false,
-      good-sizes,
-      sym owned
-          ∙ c.if-not-are_owned.true,
+      sym c.are_sized.ensures ∙ c.if-not-are_sized.false,
+      sym owned ∙ c.if-not-are_owned.true,
     )
 
 pub returns : goal.returns
 returns c =
-    let good-sizes : let a = c.args.area.now in all sized (tab (variableIn a) (variableCount a)) ≡ true =
-        sym c.are_sized.ensures ∙ c.if-not-are_sized.false in
-    let owned : let a = c.args in let n = variableCount a.area.now in
-    c.are_owned.result ≡ all (isOwner (keep isId a.ids.now)) (take n (ownerColumn a.area.now n)) =
-        let a = c.args in
-    column-owners (keep isId a.ids.now) a.area.now c.are_owned.result c.fill_words.last.0 c.fill_words.ensures
-    c.are_owned.ensures in
     let a = c.args in
+    let owned = column-owners (keep isId a.ids.now) a.area.now c.are_owned.result c.fill_words.new.column c.fill_words.ensures
+        c.are_owned.ensures in
     rw (
       in_parts (keep isId a.ids.now) a.area.now c.if-count-gt-MAX_VARIABLES.false,
-      good-sizes,
-      sym owned
-          ∙ c.if-not-are_owned.false,
+      sym c.are_sized.ensures ∙ c.if-not-are_sized.false,
+      sym owned ∙ c.if-not-are_owned.false,
     )
     c.are_beside.ensures
-
-pub overflow_cast-count : goal.overflow_cast-count
-overflow_cast-count c = omega (arith, c.shared_slice_known-1.given countAt)

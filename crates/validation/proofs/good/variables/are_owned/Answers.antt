@@ -9,12 +9,10 @@ use lib.ListN.{take}
 use Rattle.buffer.specs.Lists.{all, any, keep}
 use Rattle.buffer.proofs.Equivalence.{all-take-more}
 use Rattle.validation.specs.Columns.{isId}
+use Rattle.validation.proofs.good.variables.are_owned.Invariants.{owns}
 use Rattle.validation.proofs.good.variables.are_owned.Goals as goal
 
 -- The loop: whether the first i owners are live.
-
-abbrev owns : List ℕ → ℕ → Bool
-owns ids id = any (eqb id) (keep isId ids)
 
 pub loop-i-init : goal.loop-i-init
 unfolding all

@@ -12,6 +12,9 @@ use Rattle.buffer.proofs.Equivalence.{all-take-more}
 use Rattle.validation.specs.Columns.{isId}
 use Rattle.validation.proofs.good.variables.are_owned.Given as goal
 
+abbrev pub owns : List ℕ → ℕ → Bool
+owns ids id = any (eqb id) (keep isId ids)
+
 abbrev pub invariant-loop-i : goal.invariant-loop-i
 invariant-loop-i l = (l.i ≤ l.count) × (l.good ≡ all (owns l.ids) (take l.i l.owners))
 

@@ -5,12 +5,10 @@ use mathlib.Core.List.{List}
 use native.Mathlib.Omega.{arith}
 use Rattle.buffer.proofs.Equivalence.{Asked, asked-all, asked-next, asked-none}
 use Rattle.validation.specs.Columns.{clash}
+use Rattle.validation.proofs.good.variables.is_clash.Invariants.{test}
 use Rattle.validation.proofs.good.variables.is_clash.Goals as goal
 
 -- The loop: whether two of which the first stands below i clash.
-
-abbrev test : List ℕ → List ℕ → List ℕ → List ℕ → ℕ → ℕ → Bool
-test starts ends names owners d i = clash starts ends names owners i (i + d)
 
 pub loop-i-preserved : goal.loop-i-preserved
 unfolding clash

@@ -8,8 +8,11 @@ use Rattle.buffer.proofs.Equivalence.{Asked, asked-all, asked-next, asked-none}
 use Rattle.validation.specs.Columns.{clash}
 use Rattle.validation.proofs.good.variables.is_clash.Given as goal
 
+abbrev pub test : List ℕ → List ℕ → List ℕ → List ℕ → ℕ → ℕ → Bool
+test starts ends names owners d i = clash starts ends names owners i (i + d)
+
 abbrev pub invariant-loop-i : goal.invariant-loop-i
-invariant-loop-i l = Asked (test l.starts l.ends l.names l.owners l.d) (λ i. l.i) l.n l.hit l.i
+invariant-loop-i l = Asked (test l.starts l.ends l.names l.owners l.d) (λ i. i) l.n l.hit l.i
 
 abbrev pub decreases-loop-i : goal.decreases-loop-i
 decreases-loop-i l = l.n - l.i
