@@ -10,13 +10,12 @@ pub loop-i-init : goal.loop-i-init
 loop-i-init c = (omega arith, refl, refl)
 
 pub loop-i-preserved : goal.loop-i-preserved
-loop-i-preserved c =
-    (
-      simp length-set (omega arith),
-      simp length-set c.loop-i.invariant.1,
-      copy-next c.loop-i.dst c.args.src.now c.args.at c.loop-i.i (omega arith) (omega arith)
-          c.loop-i.invariant.2,
-    )
+loop-i-preserved c = (
+  simp length-set (omega arith),
+  simp length-set c.loop-i.invariant.1,
+  copy-next c.loop-i.dst c.args.src.now c.args.at c.loop-i.i (omega arith) (omega arith)
+      c.loop-i.invariant.2,
+)
 
 pub returns : goal.returns
 returns c =
