@@ -1,5 +1,5 @@
 -- `float::bits::from_bits` meets its contract. Assumes nothing.
-use Rattle.std.proofs.Common.{sym, rules}
+use Rattle.std.proofs.Common.{sym}
 use lib.Ieee.{binary32, div, of_bits}
 use Rattle.float.proofs.Patterns.{high-nan, low-no-nan}
 use Rattle.float.proofs.bits.from_bits.Goals as goal

@@ -1,5 +1,5 @@
 -- `float::bits::to_bits` meets its contract. Assumes nothing.
-use Rattle.std.proofs.Common.{sym, ap, ◌∙◌, rules}
+use Rattle.std.proofs.Common.{sym, ap, ◌∙◌}
 use lib.Ieee.{binary32, to_bits}
 use Rattle.float.proofs.Patterns.{equal_no_nan, nan_pattern, unequal-nan}
 use Rattle.float.proofs.bits.to_bits.Goals as goal

@@ -1,5 +1,5 @@
 -- `float::bits::to_bytes` meets its contract. Assumes nothing.
-use Rattle.std.proofs.Common.{ap, ◌∙◌, rules}
+use Rattle.std.proofs.Common.{ap, ◌∙◌}
 use Rattle.float.specs.Bits.{bigEndian}
 use Rattle.float.proofs.bits.to_bytes.Goals as goal
 

@@ -1,6 +1,5 @@
 -- `float::compare::equals_whole` meets its contract. Assumes nothing.
 use Rattle.float.proofs.Exactly.{equals-met}
-use Rattle.std.proofs.Common.{rules}
 use Rattle.float.proofs.compare.equals_whole.Goals as goal
 
 -- `float::compare::equals_whole` meets its contract. Assumes nothing.

@@ -1,6 +1,5 @@
 -- `float::quotient::cut` meets its contract. Assumes nothing.
 use Rattle.float.proofs.Fractions.{no-digit-left}
-use Rattle.std.proofs.Common.{rules}
 use Rattle.float.proofs.quotient.cut.Goals as goal
 
 -- `float::quotient::cut` meets its contract. Assumes nothing.

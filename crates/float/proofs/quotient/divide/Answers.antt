@@ -1,5 +1,5 @@
 -- `float::quotient::divide` meets its contract. Assumes nothing.
-use Rattle.std.proofs.Common.{◌-◌, ◌^◌, div-le_self, arith, rules}
+use Rattle.std.proofs.Common.{◌-◌, ◌^◌, div-le_self, arith}
 use Rattle.float.proofs.Fractions.{not-up, up_more, up-zero}
 use Rattle.float.proofs.quotient.divide.Goals as goal
 

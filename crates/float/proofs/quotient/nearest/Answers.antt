@@ -1,5 +1,5 @@
 -- `float::quotient::nearest` meets its contract. Assumes nothing.
-use Rattle.std.proofs.Common.{ℕ, ◌+◌, ◌/◌, ◌%◌, ap, ◌∙◌, rules}
+use Rattle.std.proofs.Common.{ℕ, ◌+◌, ◌/◌, ◌%◌, ap, ◌∙◌}
 use Rattle.float.proofs.Fractions.{nearest-digit, nearest-whole}
 use Rattle.float.proofs.quotient.nearest.Goals as goal
 
