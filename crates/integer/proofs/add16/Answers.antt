@@ -1,5 +1,5 @@
 -- The law `add_wraps` of Modular at 16 bits.
-use Rattle.std.proofs.Common.{w16, rules}
+use Rattle.std.proofs.Common.{w16}
 use Rattle.integer.proofs.Modular.{add_wraps}
 use Rattle.integer.proofs.add16.Goals as goal
 

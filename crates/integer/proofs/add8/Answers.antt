@@ -1,5 +1,5 @@
 -- The law `add_wraps` of Modular at 8 bits.
-use Rattle.std.proofs.Common.{w8, rules}
+use Rattle.std.proofs.Common.{w8}
 use Rattle.integer.proofs.Modular.{add_wraps}
 use Rattle.integer.proofs.add8.Goals as goal
 

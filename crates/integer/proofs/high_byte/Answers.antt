@@ -1,5 +1,5 @@
 -- What `bits16` ensures, of the argument that it reads.
-use Rattle.std.proofs.Common.{ℕ, ◌/◌, ap, ◌∙◌, to_z-of_z, w16, of_z, rules}
+use Rattle.std.proofs.Common.{ℕ, ◌/◌, ap, ◌∙◌, to_z-of_z, w16, of_z}
 use Rattle.integer.proofs.high_byte.Goals as goal
 
 pub returns : goal.returns

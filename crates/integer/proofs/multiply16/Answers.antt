@@ -1,5 +1,5 @@
 -- The law `multiply-wraps` of Modular at 16 bits.
-use Rattle.std.proofs.Common.{w16, rules}
+use Rattle.std.proofs.Common.{w16}
 use Rattle.integer.proofs.Modular.{multiply-wraps}
 use Rattle.integer.proofs.multiply16.Goals as goal
 

@@ -1,5 +1,5 @@
 -- The law `multiply-wraps` of Modular at 8 bits.
-use Rattle.std.proofs.Common.{w8, rules}
+use Rattle.std.proofs.Common.{w8}
 use Rattle.integer.proofs.Modular.{multiply-wraps}
 use Rattle.integer.proofs.multiply8.Goals as goal
 

@@ -1,5 +1,5 @@
 -- The laws of Division on the quotient at 16 bits.
-use Rattle.std.proofs.Common.{w16, rules}
+use Rattle.std.proofs.Common.{w16}
 use Rattle.integer.proofs.Division.{divides, quotient-reads, quotient-negates}
 use Rattle.integer.proofs.quotient16.Goals as goal
 

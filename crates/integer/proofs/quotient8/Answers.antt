@@ -1,5 +1,5 @@
 -- The laws of Division on the quotient at 8 bits.
-use Rattle.std.proofs.Common.{w8, rules}
+use Rattle.std.proofs.Common.{w8}
 use Rattle.integer.proofs.Division.{divides, quotient-reads, quotient-negates}
 use Rattle.integer.proofs.quotient8.Goals as goal
 

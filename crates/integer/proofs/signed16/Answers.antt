@@ -1,5 +1,5 @@
 -- The laws of Representation at 16 bits.
-use Rattle.std.proofs.Common.{w16, rules}
+use Rattle.std.proofs.Common.{w16}
 use Rattle.integer.proofs.Representation.{sum_fits, sum-reads, weight-fits}
 use Rattle.integer.proofs.signed16.Goals as goal
 

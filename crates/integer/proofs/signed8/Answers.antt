@@ -1,5 +1,5 @@
 -- The laws of Representation at 8 bits.
-use Rattle.std.proofs.Common.{w8, rules}
+use Rattle.std.proofs.Common.{w8}
 use Rattle.integer.proofs.Representation.{sum_fits, sum-reads, weight-fits}
 use Rattle.integer.proofs.signed8.Goals as goal
 

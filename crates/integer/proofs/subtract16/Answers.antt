@@ -1,5 +1,5 @@
 -- The law `subtract-wraps` of Modular at 16 bits.
-use Rattle.std.proofs.Common.{w16, rules}
+use Rattle.std.proofs.Common.{w16}
 use Rattle.integer.proofs.Modular.{subtract-wraps}
 use Rattle.integer.proofs.subtract16.Goals as goal
 

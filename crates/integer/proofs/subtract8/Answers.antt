@@ -1,5 +1,5 @@
 -- The law `subtract-wraps` of Modular at 8 bits.
-use Rattle.std.proofs.Common.{w8, rules}
+use Rattle.std.proofs.Common.{w8}
 use Rattle.integer.proofs.Modular.{subtract-wraps}
 use Rattle.integer.proofs.subtract8.Goals as goal
 

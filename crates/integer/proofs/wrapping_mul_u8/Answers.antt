@@ -1,6 +1,5 @@
 -- The product of two 8-bit numbers fits twice as many bits.
 use Rattle.integer.proofs.Modular.{product-below}
-use Rattle.std.proofs.Common.{rules}
 use Rattle.integer.proofs.wrapping_mul_u8.Goals as goal
 
 pub overflow_mul-result : goal.overflow_mul-result
