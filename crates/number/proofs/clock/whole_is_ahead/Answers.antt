@@ -1,5 +1,5 @@
 -- Both tests of the distance.
-use Rattle.std.proofs.Common.{to_z-of_z, rules}
+use Rattle.std.proofs.Common.{to_z-of_z}
 use Rattle.number.proofs.clock.whole_is_ahead.Goals as goal
 
 pub returns : goal.returns

@@ -1,5 +1,4 @@
 -- By the two tests.
-use Rattle.std.proofs.Common.{rules}
 use Rattle.number.proofs.Sizes.{size-refused-low, size-refused-high, size_is, size-casts}
 use Rattle.number.proofs.compare.whole_size.Goals as goal
 

@@ -1,5 +1,5 @@
 -- The whole part and the two decimals.
-use Rattle.std.proofs.Common.{ℕ, ◌/◌, List, ◌++◌, ap, ◌∙◌, rules}
+use Rattle.std.proofs.Common.{ℕ, ◌/◌, List, ◌++◌, ap, ◌∙◌}
 use Rattle.decimal.specs.Decimal.{decimal}
 use Rattle.number.specs.Text.{sign, laid}
 use Rattle.number.proofs.text.hundredths_text.Goals as goal

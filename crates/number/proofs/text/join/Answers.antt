@@ -1,5 +1,4 @@
 -- The three parts stand one behind the other.
-use Rattle.std.proofs.Common.{rules}
 use Rattle.number.proofs.Texts.{laid_out}
 use Rattle.number.proofs.text.join.Goals as goal
 

@@ -1,5 +1,5 @@
 -- By the sign.
-use Rattle.std.proofs.Common.{w16, rules}
+use Rattle.std.proofs.Common.{w16}
 use Rattle.number.proofs.Signs.{size-of-negative, size-of-nonnegative}
 use Rattle.number.proofs.text.magnitude.Goals as goal
 
