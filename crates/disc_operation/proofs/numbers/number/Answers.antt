@@ -7,11 +7,9 @@ use native.Mathlib.Omega.{arith}
 use borrow.Author.Rules.{rules}
 use Rattle.disc_operation.proofs.numbers.number.Goals as goal
 
--- `numbers::number` meets its contract: a number of 16 bits as it is, a refusal below 0.
-
 pub returns-in-Done : goal.returns-in-Done
-returns-in-Done c = to_z_pos w32 {n = c.in-Done.n} (omega (arith, c.in-Done.given))
-    ∙ ap answerNumber (sym c.in-Done.is)
+returns-in-Done c = to_z_pos w32 {n = c.in-Done.n} (omega arith) ∙ ap answerNumber (sym c.in-Done.is)
 
 pub returns-in-Refused : goal.returns-in-Refused
-returns-in-Refused c = to_z-of_z (search rules) ∙ c.refusal_number.ensures ∙ ap answerNumber (sym c.in-Refused.is)
+returns-in-Refused c =
+    to_z-of_z {w = w32} (search rules) ∙ c.refusal_number.ensures ∙ ap answerNumber (sym c.in-Refused.is)

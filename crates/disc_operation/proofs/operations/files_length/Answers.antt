@@ -1,3 +1,4 @@
+-- The line of one more file is added.
 use Prim.Native.Nat.{◌+◌, ◌-◌}
 use native.Mathlib.Omega.{arith}
 use borrow.Author.Rules.{rules}
@@ -7,14 +8,16 @@ use Rattle.store.specs.Answer.{fileLine}
 use Rattle.disc_operation.proofs.Lines.{files-short}
 use Rattle.disc_operation.proofs.operations.files_length.Goals as goal
 
+pub loop-i-init : goal.loop-i-init
+loop-i-init c = counted_none _ _ _
+
+pub overflow_add-len : goal.overflow_add-len
+overflow_add-len c =
+    let counted = counted_next _ _ _ c.loop-i.invariant (omega arith) c.entry_at.ensures c.line_length-len.ensures in
+    omega (arith, counted.sum, files-short c.args.disc.now (c.loop-i.i + 1))
+
 pub loop-i-preserved : goal.loop-i-preserved
 loop-i-preserved c = counted_next _ _ _ c.loop-i.invariant (omega arith) c.entry_at.ensures c.line_length-len.ensures
 
-pub overflow_add-len : goal.overflow_add-len
-overflow_add-len c = omega (arith, (loop-again c).sum, files-short c.args.disc.now (c.loop-i.i + 1))
-
 pub returns : goal.returns
 returns c = counted-all _ _ _ c.loop-i.invariant (omega arith)
-
-pub loop-i-init : goal.loop-i-init
-loop-i-init c = counted_none _ _ _
