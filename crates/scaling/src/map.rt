@@ -104,6 +104,7 @@ fn real_difference(a: Number, b: Number) -> f32
 }
 
 // "With a FLOAT all five become FLOAT and each operation rounds once, as written."
+#[tactic(auto, unfolding(crate::specs::Map::mapReal))]
 fn map_real(a: Number, b: Number, c: Number, d: Number, e: Number) -> f32
     ensures { result ≡ mapReal (real a) (real b) (real c) (real d) (real e) }
 {
@@ -121,6 +122,7 @@ fn map_as(kind: Kind, a: Number, b: Number, c: Number, d: Number, e: Number) -> 
     }
 }
 
+#[tactic(auto, unfolding(crate::specs::Map::mapped))]
 pub fn map(a: Number, b: Number, c: Number, d: Number, e: Number) -> Outcome
     ensures { result ≡ mapped a b c d e }
 {

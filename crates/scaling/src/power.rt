@@ -85,6 +85,7 @@ fn raise_by(pair: Pair, exponent: Exponent) -> Outcome
     }
 }
 
+#[tactic(auto, unfolding(crate::specs::Power::power))]
 pub fn power_of(x: Number, y: Number) -> Outcome
     ensures { result ≡ power x y }
 {

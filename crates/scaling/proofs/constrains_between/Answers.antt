@@ -3,8 +3,6 @@ use Rattle.scaling.specs.Meaning.{ConstrainsBetween}
 use Rattle.scaling.proofs.Meaning.{between}
 use Rattle.scaling.proofs.constrains_between.Goals as goal
 
--- `scaling::constrains_between` meets its contract, which is a law of Meaning.
-
 pub returns : goal.returns
 unfolding ConstrainsBetween
 returns c = between

@@ -3,8 +3,6 @@ use Rattle.scaling.specs.Meaning.{MapsEnds}
 use Rattle.scaling.proofs.Meaning.{ends}
 use Rattle.scaling.proofs.maps_ends.Goals as goal
 
--- `scaling::maps_ends` meets its contract, which is a law of Meaning.
-
 pub returns : goal.returns
 unfolding MapsEnds
 returns c = ends

@@ -10,8 +10,6 @@ use Rattle.scaling.specs.Power.{power, powerReal}
 use Rattle.scaling.specs.Rows.{Rows, ScalingRows, constrainRows, mapRows, powerRows}
 use Rattle.scaling.proofs.scaling_rows.Goals as goal
 
--- By computing.
-
 constrain-rows : Rows constrainRows
 unfolding constrained ordered orderedFloats of_bits of_int lt
 constrain-rows = (refl, (refl, (refl, (refl, (refl, (refl, (refl, tt)))))))

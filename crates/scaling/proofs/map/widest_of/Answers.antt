@@ -1,5 +1,4 @@
 -- One number after another.
-use borrow.Author.Rules.{rules}
 use Rattle.scaling.proofs.map.widest_of.Goals as goal
 
 pub returns : goal.returns

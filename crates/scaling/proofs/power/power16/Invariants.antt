@@ -1,16 +1,14 @@
 -- The product so far is the power of as many factors as there were turns.
-use mathlib.Core.Path.{◌≡◌, sym, ◌∙◌, ap}
+use mathlib.Core.Path.{◌≡◌}
 use Prim.Native.Nat.{ℕ, ◌-◌, ◌≤◌}
-use native.Mathlib.Omega.{arith}
-use lib.IntN.{ℤ, one, pos, pow}
+use lib.IntN.{ℤ, pow}
 use mir.Syntax.{w16}
-use mir.Val.{to_z, of_z}
-use mir.Facts.{sfits_lit, to_z-of_z}
-use borrow.Author.Rules.{rules}
 use Rattle.integer.specs.Modular.{wrapped}
-use Rattle.integer.proofs.Modular.{wrapped_same}
-use Rattle.scaling.proofs.Powers.{wrapped-next}
 use Rattle.scaling.proofs.power.power16.Given as goal
+
+pub record Sofar (x : ℤ) (n : ℕ) (product : ℤ) (i : ℕ) : Type 0 where
+  pub within : i ≤ n
+  pub is : product ≡ wrapped w16 (pow x i)
 
 abbrev pub invariant-loop-i : goal.invariant-loop-i
 invariant-loop-i l = Sofar l.x l.n l.product l.i
