@@ -1,12 +1,9 @@
 -- The value's bytes, behind them the entry, behind it the count: the variables with the new one.
 use native.Mathlib.Omega.{arith}
-use borrow.Author.Rules.{rules}
 use Rattle.variable.specs.Bytes.{variablesOf}
 use Rattle.variable.proofs.Adding.{added-written}
 use Rattle.variable.proofs.Bytes.{decoded-shaped}
 use Rattle.variable.proofs.assign.add.Goals as goal
-
--- The value's bytes, behind them the entry, behind it the count: the variables with the new one.
 
 pub returns : goal.returns
 returns c =

@@ -11,7 +11,7 @@ use Rattle.variable.specs.Closing.{Lists, SetLeaves}
 use Rattle.variable.specs.Limits.{maxVariables, memorySize, variablesSize}
 use Rattle.variable.specs.Table.{Shaped, freed, is_of}
 use Rattle.variable.specs.declared.Placing.{Placing}
-use Rattle.variable.specs.declared.Placing.TheVariants.{Address, NoEntry, NoRun}
+use Rattle.variable.specs.declared.Placing.TheVariants.{Address}
 use Rattle.variable.specs.declared.Taken.{Taken}
 use Rattle.variable.specs.declared.Variables.{Variables}
 use Rattle.variable.proofs.Bytes.{decoded-shaped, variables-said, variables-whole}

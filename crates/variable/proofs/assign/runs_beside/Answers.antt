@@ -1,14 +1,12 @@
-use Prim.Native.Nat.{◌≤◌, ◌-◌}
+-- Each turn lists one run more, or none for the variable left out.
+use Prim.Native.Nat.{◌-◌}
 use mathlib.Core.Path.{◌≡◌, sym, ap, ◌∙◌}
 use mathlib.Core.Bool.{not}
-use borrow.Author.Tests.{not-true, not-false}
 use native.Mathlib.Omega.{arith}
-use borrow.Author.Rules.{rules}
 use Rattle.variable.specs.Bytes.{variablesOf}
-use Rattle.variable.specs.Closing.{Lists}
 use Rattle.variable.specs.Table.{is_of}
 use Rattle.variable.proofs.Bytes.{decoded-shaped}
-use Rattle.variable.proofs.Listing.{listed-all, listed-gone, listed_more, listed-none, runsOf}
+use Rattle.variable.proofs.Listing.{listed-all, listed-gone, listed_more, listed-none}
 use Rattle.variable.proofs.assign.runs_beside.Goals as goal
 
 pub loop-i-init : goal.loop-i-init

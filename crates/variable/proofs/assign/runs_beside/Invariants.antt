@@ -1,18 +1,10 @@
 -- The loop: the runs of the first i entries but that one's are listed.
 use Prim.Native.Nat.{◌≤◌, ◌-◌}
-use mathlib.Core.Path.{◌≡◌, sym, ap, ◌∙◌}
-use mathlib.Core.Bool.{not}
-use borrow.Author.Tests.{not-true, not-false}
-use native.Mathlib.Omega.{arith}
-use borrow.Author.Rules.{rules}
 use Rattle.variable.specs.Bytes.{variablesOf}
 use Rattle.variable.specs.Closing.{Lists}
 use Rattle.variable.specs.Table.{is_of}
-use Rattle.variable.proofs.Bytes.{decoded-shaped}
-use Rattle.variable.proofs.Listing.{listed-all, listed-gone, listed_more, listed-none, runsOf}
+use Rattle.variable.proofs.Listing.{runsOf}
 use Rattle.variable.proofs.assign.runs_beside.Given as goal
-
--- The loop: the runs of the first i entries but that one's are listed.
 
 abbrev pub invariant-loop-i : goal.invariant-loop-i
 invariant-loop-i l = (l.i ≤ l.count) × (l.listed ≤ l.i)

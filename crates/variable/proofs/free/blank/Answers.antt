@@ -1,11 +1,9 @@
-use Prim.Native.Nat.{◌≤◌, ◌-◌}
+-- Each turn empties one entry more.
+use Prim.Native.Nat.{◌-◌}
 use mathlib.Core.Path.{◌≡◌, sym, ◌∙◌}
 use native.Mathlib.Omega.{arith}
 use borrow.Author.Rules.{rules}
-use lib.ListN.{length}
-use Rattle.variable.specs.Bytes.{variablesBytes, variablesOf, withEntries}
-use Rattle.variable.specs.Closing.{blanked}
-use Rattle.variable.specs.Limits.{variablesSize}
+use Rattle.variable.specs.Bytes.{variablesOf}
 use Rattle.variable.proofs.Bytes.{decoded-shaped, variables-whole}
 use Rattle.variable.proofs.Closing.{blanked-next, blanked-none}
 use Rattle.variable.proofs.free.blank.Goals as goal
@@ -17,8 +15,11 @@ loop-i-init c =
       omega arith,
       omega arith,
       sym (blanked-none (variablesOf bytes) c.args.from
-          ∙ variables-whole bytes (λ i. omega (arith, c.slice_known-1.given i)) c.requires.0),
+          ∙ variables-whole bytes (λ i. search rules) c.requires.0),
     )
+
+pub put_entry-requires : goal.put_entry-requires
+put_entry-requires c = (omega arith, omega arith)
 
 pub loop-i-preserved : goal.loop-i-preserved
 loop-i-preserved c =
@@ -34,6 +35,3 @@ pub returns : goal.returns
 returns c =
     let q : c.loop-i.i ≡ c.args.end = omega arith in
     rw (← q) c.loop-i.invariant.3
-
-pub put_entry-requires : goal.put_entry-requires
-put_entry-requires c = (omega arith, omega arith)

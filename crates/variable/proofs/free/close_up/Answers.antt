@@ -1,13 +1,10 @@
-use Prim.Native.Nat.{◌≤◌, ◌-◌}
+-- Each turn moves one entry up, leaves it where it is or drops it.
+use Prim.Native.Nat.{◌-◌}
 use mathlib.Core.Path.{◌≡◌, sym, ap, ◌∙◌}
 use mathlib.Core.Bool.{not}
-use borrow.Author.Tests.{not-true, not-false}
 use native.Mathlib.Omega.{arith}
 use borrow.Author.Rules.{rules}
-use lib.ListN.{length}
 use Rattle.variable.specs.Bytes.{variablesOf}
-use Rattle.variable.specs.Closing.{ClosedUp}
-use Rattle.variable.specs.Limits.{variablesSize}
 use Rattle.variable.specs.Table.{isGone}
 use Rattle.variable.proofs.Bytes.{decoded-shaped, variables-whole}
 use Rattle.variable.proofs.Closing.{closed-gone, closed-kept, closed-moved, closed_none}
@@ -21,8 +18,14 @@ loop-i-init c =
       omega arith,
       omega arith,
       closed_none (variablesOf bytes) (decoded-shaped bytes (omega arith)) (isGone a.every a.name a.owner)
-          (variables-whole bytes (λ i. omega (arith, c.slice_known-1.given i)) c.requires.0),
+          (variables-whole bytes (λ i. search rules) c.requires.0),
     )
+
+pub entry_at-e-requires : goal.entry_at-e-requires
+entry_at-e-requires c = (omega arith, omega arith)
+
+pub put_entry-requires : goal.put_entry-requires
+put_entry-requires c = (omega arith, omega arith)
 
 -- it moves up
 pub loop-i-preserved-then-kept-i : goal.loop-i-preserved-then-kept-i
@@ -66,9 +69,3 @@ pub returns : goal.returns
 returns c =
     let q : c.loop-i.i ≡ c.args.count = omega arith in
     rw q at c.loop-i.invariant.3
-
-pub entry_at-e-requires : goal.entry_at-e-requires
-entry_at-e-requires c = (omega arith, omega arith)
-
-pub put_entry-requires : goal.put_entry-requires
-put_entry-requires c = (omega arith, omega arith)

@@ -1,20 +1,12 @@
 -- The loop: of the first i entries those that stay stand in front.
 use Prim.Native.Nat.{◌≤◌, ◌-◌}
-use mathlib.Core.Path.{◌≡◌, sym, ap, ◌∙◌}
-use mathlib.Core.Bool.{not}
-use borrow.Author.Tests.{not-true, not-false}
-use native.Mathlib.Omega.{arith}
-use borrow.Author.Rules.{rules}
+use mathlib.Core.Path.{◌≡◌}
 use lib.ListN.{length}
 use Rattle.variable.specs.Bytes.{variablesOf}
 use Rattle.variable.specs.Closing.{ClosedUp}
 use Rattle.variable.specs.Limits.{variablesSize}
 use Rattle.variable.specs.Table.{isGone}
-use Rattle.variable.proofs.Bytes.{decoded-shaped, variables-whole}
-use Rattle.variable.proofs.Closing.{closed-gone, closed-kept, closed-moved, closed_none}
 use Rattle.variable.proofs.free.close_up.Given as goal
-
--- The loop: of the first i entries those that stay stand in front.
 
 abbrev pub invariant-loop-i : goal.invariant-loop-i
 invariant-loop-i l = (length l.variables ≡ variablesSize) × (l.i ≤ l.count) × (l.kept ≤ l.i)

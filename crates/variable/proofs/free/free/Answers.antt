@@ -1,13 +1,10 @@
 -- Closed up, zeros behind, the new count: the variables that are left.
 use native.Mathlib.Omega.{arith}
-use borrow.Author.Rules.{rules}
 use Rattle.variable.specs.Bytes.{variablesOf}
 use Rattle.variable.specs.Table.{isGone}
 use Rattle.variable.proofs.Bytes.{decoded-shaped}
 use Rattle.variable.proofs.Closing.{closed_all}
 use Rattle.variable.proofs.free.free.Goals as goal
-
--- Closed up, zeros behind, the new count: the variables that are left.
 
 pub returns : goal.returns
 returns c =

@@ -1,8 +1,5 @@
 -- Every variable of the owner, or the one of that name.
-use borrow.Author.Rules.{rules}
 use Rattle.variable.proofs.free.is_gone.Goals as goal
-
--- Every variable of the owner, or the one of that name.
 
 pub returns-then-every : goal.returns-then-every
 returns-then-every c = rw c.if-every.true

@@ -1,7 +1,6 @@
 -- The fields of the entry's six bytes.
 use Prim.Native.Nat.{◌+◌, ◌*◌}
 use native.Mathlib.Omega.{arith}
-use borrow.Author.Rules.{rules}
 use Rattle.buffer.proofs.Parts.{part-to}
 use Rattle.variable.specs.Limits.{entries_at, entrySize}
 use Rattle.variable.proofs.Bytes.{entry_read}

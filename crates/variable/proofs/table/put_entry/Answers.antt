@@ -2,18 +2,15 @@
 use Prim.Native.Nat.{ℕ, ◌+◌, ◌*◌}
 use mathlib.Core.Path.{ap, ◌∙◌}
 use mathlib.Core.List.{List}
-use native.Mathlib.Omega.{arith}
 use borrow.Author.Rules.{rules}
 use Rattle.buffer.specs.Buffer.{overwrite}
 use Rattle.variable.specs.Limits.{entries_at, entrySize}
 use Rattle.variable.proofs.Bytes.{entry-written}
 use Rattle.variable.proofs.table.put_entry.Goals as goal
 
--- The entry's bytes laid over are the bytes of the variables with that entry.
-
 pub returns : goal.returns
 returns c =
     let a = c.args in
     c.overwrite_at.ensures
     ∙ ap (λ (b : List ℕ). overwrite a.variables.now (entries_at + a.i * entrySize) b) c.entry_bytes-bytes.ensures
-    ∙ entry-written a.variables.now (λ i. omega (arith, c.slice_known-1.given i)) c.requires.0 a.i a.e c.requires.1
+    ∙ entry-written a.variables.now (λ i. search rules) c.requires.0 a.i a.e c.requires.1
