@@ -1,14 +1,15 @@
+-- Each turn asks one process more.
 use Prim.Native.Nat.{ℕ, ◌-◌}
 use mathlib.Core.Path.{ap, ◌∙◌}
 use mathlib.Core.List.{List}
 use native.Mathlib.Omega.{arith}
-use borrow.Author.Rules.{rules}
-use Rattle.buffer.proofs.Equivalence.{Asked, asked-all, asked-next, asked-none}
+use Rattle.buffer.proofs.Equivalence.{asked-all, asked-next, asked-none}
 use Rattle.machine.specs.Area.{kernelOf, processOf}
-use Rattle.machine.specs.Limits.{slotCount}
 use Rattle.machine.specs.Operations.{inUse, uses}
-use Rattle.area.specs.Parts.{processIn}
 use Rattle.area.proofs.processes.is_in_use.Goals as goal
+
+pub loop-slot-init : goal.loop-slot-init
+loop-slot-init c = asked-none _ _ _
 
 pub loop-slot-preserved : goal.loop-slot-preserved
 loop-slot-preserved c =
@@ -19,6 +20,3 @@ loop-slot-preserved c =
 pub returns : goal.returns
 unfolding inUse kernelOf
 returns c = asked-all _ _ _ c.loop-slot.invariant (omega arith)
-
-pub loop-slot-init : goal.loop-slot-init
-loop-slot-init c = asked-none _ _ _

@@ -1,8 +1,5 @@
 -- Start and length of the open file.
-use borrow.Author.Rules.{rules}
 use Rattle.area.proofs.processes.is_open_in.Goals as goal
-
--- Start and length of the open file.
 
 pub returns : goal.returns
 returns c =

@@ -1,18 +1,15 @@
 -- The record's first twelve bytes are the name.
 use mathlib.Core.Path.{sym}
 use native.Mathlib.Omega.{arith}
-use borrow.Author.Rules.{rules}
 use lib.Seq.{length-take-le}
 use Rattle.disc.specs.Layout.{nameSize}
 use Rattle.machine.specs.GoodArea.{isProgram}
 use Rattle.area.proofs.processes.is_program.Goals as goal
 
--- The record's first twelve bytes are the name.
+pub slice_bounds-same_bytes-end : goal.slice_bounds-same_bytes-end
+slice_bounds-same_bytes-end c = sym (length-take-le nameSize c.args.bytes.now (omega arith))
 
 pub returns : goal.returns
 unfolding isProgram
 returns c =
     rw (c.same_bytes-named.ensures, c.word_at-start.ensures, c.word_at-len.ensures)
-
-pub slice_bounds-same_bytes-end : goal.slice_bounds-same_bytes-end
-slice_bounds-same_bytes-end c = sym (length-take-le nameSize c.args.bytes.now (omega arith))

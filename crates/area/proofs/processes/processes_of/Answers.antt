@@ -1,13 +1,11 @@
+-- Each turn copies one process more.
 use Prim.Native.Nat.{◌-◌}
 use mathlib.Core.Path.{refl, ◌∙◌}
 use native.Mathlib.Omega.{arith}
-use borrow.Author.Rules.{rules}
 use Rattle.buffer.specs.Lists.{tab}
 use Rattle.machine.specs.Area.{kernelOf}
-use Rattle.machine.specs.Limits.{slotCount}
-use Rattle.area.specs.Parts.{processIn}
 use Rattle.area.proofs.Reading.{process-read}
-use Rattle.area.proofs.Tables.{Filled, filled-all, filled_next}
+use Rattle.area.proofs.Tables.{filled-all, filled_next}
 use Rattle.area.proofs.processes.processes_of.Goals as goal
 
 pub loop-slot-init : goal.loop-slot-init

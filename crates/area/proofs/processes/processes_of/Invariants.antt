@@ -1,17 +1,9 @@
 -- The loop: the first processes of the array are those of the area.
 use Prim.Native.Nat.{◌-◌}
-use mathlib.Core.Path.{refl, ◌∙◌}
-use native.Mathlib.Omega.{arith}
-use borrow.Author.Rules.{rules}
-use Rattle.buffer.specs.Lists.{tab}
-use Rattle.machine.specs.Area.{kernelOf}
 use Rattle.machine.specs.Limits.{slotCount}
 use Rattle.area.specs.Parts.{processIn}
-use Rattle.area.proofs.Reading.{process-read}
-use Rattle.area.proofs.Tables.{Filled, filled-all, filled_next}
+use Rattle.area.proofs.Tables.{Filled}
 use Rattle.area.proofs.processes.processes_of.Given as goal
-
--- The loop: the first processes of the array are those of the area.
 
 abbrev pub invariant-loop-slot : goal.invariant-loop-slot
 invariant-loop-slot l = Filled (processIn l.area) slotCount l.processes l.slot

@@ -1,12 +1,10 @@
-use Prim.Native.Nat.{ℕ, ◌≤◌, ◌<◌, ◌-◌}
-use mathlib.Core.Path.{◌≡◌, sym, ap, ◌∙◌}
-use mathlib.Core.Bool.{false}
-use mathlib.Core.List.{List}
+-- The slot where the loop stops is the first live under the ID; behind the loop there is none.
+use Prim.Native.Nat.{◌-◌}
+use mathlib.Core.Path.{sym}
 use native.Mathlib.Omega.{arith}
 use borrow.Author.Count.{below_more}
-use borrow.Author.Rules.{rules}
 use Rattle.buffer.proofs.Tables.{index-tab-is, index-tab-miss}
-use Rattle.machine.specs.Area.{kernelOf, processOf}
+use Rattle.machine.specs.Area.{kernelOf}
 use Rattle.machine.specs.Limits.{slotCount}
 use Rattle.machine.specs.State.{hasId, slotOf}
 use Rattle.area.specs.Parts.{processIn}
@@ -18,19 +16,11 @@ loop-slot-init c = (omega arith, λ k h. absurd (omega arith))
 pub returns-then-has_id : goal.returns-then-has_id
 unfolding slotOf kernelOf
 returns-then-has_id c =
-    let tested : let a = c.args in
-    c.has_id.result ≡ hasId a.id (processIn a.area.now c.loop-slot.slot) =
-        c.has_id.ensures ∙ ap (λ (b : List ℕ). hasId c.args.id (processOf b)) c.record_at.ensures.0 in
     let a = c.args in
-    sym (index-tab-is (processIn a.area.now) slotCount (hasId a.id) c.loop-slot.slot (omega arith)
-    (sym tested ∙ c.if-has_id.true) c.loop-slot.invariant.1)
+    sym (index-tab-is (processIn a.area.now) slotCount (hasId a.id) c.loop-slot.slot (omega arith) (cc) c.loop-slot.invariant.1)
 
 pub loop-slot-preserved : goal.loop-slot-preserved
-loop-slot-preserved c =
-    let tested : let a = c.args in
-    c.has_id.result ≡ hasId a.id (processIn a.area.now c.loop-slot.slot) =
-        c.has_id.ensures ∙ ap (λ (b : List ℕ). hasId c.args.id (processOf b)) c.record_at.ensures.0 in
-    (omega arith, below_more _ _ c.loop-slot.invariant.1 (sym tested ∙ c.if-has_id.false))
+loop-slot-preserved c = (omega arith, below_more _ _ c.loop-slot.invariant.1 (cc))
 
 pub returns : goal.returns
 unfolding slotOf kernelOf

@@ -1,12 +1,9 @@
 -- The bytes spelled are the first twelve.
 use native.Mathlib.Omega.{arith}
-use borrow.Author.Rules.{rules}
 use Rattle.buffer.specs.Lists.{tab}
 use Rattle.buffer.proofs.Words.{spelled}
 use Rattle.disc.specs.Layout.{nameSize}
 use Rattle.area.proofs.records.name_of.Goals as goal
-
--- The bytes spelled are the first twelve.
 
 pub returns : goal.returns
 unfolding tab

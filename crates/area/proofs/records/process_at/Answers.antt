@@ -1,12 +1,9 @@
 -- The record's bytes say the process of that slot.
 use mathlib.Core.Path.{sym, ap, ◌∙◌}
 use native.Mathlib.Omega.{arith}
-use borrow.Author.Rules.{rules}
 use Rattle.machine.specs.Area.{processOf}
 use Rattle.area.proofs.Reading.{process-read}
 use Rattle.area.proofs.records.process_at.Goals as goal
-
--- The record's bytes say the process of that slot.
 
 pub returns : goal.returns
 returns c =

@@ -1,9 +1,6 @@
 -- Low byte first.
 use mathlib.Core.Path.{◌∙◌}
-use borrow.Author.Rules.{rules}
 use Rattle.area.proofs.records.put_next_id.Goals as goal
-
--- Low byte first.
 
 pub returns : goal.returns
 returns c =

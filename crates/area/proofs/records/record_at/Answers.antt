@@ -1,12 +1,9 @@
 -- The part from a place to 64 bytes behind it is a record's.
 use native.Mathlib.Omega.{arith}
-use borrow.Author.Rules.{rules}
 use Rattle.buffer.proofs.Parts.{part_length, part-to}
 use Rattle.machine.specs.Limits.{recordSize}
 use Rattle.area.specs.Parts.{recordAt}
 use Rattle.area.proofs.records.record_at.Goals as goal
-
--- The part from a place to 64 bytes behind it is a record's.
 
 pub returns : goal.returns
 returns c =

@@ -1,6 +1,5 @@
 -- The front as a SET leaves it, the rest as it was: the state with those variables.
 use mathlib.Core.Path.{ap, refl, sym, ◌∙◌}
-use native.Mathlib.Omega.{arith}
 use borrow.Author.Rules.{rules}
 use Rattle.machine.specs.Area.{kernelOf}
 use Rattle.machine.proofs.Bytes.Area.{kernel-encode-decode}
@@ -10,7 +9,8 @@ use Rattle.variable.specs.declared.Variables.{Variables}
 use Rattle.area.proofs.Front.{front-few, front_length, variables-front, variables-laid}
 use Rattle.area.proofs.variables.assign_in.Goals as goal
 
--- The front as a SET leaves it, the rest as it was: the state with those variables.
+pub slice_bounds-assign-end-2 : goal.slice_bounds-assign-end-2
+slice_bounds-assign-end-2 c = sym (front_length c.args.area.now c.requires.0)
 
 pub assign-requires : goal.assign-requires
 assign-requires c =
@@ -24,11 +24,8 @@ returns c =
     let x = value_of a.kind a.bytes.now in
     let e = c.assign.ensures in record {
       placing = e.placing ∙ ap (λ (v : Variables). (assigned v a.name a.owner x).placing) (variables-front area);
-      left = variables-laid area c.requires.0 (kernel-encode-decode area (λ i. omega (arith, c.slice_known-1.given i)) c.requires.0)
+      left = variables-laid area c.requires.0 (kernel-encode-decode area (λ i. search rules) c.requires.0)
           (assigned (kernelOf area).variables a.name a.owner x).variables
           (e.variables ∙ ap (λ (v : Variables). variablesBytes (assigned v a.name a.owner x).variables) (variables-front area))
           refl;
     }
-
-pub slice_bounds-assign-end-2 : goal.slice_bounds-assign-end-2
-slice_bounds-assign-end-2 c = sym (front_length c.args.area.now c.requires.0)

@@ -1,6 +1,5 @@
 -- The front without the variables that go, the rest as it was: the state without them.
 use mathlib.Core.Path.{ap, refl, sym, ◌∙◌}
-use native.Mathlib.Omega.{arith}
 use borrow.Author.Rules.{rules}
 use Rattle.machine.specs.Area.{kernelOf}
 use Rattle.machine.proofs.Bytes.Area.{kernel-encode-decode}
@@ -10,19 +9,17 @@ use Rattle.variable.specs.declared.Variables.{Variables}
 use Rattle.area.proofs.Front.{front-few, front_length, variables-front, variables-laid}
 use Rattle.area.proofs.variables.free_in.Goals as goal
 
--- The front without the variables that go, the rest as it was: the state without them.
+pub slice_bounds-free-end-2 : goal.slice_bounds-free-end-2
+slice_bounds-free-end-2 c = sym (front_length c.args.area.now c.requires.0)
+
+pub free-requires : goal.free-requires
+free-requires c = front-few c.args.area.now c.requires.0 c.requires.1
 
 pub returns : goal.returns
 returns c =
     let a = c.args in
     let area = a.area.now in
     let gone = isGone a.every a.name a.owner in
-    variables-laid area c.requires.0 (kernel-encode-decode area (λ i. omega (arith, c.slice_known-1.given i)) c.requires.0)
+    variables-laid area c.requires.0 (kernel-encode-decode area (λ i. search rules) c.requires.0)
     (freed (kernelOf area).variables gone)
     (c.free.ensures ∙ ap (λ (v : Variables). variablesBytes (freed v gone)) (variables-front area)) refl
-
-pub slice_bounds-free-end-2 : goal.slice_bounds-free-end-2
-slice_bounds-free-end-2 c = sym (front_length c.args.area.now c.requires.0)
-
-pub free-requires : goal.free-requires
-free-requires c = front-few c.args.area.now c.requires.0 c.requires.1
