@@ -1,12 +1,7 @@
 -- Both lengths, then the disc, then the area.
-use mathlib.Core.Path.{◌≡◌, sym, ◌∙◌}
-use mathlib.Core.Bool.{true}
-use borrow.Author.Rules.{rules}
-use borrow.Author.Tests.{eq-eqb, ne_eqb, not-true, not-false}
-use lib.ListN.{length}
-use Rattle.disc.specs.Directory.{goodDisc, isDiscLength}
+use mathlib.Core.Path.{sym, ◌∙◌}
+use borrow.Author.Tests.{eq-eqb, ne_eqb}
 use Rattle.disc.proofs.Lengths.{disc-bounds, readable}
-use Rattle.machine.specs.Area.{isAreaLength}
 use Rattle.validation.specs.Tests.{tested}
 use Rattle.validation.proofs.check.Goals as goal
 

@@ -1,17 +1,11 @@
 -- Header, records, IDs and variables, one after the other.
-use mathlib.Core.Path.{◌≡◌, sym, ap, ◌∙◌}
-use mathlib.Core.Bool.{true}
+use mathlib.Core.Path.{sym, ap, ◌∙◌}
 use mathlib.Core.List.{List}
 use Prim.Native.Nat.{ℕ}
-use borrow.Author.Rules.{rules}
-use borrow.Author.Tests.{not-true, not-false}
-use Rattle.buffer.specs.Lists.{all, keep, pairs}
-use Rattle.disc.specs.Directory.{files}
+use Rattle.buffer.specs.Lists.{keep, pairs}
 use Rattle.variable.specs.Good.{goodVariables}
 use Rattle.variable.specs.Bytes.{variablesOf}
-use Rattle.machine.specs.Area.{kernelOf}
-use Rattle.machine.specs.GoodArea.{goodHeader, goodProcess}
-use Rattle.validation.specs.Columns.{differs, isId, slotIds}
+use Rattle.validation.specs.Columns.{differs, isId}
 use Rattle.validation.proofs.Goodness.{bad-header, bad-ids, bad-records, variables-left}
 use Rattle.validation.proofs.good.is_good_area.Goals as goal
 

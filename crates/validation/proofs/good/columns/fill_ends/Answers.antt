@@ -1,28 +1,22 @@
+-- Each turn fills one place more with the sum of address and size.
 use Prim.Native.Nat.{ℕ, ◌+◌, ◌*◌, ◌-◌}
 use mathlib.Core.Path.{ap₂}
-use mathlib.Core.List.{List}
 use native.Mathlib.Omega.{arith}
-use borrow.Author.Rules.{rules}
 use Rattle.buffer.proofs.Parts.{part-byte}
-use Rattle.validation.proofs.Columns.{Column, column-filled, column-next, column-none}
+use Rattle.validation.proofs.Columns.{column-filled, column-next, column-none}
 use Rattle.variable.specs.Limits.{entries_at, entrySize}
-use Rattle.variable.specs.Bytes.{variableIn}
-use Rattle.validation.proofs.good.columns.fill_ends.Invariants.{end}
 use Rattle.validation.proofs.good.columns.fill_ends.Goals as goal
 
--- The loop: the first i places are filled.
+pub loop-i-init : goal.loop-i-init
+loop-i-init c = column-none _ _ _
 
 pub loop-i-preserved : goal.loop-i-preserved
 loop-i-preserved c =
     let a = c.args.area.now in
     let at = entries_at + c.loop-i.i * entrySize in
-    let p = c.requires in
     column-next _ _ _ c.loop-i.invariant (omega arith) (omega arith)
     (rw (part-byte a at entrySize 2 (omega arith), part-byte a at entrySize 3 (omega arith))
     (ap₂ (λ (x y : ℕ). x + y) c.wide.ensures.0 c.wide-in-loop-i.ensures.0))
-
-pub loop-i-init : goal.loop-i-init
-loop-i-init c = column-none _ _ _
 
 pub returns : goal.returns
 returns c = column-filled _ _ _ c.loop-i.invariant (omega arith)

@@ -1,12 +1,7 @@
 -- The loop: the first i places are filled.
-use Prim.Native.Nat.{ℕ, ◌+◌, ◌*◌, ◌-◌}
-use mathlib.Core.Path.{ap₂}
+use Prim.Native.Nat.{ℕ, ◌+◌, ◌-◌}
 use mathlib.Core.List.{List}
-use native.Mathlib.Omega.{arith}
-use borrow.Author.Rules.{rules}
-use Rattle.buffer.proofs.Parts.{part-byte}
-use Rattle.validation.proofs.Columns.{Column, column-filled, column-next, column-none}
-use Rattle.variable.specs.Limits.{entries_at, entrySize}
+use Rattle.validation.proofs.Columns.{Column}
 use Rattle.variable.specs.Bytes.{variableIn}
 use Rattle.validation.proofs.good.columns.fill_ends.Given as goal
 

@@ -1,22 +1,15 @@
-use Prim.Native.Nat.{ℕ, ◌+◌, ◌*◌, ◌-◌}
-use mathlib.Core.List.{List}
+-- Each turn fills one place more with its word.
+use Prim.Native.Nat.{◌-◌}
 use native.Mathlib.Omega.{arith}
-use borrow.Author.Rules.{rules}
-use Rattle.buffer.specs.Buffer.{word_at}
-use Rattle.validation.proofs.Columns.{Column, column-filled, column-next, column-none}
-use Rattle.variable.specs.Limits.{entries_at, entrySize}
-use Rattle.validation.proofs.good.columns.fill_words.Invariants.{word}
+use Rattle.validation.proofs.Columns.{column-filled, column-next, column-none}
 use Rattle.validation.proofs.good.columns.fill_words.Goals as goal
-
--- The loop: the first i places are filled.
-
-pub loop-i-preserved : goal.loop-i-preserved
-loop-i-preserved c =
-    let p = c.requires in
-    column-next _ _ _ c.loop-i.invariant (omega arith) (omega arith) c.word_at-w.ensures
 
 pub loop-i-init : goal.loop-i-init
 loop-i-init c = column-none _ _ _
+
+pub loop-i-preserved : goal.loop-i-preserved
+loop-i-preserved c =
+    column-next _ _ _ c.loop-i.invariant (omega arith) (omega arith) c.word_at-w.ensures
 
 pub returns : goal.returns
 returns c = column-filled _ _ _ c.loop-i.invariant (omega arith)

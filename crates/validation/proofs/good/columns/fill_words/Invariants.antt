@@ -1,10 +1,8 @@
 -- The loop: the first i places are filled.
 use Prim.Native.Nat.{ℕ, ◌+◌, ◌*◌, ◌-◌}
 use mathlib.Core.List.{List}
-use native.Mathlib.Omega.{arith}
-use borrow.Author.Rules.{rules}
 use Rattle.buffer.specs.Buffer.{word_at}
-use Rattle.validation.proofs.Columns.{Column, column-filled, column-next, column-none}
+use Rattle.validation.proofs.Columns.{Column}
 use Rattle.variable.specs.Limits.{entries_at, entrySize}
 use Rattle.validation.proofs.good.columns.fill_words.Given as goal
 

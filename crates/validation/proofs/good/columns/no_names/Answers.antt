@@ -1,13 +1,10 @@
-use Prim.Native.Nat.{ℕ, ◌+◌, ◌-◌}
+-- Each turn makes one name more.
+use Prim.Native.Nat.{◌-◌}
 use mathlib.Core.Path.{refl}
 use native.Mathlib.Omega.{arith}
 use Rattle.buffer.specs.Lists.{tab}
-use Rattle.validation.specs.Columns.{places}
-use Rattle.area.proofs.Tables.{Filled, filled-all, filled_next}
-use Rattle.validation.proofs.good.columns.no_names.Invariants.{noName}
+use Rattle.area.proofs.Tables.{filled-all, filled_next}
 use Rattle.validation.proofs.good.columns.no_names.Goals as goal
-
--- The loop: the first i of them.
 
 pub loop-i-init : goal.loop-i-init
 unfolding tab

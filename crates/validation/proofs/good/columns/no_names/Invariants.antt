@@ -1,10 +1,7 @@
 -- The loop: the first i of them.
 use Prim.Native.Nat.{ℕ, ◌+◌, ◌-◌}
-use mathlib.Core.Path.{refl}
-use native.Mathlib.Omega.{arith}
-use Rattle.buffer.specs.Lists.{tab}
 use Rattle.validation.specs.Columns.{places}
-use Rattle.area.proofs.Tables.{Filled, filled-all, filled_next}
+use Rattle.area.proofs.Tables.{Filled}
 use Rattle.validation.proofs.good.columns.no_names.Given as goal
 
 abbrev pub noName : ℕ → ℕ

@@ -1,19 +1,12 @@
 -- The loop: the first i slots have distinct IDs.
 use Prim.Native.Nat.{◌≤◌, ◌-◌}
-use mathlib.Core.Path.{◌≡◌, refl, sym, ap, ◌∙◌}
+use mathlib.Core.Path.{◌≡◌}
 use mathlib.Core.Bool.{true}
-use native.Mathlib.Omega.{arith}
-use borrow.Author.Rules.{rules}
-use borrow.Author.Tests.{not-true, not-false}
 use lib.ListN.{take}
-use lib.Seq.{take_all}
 use Rattle.buffer.specs.Lists.{pairs}
 use Rattle.machine.specs.Limits.{slotCount}
 use Rattle.validation.specs.Columns.{differs}
-use Rattle.validation.proofs.Slots.{pairs-take-next, pairs-take-stop}
 use Rattle.validation.proofs.good.ids.are_distinct.Given as goal
-
--- The loop: the first i slots have distinct IDs.
 
 abbrev pub invariant-loop-i : goal.invariant-loop-i
 invariant-loop-i l = (l.i ≤ slotCount) × (pairs differs (take l.i l.ids) ≡ true)

@@ -1,4 +1,5 @@
-use Prim.Native.Nat.{ℕ, ◌≤◌, ◌-◌}
+-- ID 0 is always new; another one is compared with each before it.
+use Prim.Native.Nat.{ℕ, ◌-◌}
 use mathlib.Core.Path.{◌≡◌, refl, sym, ap, ◌∙◌}
 use mathlib.Core.Bool.{Bool, ◌&&◌}
 use native.Mathlib.Omega.{arith}
@@ -20,8 +21,7 @@ loop-j-init c = (omega arith, refl)
 pub loop-j-preserved : goal.loop-j-preserved
 loop-j-preserved c =
     let ids = c.args.ids.now in
-    let id = get_or ids c.args.i 0 in
-    let p = c.requires in (
+    let id = get_or ids c.args.i 0 in (
       omega arith,
       ap (λ (x : Bool). x && other id (get_or ids c.loop-j.j 0)) c.loop-j.invariant.1
           ∙ sym (all-take-more (other id) ids c.loop-j.j 0 (omega arith)),

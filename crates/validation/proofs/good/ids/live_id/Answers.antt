@@ -1,10 +1,7 @@
 -- By the state.
 use mathlib.Core.Path.{sym, ◌∙◌}
-use borrow.Author.Rules.{rules}
 use Rattle.validation.specs.Columns.{slotId}
 use Rattle.validation.proofs.good.ids.live_id.Goals as goal
-
--- By the state.
 
 pub returns-then-is_live : goal.returns-then-is_live
 unfolding slotId

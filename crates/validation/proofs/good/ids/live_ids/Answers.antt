@@ -1,18 +1,13 @@
+-- Each turn adds the ID of one slot more.
 use Prim.Native.Nat.{ℕ, ◌-◌}
 use mathlib.Core.Path.{refl, ap, ◌∙◌}
 use mathlib.Core.List.{List}
 use native.Mathlib.Omega.{arith}
-use borrow.Author.Rules.{rules}
 use Rattle.buffer.specs.Lists.{tab}
 use Rattle.machine.specs.Area.{processOf}
-use Rattle.machine.specs.Limits.{slotCount}
-use Rattle.area.specs.Parts.{processIn}
 use Rattle.validation.specs.Columns.{slotId}
-use Rattle.area.proofs.Tables.{Filled, filled-all, filled_next}
-use Rattle.validation.proofs.good.ids.live_ids.Invariants.{idIn}
+use Rattle.area.proofs.Tables.{filled-all, filled_next}
 use Rattle.validation.proofs.good.ids.live_ids.Goals as goal
-
--- The loop: the IDs of the first i slots.
 
 pub loop-i-init : goal.loop-i-init
 unfolding tab

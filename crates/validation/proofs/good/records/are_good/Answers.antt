@@ -1,10 +1,9 @@
-use Prim.Native.Nat.{ℕ, ◌≤◌, ◌-◌}
+-- Each turn tests one record more; the first that is not good stops the loop.
+use Prim.Native.Nat.{ℕ, ◌-◌}
 use mathlib.Core.Path.{◌≡◌, refl, sym, ap₂, subst, ◌∙◌}
 use mathlib.Core.Bool.{Bool, true}
 use mathlib.Core.List.{List}
 use native.Mathlib.Omega.{arith}
-use borrow.Author.Rules.{rules}
-use borrow.Author.Tests.{not-true, not-false}
 use Rattle.buffer.specs.Buffer.{part, word_at}
 use Rattle.buffer.specs.Lists.{all, tab}
 use Rattle.buffer.proofs.Lists.{all-tab-next, all-tab-stop}
@@ -12,7 +11,6 @@ use Rattle.disc.specs.Directory.{files}
 use Rattle.machine.specs.Area.{kernelOf, processOf}
 use Rattle.machine.specs.GoodArea.{goodProcess}
 use Rattle.machine.specs.Limits.{next_at, recordSize, slotCount}
-use Rattle.machine.specs.declared.Process.{Process}
 use Rattle.area.specs.Parts.{processIn, recordAt}
 use Rattle.validation.proofs.good.records.are_good.Invariants.{test}
 use Rattle.validation.proofs.good.records.are_good.Goals as goal

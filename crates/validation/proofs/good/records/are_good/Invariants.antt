@@ -1,16 +1,11 @@
 -- The loop: the records of the first i slots are good.
 use Prim.Native.Nat.{ℕ, ◌≤◌, ◌-◌}
-use mathlib.Core.Path.{◌≡◌, refl, sym, ap₂, subst, ◌∙◌}
+use mathlib.Core.Path.{◌≡◌}
 use mathlib.Core.Bool.{Bool, true}
 use mathlib.Core.List.{List}
-use native.Mathlib.Omega.{arith}
-use borrow.Author.Rules.{rules}
-use borrow.Author.Tests.{not-true, not-false}
 use Rattle.buffer.specs.Buffer.{word_at}
 use Rattle.buffer.specs.Lists.{all, tab}
-use Rattle.buffer.proofs.Lists.{all-tab-next, all-tab-stop}
 use Rattle.disc.specs.Directory.{files}
-use Rattle.machine.specs.Area.{kernelOf, processOf}
 use Rattle.machine.specs.GoodArea.{goodProcess}
 use Rattle.machine.specs.Limits.{next_at, slotCount}
 use Rattle.machine.specs.declared.Process.{Process}

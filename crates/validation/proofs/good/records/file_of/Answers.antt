@@ -1,9 +1,7 @@
-use Prim.Native.Nat.{ℕ, ◌≤◌, ◌<◌, ◌-◌}
-use mathlib.Core.Path.{◌≡◌}
+-- The loop stops at the first that is equal; behind it there is none.
+use Prim.Native.Nat.{◌-◌}
 use native.Mathlib.Omega.{arith}
 use borrow.Author.Count.{below_more}
-use lib.ListN.{get_or}
-use Rattle.disc.specs.Layout.{maxFiles}
 use Rattle.validation.proofs.good.records.file_of.Goals as goal
 
 pub loop-i-init : goal.loop-i-init

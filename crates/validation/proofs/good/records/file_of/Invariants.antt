@@ -1,13 +1,9 @@
 -- The loop: none of the first i is equal.
 use Prim.Native.Nat.{ℕ, ◌≤◌, ◌<◌, ◌-◌}
 use mathlib.Core.Path.{◌≡◌}
-use native.Mathlib.Omega.{arith}
-use borrow.Author.Count.{below_more}
 use lib.ListN.{get_or}
 use Rattle.disc.specs.Layout.{maxFiles}
 use Rattle.validation.proofs.good.records.file_of.Given as goal
-
--- The loop: none of the first i is equal.
 
 abbrev pub invariant-loop-i : goal.invariant-loop-i
 invariant-loop-i l = (l.i ≤ maxFiles) × ((k : ℕ) → k < l.i → get_or l.runs k 0 ≡ l.run → ⊥)

@@ -1,18 +1,18 @@
-use Prim.Native.Nat.{ℕ, ◌+◌, ◌*◌, ◌≤◌, ◌-◌}
+-- Each turn reads the run of one file more.
+use Prim.Native.Nat.{ℕ, ◌≤◌, ◌-◌}
 use mathlib.Core.Path.{ap, ◌∙◌}
-use mathlib.Core.List.{List}
 use native.Mathlib.Omega.{arith}
-use borrow.Author.Rules.{rules}
 use lib.ListN.{replicate}
-use Rattle.buffer.specs.Buffer.{fourAt, overwrite}
+use Rattle.buffer.specs.Buffer.{overwrite}
 use Rattle.buffer.specs.Lists.{tab}
-use Rattle.disc.specs.Layout.{entrySize, maxFiles, nameSize}
+use Rattle.disc.specs.Layout.{maxFiles}
 use Rattle.validation.specs.Columns.{fileRuns}
-use Rattle.validation.proofs.Columns.{Column, column-filled, column-next, column-none}
+use Rattle.validation.proofs.Columns.{column-filled, column-next, column-none}
 use Rattle.validation.proofs.good.records.file_runs.Invariants.{run}
 use Rattle.validation.proofs.good.records.file_runs.Goals as goal
 
--- The loop: the first i places are filled.
+pub loop-i-init : goal.loop-i-init
+loop-i-init c = column-none _ _ _
 
 pub loop-i-preserved : goal.loop-i-preserved
 loop-i-preserved c =
@@ -25,6 +25,3 @@ unfolding fileRuns
 returns c =
     column-filled _ _ _ c.loop-i.invariant (omega arith)
     ∙ ap (λ (k : ℕ). overwrite (replicate maxFiles 0) 0 (tab (run c.args.disc.now) k)) c.file_count-count.ensures
-
-pub loop-i-init : goal.loop-i-init
-loop-i-init c = column-none _ _ _

@@ -1,15 +1,10 @@
 -- The loop: the first i places are filled.
-use Prim.Native.Nat.{ℕ, ◌+◌, ◌*◌, ◌≤◌, ◌-◌}
-use mathlib.Core.Path.{ap, ◌∙◌}
+use Prim.Native.Nat.{ℕ, ◌+◌, ◌*◌, ◌-◌}
 use mathlib.Core.List.{List}
-use native.Mathlib.Omega.{arith}
-use borrow.Author.Rules.{rules}
 use lib.ListN.{replicate}
-use Rattle.buffer.specs.Buffer.{fourAt, overwrite}
-use Rattle.buffer.specs.Lists.{tab}
+use Rattle.buffer.specs.Buffer.{fourAt}
 use Rattle.disc.specs.Layout.{entrySize, maxFiles, nameSize}
-use Rattle.validation.specs.Columns.{fileRuns}
-use Rattle.validation.proofs.Columns.{Column, column-filled, column-next, column-none}
+use Rattle.validation.proofs.Columns.{Column}
 use Rattle.validation.proofs.good.records.file_runs.Given as goal
 
 abbrev pub run : List ℕ → ℕ → ℕ

@@ -2,7 +2,6 @@
 use Prim.Native.Nat.{ℕ, ◌<◌, ◌≤◌}
 use mathlib.Core.Path.{◌≡◌, sym, ap, subst, subst₂, ◌∙◌}
 use native.Mathlib.Omega.{arith}
-use borrow.Author.Rules.{rules}
 use borrow.Author.Tests.{eq-eqb, le-leb, lt-leb, ne_eqb}
 use lib.Dec.{eqb}
 use Rattle.buffer.specs.Buffer.{word_at}
@@ -19,8 +18,7 @@ returns-then-len-eq0 c =
 pub returns-then-len-offset : goal.returns-then-len-offset
 unfolding goodFile
 returns-then-len-offset c =
-    let some : word_at c.args.bytes.now 26 ≡ 0 → ⊥ =
-        λ z. c.if-len-eq0.false (c.word_at-len.ensures ∙ z) in
+    let some : word_at c.args.bytes.now 26 ≡ 0 → ⊥ = λ z. c.if-len-eq0.false (c.word_at-len.ensures ∙ z) in
     rw (
       ne_eqb _ _ some,
       lt-leb _ _ (subst₂ (λ (l n : ℕ). l < n) c.word_at-len.ensures c.word_at-offset.ensures c.if-len-offset.true),
@@ -29,15 +27,12 @@ returns-then-len-offset c =
 pub returns : goal.returns
 unfolding goodFile
 returns c =
-    let some : word_at c.args.bytes.now 26 ≡ 0 → ⊥ =
-        λ z. c.if-len-eq0.false (c.word_at-len.ensures ∙ z) in
     let a = c.args in
+    let some : word_at a.bytes.now 26 ≡ 0 → ⊥ = λ z. c.if-len-eq0.false (c.word_at-len.ensures ∙ z) in
     rw (
       ne_eqb _ _ some,
       le-leb _ _ (subst₂ (λ (n l : ℕ). n ≤ l) c.word_at-offset.ensures c.word_at-len.ensures c.if-len-offset.false),
     )
-    (open-listed a.disc.now a.runs.now c.requires.0 (λ n. omega (arith, c.shared_slice_known-1.given n))
-    a.bytes.now
-    (λ n. omega (arith, c.shared_slice_known-2-1.given n)) 24 c.file_of.result
-    (subst (λ (n : ℕ). FileOf a.runs.now n c.file_of.result) c.four_at.ensures c.file_of.ensures)
-    some)
+    (open-listed a.disc.now a.runs.now c.requires.0 (λ n. omega (arith, c.type_inv.disc n))
+    a.bytes.now (λ n. omega (arith, c.type_inv.bytes n)) 24 c.file_of.result
+    (subst (λ (n : ℕ). FileOf a.runs.now n c.file_of.result) c.four_at.ensures c.file_of.ensures) some)

@@ -2,11 +2,10 @@
 use Prim.Native.Nat.{ℕ, ◌<◌, ◌≤◌}
 use mathlib.Core.Path.{◌≡◌, sym, subst, ◌∙◌}
 use mathlib.Core.Bool.{true}
-use borrow.Author.Rules.{rules}
-use borrow.Author.Tests.{le-leb, le-ltb, lt-leb, lt-ltb, not-true, not-false}
+use borrow.Author.Tests.{le-leb, le-ltb, lt-leb, lt-ltb}
 use Rattle.buffer.proofs.Bools.{and_both}
 use Rattle.machine.specs.Area.{processOf}
-use Rattle.machine.specs.GoodArea.{goodId, goodLive, goodRegisters}
+use Rattle.machine.specs.GoodArea.{goodId, goodLive}
 use Rattle.machine.specs.declared.Process.{Process}
 use Rattle.validation.proofs.good.records.is_good_live.Goals as goal
 

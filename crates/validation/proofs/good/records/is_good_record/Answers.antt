@@ -1,11 +1,8 @@
 -- Its tests are those of `goodProcess`: the state, and a live record.
 use mathlib.Core.Path.{sym, ◌∙◌}
-use borrow.Author.Rules.{rules}
-use borrow.Author.Tests.{eq-eqb, ne_eqb, not-true, not-false}
+use borrow.Author.Tests.{eq-eqb, ne_eqb}
 use Rattle.machine.specs.GoodArea.{goodProcess}
 use Rattle.validation.proofs.good.records.is_good_record.Goals as goal
-
--- Its tests are those of `goodProcess`: the state, and a live record.
 
 pub returns-then-state-eq0 : goal.returns-then-state-eq0
 unfolding goodProcess

@@ -1,10 +1,9 @@
 -- The columns filled, the loop tests all pairs of one distance after another.
 use Prim.Native.Nat.{ℕ, ◌+◌, ◌≤◌, ◌<◌, ◌-◌}
 use mathlib.Core.Path.{◌≡◌, sym, ap, ◌∙◌}
-use mathlib.Core.Bool.{Bool, false}
+use mathlib.Core.Bool.{Bool}
 use mathlib.Core.List.{List}
 use native.Mathlib.Omega.{arith}
-use borrow.Author.Rules.{rules}
 use Rattle.buffer.specs.Buffer.{overwrite}
 use Rattle.buffer.specs.Lists.{any, tab}
 use Rattle.buffer.proofs.Fours.{Bytes}
@@ -26,7 +25,6 @@ module _ (area : List ℕ) (bytes : Bytes area) (count d : ℕ) (few : count ≤
 
 pub returns-then-count-lt2 : goal.returns-then-count-lt2
 returns-then-count-lt2 c =
-    let p = c.requires in
     sym (clash-none c.args.area.now c.args.count (omega arith) (λ k h m. absurd (omega arith)))
 
 pub loop-d-init : goal.loop-d-init
@@ -35,19 +33,22 @@ loop-d-init c = (omega arith, λ k l m. absurd (omega arith))
 pub returns-then-is_clash_at : goal.returns-then-is_clash_at
 returns-then-is_clash_at c =
     let a = c.args in
-    let said = tested a.area.now (λ k. omega (arith, c.type_inv.area k)) a.count c.loop-d.d c.requires.1 c.loop-d.invariant.0 c.loop-d-test.true
+    let l = c.loop-d in
+    let known : Bytes a.area.now = λ k. omega (arith, c.type_inv.area k) in
+    let said = tested a.area.now known a.count l.d c.requires.1 l.invariant.0 c.loop-d-test.true
         c.fill_bytes.new.column c.fill_ends.new.column c.no_names-names.result c.fill_bytes-2.new.column a.owners.now
         c.fill_bytes.ensures c.fill_ends.ensures c.no_names-names.ensures c.fill_bytes-2.ensures c.requires.2 c.is_clash_at.ensures in
-    sym (clash-stops a.area.now a.count c.requires.1 (λ k. omega (arith, c.type_inv.area k)) c.loop-d.d
-    c.loop-d.invariant.0 c.loop-d-test.true (sym said ∙ c.if-is_clash_at.true))
+    sym (clash-stops a.area.now a.count c.requires.1 known l.d l.invariant.0 c.loop-d-test.true (sym said ∙ c.if-is_clash_at.true))
 
 pub loop-d-preserved : goal.loop-d-preserved
 loop-d-preserved c =
     let a = c.args in
-    let said = tested a.area.now (λ k. omega (arith, c.type_inv.area k)) a.count c.loop-d.d c.requires.1 c.loop-d.invariant.0 c.loop-d-test.true
+    let l = c.loop-d in
+    let known : Bytes a.area.now = λ k. omega (arith, c.type_inv.area k) in
+    let said = tested a.area.now known a.count l.d c.requires.1 l.invariant.0 c.loop-d-test.true
         c.fill_bytes.new.column c.fill_ends.new.column c.no_names-names.result c.fill_bytes-2.new.column a.owners.now
         c.fill_bytes.ensures c.fill_ends.ensures c.no_names-names.ensures c.fill_bytes-2.ensures c.requires.2 c.is_clash_at.ensures in
-    (omega arith, clash-next a.area.now a.count c.loop-d.d c.loop-d.invariant.1 (sym said ∙ c.if-is_clash_at.false))
+    (omega arith, clash-next a.area.now a.count l.d l.invariant.1 (sym said ∙ c.if-is_clash_at.false))
 
 pub returns : goal.returns
 returns c =

@@ -1,16 +1,10 @@
 -- The count, then the parts of the test one after the other.
-use mathlib.Core.Path.{◌≡◌, sym, ◌∙◌}
-use mathlib.Core.Bool.{true}
+use mathlib.Core.Path.{sym, ◌∙◌}
 use native.Mathlib.Omega.{arith}
-use borrow.Author.Rules.{rules}
-use borrow.Author.Tests.{not-true, not-false}
-use lib.ListN.{take}
-use Rattle.buffer.specs.Lists.{all, keep, tab}
-use Rattle.validation.specs.Columns.{isId, sized}
-use Rattle.validation.proofs.Clashes.{owner-column-length, ownerColumn}
-use Rattle.validation.proofs.VariableTests.{column-owners, in_parts, isOwner, no-variables, too_many, variableCount}
-use Rattle.variable.specs.Limits.{countAt}
-use Rattle.variable.specs.Bytes.{variableIn}
+use Rattle.buffer.specs.Lists.{keep}
+use Rattle.validation.specs.Columns.{isId}
+use Rattle.validation.proofs.Clashes.{owner-column-length}
+use Rattle.validation.proofs.VariableTests.{column-owners, in_parts, no-variables, too_many, variableCount}
 use Rattle.validation.proofs.good.variables.are_good.Goals as goal
 
 pub returns-then-count-gt-MAX_VARIABLES : goal.returns-then-count-gt-MAX_VARIABLES

@@ -1,18 +1,13 @@
-use Prim.Native.Nat.{ℕ, ◌≤◌, ◌-◌}
+-- Each turn tests one owner more.
+use Prim.Native.Nat.{ℕ, ◌-◌}
 use mathlib.Core.Path.{◌≡◌, refl, sym, ap, ap₂, ◌∙◌}
 use mathlib.Core.Bool.{Bool, ◌&&◌}
-use mathlib.Core.List.{List}
 use native.Mathlib.Omega.{arith}
-use borrow.Author.Rules.{rules}
-use lib.Dec.{eqb}
 use lib.ListN.{take}
-use Rattle.buffer.specs.Lists.{all, any, keep}
+use Rattle.buffer.specs.Lists.{all}
 use Rattle.buffer.proofs.Equivalence.{all-take-more}
-use Rattle.validation.specs.Columns.{isId}
 use Rattle.validation.proofs.good.variables.are_owned.Invariants.{owns}
 use Rattle.validation.proofs.good.variables.are_owned.Goals as goal
-
--- The loop: whether the first i owners are live.
 
 pub loop-i-init : goal.loop-i-init
 unfolding all
@@ -20,8 +15,7 @@ loop-i-init c = (omega arith, refl)
 
 pub loop-i-preserved : goal.loop-i-preserved
 loop-i-preserved c =
-    let a = c.args in
-    let p = c.requires in (
+    let a = c.args in (
       omega arith,
       ap₂ (λ (x y : Bool). x && y) c.loop-i.invariant.1 c.is_owner-good.ensures
           ∙ sym (all-take-more (owns a.ids.now) a.owners.now c.loop-i.i 0 (omega arith)),

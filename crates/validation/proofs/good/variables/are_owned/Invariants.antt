@@ -1,14 +1,11 @@
 -- The loop: whether the first i owners are live.
 use Prim.Native.Nat.{ℕ, ◌≤◌, ◌-◌}
-use mathlib.Core.Path.{◌≡◌, refl, sym, ap, ap₂, ◌∙◌}
-use mathlib.Core.Bool.{Bool, ◌&&◌}
+use mathlib.Core.Path.{◌≡◌}
+use mathlib.Core.Bool.{Bool}
 use mathlib.Core.List.{List}
-use native.Mathlib.Omega.{arith}
-use borrow.Author.Rules.{rules}
 use lib.Dec.{eqb}
 use lib.ListN.{take}
 use Rattle.buffer.specs.Lists.{all, any, keep}
-use Rattle.buffer.proofs.Equivalence.{all-take-more}
 use Rattle.validation.specs.Columns.{isId}
 use Rattle.validation.proofs.good.variables.are_owned.Given as goal
 

@@ -1,10 +1,8 @@
 -- The loop: whether two of which the first stands below i clash.
 use Prim.Native.Nat.{ℕ, ◌+◌, ◌-◌}
-use mathlib.Core.Path.{refl}
 use mathlib.Core.Bool.{Bool}
 use mathlib.Core.List.{List}
-use native.Mathlib.Omega.{arith}
-use Rattle.buffer.proofs.Equivalence.{Asked, asked-all, asked-next, asked-none}
+use Rattle.buffer.proofs.Equivalence.{Asked}
 use Rattle.validation.specs.Columns.{clash}
 use Rattle.validation.proofs.good.variables.is_clash.Given as goal
 

@@ -1,11 +1,7 @@
 -- Either number of places is what `reach` says.
-use borrow.Author.Rules.{rules}
-use native.Mathlib.Omega.{arith}
 use borrow.Author.Tests.{le-leb, lt-leb}
 use Rattle.validation.specs.Columns.{few, reach}
 use Rattle.validation.proofs.good.variables.is_clash_at.Goals as goal
-
--- Either number of places is what `reach` says.
 
 pub returns-then-left : goal.returns-then-left
 unfolding reach

@@ -8,8 +8,6 @@ use Rattle.variable.specs.Good.{goodSize}
 use Rattle.variable.specs.Limits.{maxString}
 use Rattle.validation.proofs.good.variables.is_good_size.Goals as goal
 
--- By the type, as `goodSize` has it.
-
 -- the same test where strings have the same limit
 limited : (kind size limit : ℕ) → limit ≡ maxString
     → (eqb kind 1 && eqb size 1)

@@ -1,13 +1,13 @@
-use Prim.Native.Nat.{◌≤◌, ◌-◌}
-use mathlib.Core.Path.{◌≡◌, refl, sym, ap, ◌∙◌}
+-- Each turn compares one slot more; ID 0 owns nothing.
+use Prim.Native.Nat.{◌-◌}
+use mathlib.Core.Path.{refl, sym, ap, ◌∙◌}
 use mathlib.Core.Bool.{Bool, ◌&&◌, ◌||◌, not}
 use native.Mathlib.Omega.{arith}
 use lib.Dec.{eqb}
-use lib.ListN.{get_or, take}
+use lib.ListN.{get_or}
 use lib.Seq.{take_all}
 use Rattle.buffer.specs.Lists.{any}
 use Rattle.buffer.proofs.Equivalence.{any-take-more}
-use Rattle.machine.specs.Limits.{slotCount}
 use Rattle.validation.proofs.Slots.{owner-kept}
 use Rattle.validation.proofs.good.variables.is_owner.Goals as goal
 
@@ -17,8 +17,7 @@ loop-i-init c = (omega arith, refl)
 
 pub loop-i-preserved : goal.loop-i-preserved
 loop-i-preserved c =
-    let a = c.args in
-    let p = c.requires in (
+    let a = c.args in (
       omega arith,
       ap (λ (x : Bool). x || eqb a.id (get_or a.ids.now c.loop-i.i 0)) c.loop-i.invariant.1
           ∙ sym (any-take-more (eqb a.id) a.ids.now c.loop-i.i 0 (omega arith)),
@@ -27,7 +26,6 @@ loop-i-preserved c =
 pub returns : goal.returns
 returns c =
     let a = c.args in
-    let p = c.requires in
     ap (λ (x : Bool). not (eqb a.id 0) && x) (c.loop-i.invariant.1
     ∙ ap (any (eqb a.id)) (take_all c.loop-i.i a.ids.now (omega arith)))
     ∙ owner-kept a.id a.ids.now

@@ -1,18 +1,11 @@
 -- The loop: whether one of the first i is the owner.
 use Prim.Native.Nat.{◌≤◌, ◌-◌}
-use mathlib.Core.Path.{◌≡◌, refl, sym, ap, ◌∙◌}
-use mathlib.Core.Bool.{Bool, ◌&&◌, ◌||◌, not}
-use native.Mathlib.Omega.{arith}
+use mathlib.Core.Path.{◌≡◌}
 use lib.Dec.{eqb}
-use lib.ListN.{get_or, take}
-use lib.Seq.{take_all}
+use lib.ListN.{take}
 use Rattle.buffer.specs.Lists.{any}
-use Rattle.buffer.proofs.Equivalence.{any-take-more}
 use Rattle.machine.specs.Limits.{slotCount}
-use Rattle.validation.proofs.Slots.{owner-kept}
 use Rattle.validation.proofs.good.variables.is_owner.Given as goal
-
--- The loop: whether one of the first i is the owner.
 
 abbrev pub invariant-loop-i : goal.invariant-loop-i
 invariant-loop-i l = (l.i ≤ slotCount) × (l.hit ≡ any (eqb l.id) (take l.i l.ids))
