@@ -3,10 +3,7 @@ use mathlib.Core.Path.{◌≡◌, sym, ap}
 use lib.IntN.{neg_ℤ, pos}
 use Rattle.store.specs.Answer.{refusalNumber}
 use Rattle.store.specs.declared.Refusal.{Refusal}
-use borrow.Author.Rules.{rules}
 use Rattle.disc_operation.proofs.numbers.refusal_number.Goals as goal
-
--- `numbers::refusal_number` meets its contract, refusal by refusal.
 
 numbered : {a b : Refusal} → a ≡ b → neg_ℤ (pos (refusalNumber b)) ≡ neg_ℤ (pos (refusalNumber a))
 numbered e = ap (λ (r : Refusal). neg_ℤ (pos (refusalNumber r))) (sym e)

@@ -1,12 +1,7 @@
 -- `operations::check` meets its contract: first the length, then the goodness.
-use mathlib.Core.Path.{◌≡◌, sym, ◌∙◌}
-use mathlib.Core.Bool.{true}
-use borrow.Author.Tests.{not-true, not-false}
-use lib.ListN.{length}
-use Rattle.disc.specs.Directory.{isDiscLength}
+use mathlib.Core.Path.{sym, ◌∙◌}
 use Rattle.disc.proofs.Lengths.{disc-bounds}
 use Rattle.store.specs.Answer.{checked}
-use borrow.Author.Rules.{rules}
 use Rattle.disc_operation.proofs.operations.check.Goals as goal
 
 pub returns-then-not-is_disc_length : goal.returns-then-not-is_disc_length

@@ -1,13 +1,9 @@
 -- Behind the tests of the disc, the lines of all files, if the output has room.
-use Prim.Native.Nat.{ℕ, ◌<◌}
-use mathlib.Core.Path.{◌≡◌, sym, ◌∙◌}
-use mathlib.Core.List.{List}
+use mathlib.Core.Path.{sym, ◌∙◌}
 use native.Mathlib.Omega.{arith}
-use borrow.Author.Rules.{rules}
 use Rattle.buffer.specs.Lists.{flat}
 use Rattle.disc.specs.Directory.{fileCount, files}
-use Rattle.store.specs.Answer.{checked, fileLine, filesAnswer}
-use Rattle.store.specs.declared.Checked.TheVariants.{Usable}
+use Rattle.store.specs.Answer.{fileLine, filesAnswer}
 use Rattle.disc_operation.proofs.Checks.{usable}
 use Rattle.disc_operation.proofs.Lines.{files-short}
 use Rattle.disc_operation.proofs.Outputs.{text-done, text-short}

@@ -1,10 +1,7 @@
--- The line of one more file is added.
+-- Each turn counts the line of one file more.
 use Prim.Native.Nat.{◌+◌, ◌-◌}
 use native.Mathlib.Omega.{arith}
-use borrow.Author.Rules.{rules}
-use Rattle.buffer.proofs.Lines.{Counted, counted-all, counted_next, counted_none}
-use Rattle.disc.specs.Directory.{entry_at, fileCount}
-use Rattle.store.specs.Answer.{fileLine}
+use Rattle.buffer.proofs.Lines.{counted-all, counted_next, counted_none}
 use Rattle.disc_operation.proofs.Lines.{files-short}
 use Rattle.disc_operation.proofs.operations.files_length.Goals as goal
 

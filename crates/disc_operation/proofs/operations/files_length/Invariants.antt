@@ -1,14 +1,9 @@
 -- The loop: the lines of the first i files are counted.
-use Prim.Native.Nat.{◌+◌, ◌-◌}
-use native.Mathlib.Omega.{arith}
-use borrow.Author.Rules.{rules}
-use Rattle.buffer.proofs.Lines.{Counted, counted-all, counted_next, counted_none}
+use Prim.Native.Nat.{◌-◌}
+use Rattle.buffer.proofs.Lines.{Counted}
 use Rattle.disc.specs.Directory.{entry_at, fileCount}
 use Rattle.store.specs.Answer.{fileLine}
-use Rattle.disc_operation.proofs.Lines.{files-short}
 use Rattle.disc_operation.proofs.operations.files_length.Given as goal
-
--- The loop: the lines of the first i files are counted.
 
 abbrev pub invariant-loop-i : goal.invariant-loop-i
 invariant-loop-i l = Counted fileLine (entry_at l.disc) (fileCount l.disc) l.len l.i

@@ -14,7 +14,6 @@ use Rattle.store.specs.Answer.{checked, freeSpaceAnswer}
 use Rattle.store.specs.declared.Checked.TheVariants.{Usable}
 use Rattle.disc_operation.proofs.Checks.{usable}
 use native.Mathlib.Omega.{arith}
-use borrow.Author.Rules.{rules}
 use Rattle.disc_operation.proofs.operations.free_space.Goals as goal
 
 -- the length found is the longest run that the definition has

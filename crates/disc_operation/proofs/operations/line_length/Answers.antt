@@ -18,13 +18,13 @@ short c =
         search rules in
     omega (arith, sizes, c.text_length.ensures.0, digits-few maxDigits c.args.entry.len)
 
-pub returns : goal.returns
-returns c =
-    let e = c.args.entry in
-    omega (arith, file-line-long e, text-measured e.name c.text_length.result c.text_length.ensures)
-
 pub overflow_add-result : goal.overflow_add-result
 overflow_add-result c = omega (arith, short c)
 
 pub overflow_add-result-2 : goal.overflow_add-result-2
 overflow_add-result-2 c = omega (arith, short c)
+
+pub returns : goal.returns
+returns c =
+    let e = c.args.entry in
+    omega (arith, file-line-long e, text-measured e.name c.text_length.result c.text_length.ensures)

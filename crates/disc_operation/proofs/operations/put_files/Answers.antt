@@ -1,10 +1,14 @@
+-- Each turn writes the line of one file more.
 use Prim.Native.Nat.{◌-◌}
 use native.Mathlib.Omega.{arith}
-use borrow.Author.Rules.{rules}
-use Rattle.buffer.proofs.Lines.{Written, written_all, written_next, written_none, written-room}
-use Rattle.disc.specs.Directory.{entry_at, fileCount}
-use Rattle.store.specs.Answer.{fileLine}
+use Rattle.buffer.proofs.Lines.{written_all, written_next, written_none, written-room}
 use Rattle.disc_operation.proofs.operations.put_files.Goals as goal
+
+pub loop-i-init : goal.loop-i-init
+loop-i-init c = written_none _ _ _ _
+
+pub shape_of-out : goal.shape_of-out
+shape_of-out c = c.loop-i.invariant.size
 
 pub put_line-at-requires : goal.put_line-at-requires
 put_line-at-requires c =
@@ -16,9 +20,3 @@ loop-i-preserved c =
 
 pub returns : goal.returns
 returns c = written_all _ _ _ _ c.loop-i.invariant (omega arith)
-
-pub loop-i-init : goal.loop-i-init
-loop-i-init c = written_none _ _ _ _
-
-pub shape_of-out : goal.shape_of-out
-shape_of-out c = c.loop-i.invariant.size

@@ -1,13 +1,9 @@
 -- The loop: the lines of the first i files are written.
 use Prim.Native.Nat.{◌-◌}
-use native.Mathlib.Omega.{arith}
-use borrow.Author.Rules.{rules}
-use Rattle.buffer.proofs.Lines.{Written, written_all, written_next, written_none, written-room}
+use Rattle.buffer.proofs.Lines.{Written}
 use Rattle.disc.specs.Directory.{entry_at, fileCount}
 use Rattle.store.specs.Answer.{fileLine}
 use Rattle.disc_operation.proofs.operations.put_files.Given as goal
-
--- The loop: the lines of the first i files are written.
 
 abbrev pub invariant-loop-i : goal.invariant-loop-i
 invariant-loop-i l = Written fileLine (entry_at l.disc) (fileCount l.disc) l.initial.out l.out l.at l.i

@@ -1,7 +1,6 @@
 -- Name, space, number and newline are laid one behind another.
 use mathlib.Core.List.{[], ◌∷◌}
 use native.Mathlib.Omega.{arith}
-use borrow.Author.Rules.{rules}
 use Rattle.buffer.proofs.Lines.{line-laid}
 use Rattle.decimal.specs.Decimal.{decimal}
 use Rattle.disc.specs.Name.{trimmed}

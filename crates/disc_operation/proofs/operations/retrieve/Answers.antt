@@ -1,5 +1,5 @@
 -- `operations::retrieve` meets its contract: behind the tests of the disc, the file found is copied, if the output has room.
-use Prim.Native.Nat.{ℕ, ◌+◌, ◌-◌, ◌<◌, ◌≤◌}
+use Prim.Native.Nat.{ℕ, ◌+◌, ◌-◌, ◌<◌}
 use mathlib.Core.Path.{◌≡◌, sym, ap, subst, ◌∙◌}
 use mathlib.Core.List.{List}
 use lib.ListN.{length, length-drop, length-take}
@@ -15,7 +15,6 @@ use Rattle.store.specs.declared.Checked.TheVariants.{Usable}
 use Rattle.disc_operation.proofs.Checks.{usable}
 use Rattle.disc_operation.proofs.Outputs.{file-done, file-short}
 use native.Mathlib.Omega.{arith}
-use borrow.Author.Rules.{rules}
 use Rattle.disc_operation.proofs.operations.retrieve.Goals as goal
 
 -- a disc that has passed the tests, and the place that the search has found in it

@@ -13,7 +13,6 @@ use Rattle.store.specs.declared.Checked.TheVariants.{Usable}
 use Rattle.store.proofs.Admissions.{Admitted, admitted}
 use Rattle.disc_operation.proofs.Checks.{usable}
 use native.Mathlib.Omega.{arith}
-use borrow.Author.Rules.{rules}
 use Rattle.disc_operation.proofs.operations.store.Goals as goal
 
 -- the admission of a start says what it needs, and place and length fit 16 bits
