@@ -10,4 +10,4 @@ unfolding fileCount
 returns c = search rules
 
 pub overflow_cast-result : goal.overflow_cast-result
-overflow_cast-result c = omega (arith, c.shared_slice_known-1.given countAt)
+overflow_cast-result c = omega (arith, c.type_inv.disc countAt)

@@ -12,19 +12,15 @@ use Rattle.disc.proofs.directory.put_entry.Goals as goal
 
 pub overwrite_at-requires : goal.overwrite_at-requires
 overwrite_at-requires c =
-    let sizes : length c.args.entry.name ≡ nameSize =
-        search rules in
-    let h = sizes in
+    let named : length c.args.entry.name ≡ nameSize = search rules in
     omega arith
 
 pub returns : goal.returns
 returns c =
-    let sizes : length c.args.entry.name ≡ nameSize =
-        search rules in
+    let named : length c.args.entry.name ≡ nameSize = search rules in
     let at = c.args.i * entrySize in
     let d = c.args.disc.now in
     let e = c.args.entry in
-    let h = sizes in
     let fields = c.low.result ∷ c.high.result ∷ c.low-2.result ∷ c.high-2.result ∷ [] in
     let words : fields ≡ word_bytes e.start ++ word_bytes e.len = cc in
     c.overwrite_at-2.ensures

@@ -1,5 +1,4 @@
 -- The loop: the first i entries are good and beside each other.
-use Prim.Native.Nat.{◌<◌}
 use mathlib.Core.Path.{◌≡◌, refl, sym, ◌∙◌}
 use mathlib.Core.Bool.{and-false}
 use borrow.Author.Tests.{le-leb, lt-leb}
@@ -24,20 +23,16 @@ loop-i-init c = (omega arith, refl, refl)
 pub returns-then-not-is_good_entry : goal.returns-then-not-is_good_entry
 unfolding goodDisc goodFiles
 returns-then-not-is_good_entry c =
-    let more : c.loop-i.i < c.file_count-count.result → c.loop-i.i < fileCount c.args.disc.now =
-        λ h. omega (arith, c.file_count-count.ensures) in
     let d = c.args.disc.now in
-    rw (all-tab-stop (entry_at d) (goodEntry (length d)) c.loop-i.i (fileCount d) (more (omega arith))
+    rw (all-tab-stop (entry_at d) (goodEntry (length d)) c.loop-i.i (fileCount d) (omega arith)
     (sym c.is_good_entry.ensures ∙ c.if-not-is_good_entry.true)) (sym (and-false (leb (fileCount d) maxFiles)))
 
 pub returns-then-not-is_beside_earlier : goal.returns-then-not-is_beside_earlier
 unfolding goodDisc goodFiles
 returns-then-not-is_beside_earlier c =
-    let more : c.loop-i.i < c.file_count-count.result → c.loop-i.i < fileCount c.args.disc.now =
-        λ h. omega (arith, c.file_count-count.ensures) in
     let d = c.args.disc.now in
     rw (
-      pairs-tab-stop (entry_at d) beside c.loop-i.i (fileCount d) (more (omega arith))
+      pairs-tab-stop (entry_at d) beside c.loop-i.i (fileCount d) (omega arith)
           (sym c.is_beside_earlier.ensures ∙ c.if-not-is_beside_earlier.true),
       and-false,
     ) (sym (and-false (leb (fileCount d) maxFiles)))
@@ -57,4 +52,9 @@ unfolding goodDisc goodFiles
 returns c =
     let n = c.file_count-count in
     let q : c.loop-i.i ≡ fileCount c.args.disc.now = omega (arith, n.ensures) in
-    rw (le-leb (fileCount c.args.disc.now) maxFiles (omega (arith, n.ensures, c.if-count-gt-MAX_FILES.false)), ← q, c.loop-i.invariant.1, c.loop-i.invariant.2)
+    rw (
+      le-leb (fileCount c.args.disc.now) maxFiles (omega (arith, n.ensures, c.if-count-gt-MAX_FILES.false)),
+      ← q,
+      c.loop-i.invariant.1,
+      c.loop-i.invariant.2,
+    )

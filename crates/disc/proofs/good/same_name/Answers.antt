@@ -6,5 +6,5 @@ use Rattle.disc.proofs.good.same_name.Goals as goal
 pub returns : goal.returns
 returns c =
     let a = c.args in
-    cc (three-fours a.a.now a.b.now (λ n. omega (arith, c.shared_slice_known-1.given n))
-    (λ n. omega (arith, c.shared_slice_known-2-1.given n)) a.i a.j (omega arith) (omega arith))
+    cc (three-fours a.a.now a.b.now (λ n. omega (arith, c.type_inv.a n))
+    (λ n. omega (arith, c.type_inv.b n)) a.i a.j (omega arith) (omega arith))

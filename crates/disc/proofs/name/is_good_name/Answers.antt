@@ -31,12 +31,11 @@ returns-then-not-is_name_byte c =
     rw (all-stop isNameByte n c.loop-i.i 0 (omega arith) e, and-false) (sym (and-false (leb 1 (length n))))
 
 pub loop-i-preserved : goal.loop-i-preserved
-loop-i-preserved c =
-    (
-      omega arith,
-      all-take-next isNameByte c.args.name.now c.loop-i.i 0 (omega arith) c.loop-i.invariant.1 (sym c.is_name_byte.ensures
-          ∙ c.if-not-is_name_byte.false),
-    )
+loop-i-preserved c = (
+  omega arith,
+  all-take-next isNameByte c.args.name.now c.loop-i.i 0 (omega arith) c.loop-i.invariant.1 (sym c.is_name_byte.ensures
+      ∙ c.if-not-is_name_byte.false),
+)
 
 pub returns : goal.returns
 unfolding goodName
