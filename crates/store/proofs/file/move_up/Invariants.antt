@@ -8,7 +8,8 @@ use Rattle.disc.specs.Layout.{entrySize}
 use Rattle.store.proofs.file.move_up.Given as goal
 
 abbrev pub invariant-loop-i : goal.invariant-loop-i
-invariant-loop-i l = (l.i ≤ l.n) × (length l.disc ≡ length l.initial.disc) × (l.disc ≡ paste l.initial.disc l.at (part l.initial.disc (l.at + entrySize) l.n) l.i)
+invariant-loop-i l = (l.i ≤ l.n) × (length l.disc ≡ length l.initial.disc)
+    × (l.disc ≡ paste l.initial.disc l.at (part l.initial.disc (l.at + entrySize) l.n) l.i)
 
 abbrev pub decreases-loop-i : goal.decreases-loop-i
 decreases-loop-i l = l.n - l.i
