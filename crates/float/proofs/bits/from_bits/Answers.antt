@@ -4,8 +4,6 @@ use lib.Ieee.{binary32, div, of_bits}
 use Rattle.float.proofs.Patterns.{high-nan, low-no-nan}
 use Rattle.float.proofs.bits.from_bits.Goals as goal
 
--- `float::bits::from_bits` meets its contract. Assumes nothing.
-
 pub float_from_bits-result : goal.float_from_bits-result
 float_from_bits-result c = low-no-nan binary32 c.args.n c.if-n-gt2139095040.false
 

@@ -4,8 +4,6 @@ use lib.Ieee.{binary32, to_bits}
 use Rattle.float.proofs.Patterns.{equal_no_nan, nan_pattern, unequal-nan}
 use Rattle.float.proofs.bits.to_bits.Goals as goal
 
--- `float::bits::to_bits` meets its contract. Assumes nothing.
-
 pub float_to_bits-result : goal.float_to_bits-result
 float_to_bits-result c = equal_no_nan c.args.x c.if-x.false
 

@@ -2,7 +2,5 @@
 use Rattle.float.proofs.Exactly.{equals-met}
 use Rattle.float.proofs.compare.equals_whole.Goals as goal
 
--- `float::compare::equals_whole` meets its contract. Assumes nothing.
-
 pub returns : goal.returns
 returns c = equals-met c.args.z c.ranges.z c.f32_to_f64_with_nan.ensures

@@ -2,7 +2,5 @@
 use Rattle.float.proofs.Fractions.{no-digit-left}
 use Rattle.float.proofs.quotient.cut.Goals as goal
 
--- `float::quotient::cut` meets its contract. Assumes nothing.
-
 pub returns-then-s-ge64 : goal.returns-then-s-ge64
 returns-then-s-ge64 c = no-digit-left c.args.a c.args.s 64 c.ranges.a.fits c.if-s-ge64.true

@@ -3,8 +3,6 @@ use Rattle.std.proofs.Common.{◌-◌, ◌^◌, div-le_self, arith}
 use Rattle.float.proofs.Fractions.{not-up, up_more, up-zero}
 use Rattle.float.proofs.quotient.divide.Goals as goal
 
--- `float::quotient::divide` meets its contract. Assumes nothing.
-
 pub overflow_add-result : goal.overflow_add-result
 overflow_add-result c = let a = c.args in omega (arith, c.cut.ensures, div-le_self (a.a - 1) (2 ^ a.s))
 

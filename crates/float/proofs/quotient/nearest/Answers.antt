@@ -3,8 +3,6 @@ use Rattle.std.proofs.Common.{ℕ, ◌+◌, ◌/◌, ◌%◌, ap, ◌∙◌}
 use Rattle.float.proofs.Fractions.{nearest-digit, nearest-whole}
 use Rattle.float.proofs.quotient.nearest.Goals as goal
 
--- `float::quotient::nearest` meets its contract. Assumes nothing.
-
 pub returns-then-s-eq0 : goal.returns-then-s-eq0
 returns-then-s-eq0 c = nearest-whole c.args.a c.args.s c.if-s-eq0.true
 
