@@ -1,10 +1,7 @@
 -- An operator, or what the other table says.
 use mathlib.Core.Path.{sym, ◌∙◌}
 use Rattle.machine.specs.Instruction.{instructionOf}
-use borrow.Author.Rules.{rules}
 use Rattle.instruction.proofs.decode.instruction.Goals as goal
-
--- An operator, or what the other table says.
 
 pub returns-in-OfOne : goal.returns-in-OfOne
 unfolding instructionOf

@@ -4,7 +4,6 @@ use native.Mathlib.Omega.{arith}
 use borrow.Author.Tests.{le-ltb, lt-ltb}
 use Rattle.machine.specs.Exec.{exec}
 use Rattle.stack.proofs.Steps.{last-means}
-use borrow.Author.Rules.{rules}
 use Rattle.instruction.proofs.execute.execute.Goals as goal
 
 pub returns-then-code-at : goal.returns-then-code-at

@@ -1,8 +1,5 @@
 -- Each by its own function.
-use borrow.Author.Rules.{rules}
 use Rattle.instruction.proofs.reach.reach.Goals as goal
-
--- Each by its own function.
 
 pub returns-in-OpenFile : goal.returns-in-OpenFile
 returns-in-OpenFile c = rw c.in-OpenFile.is c.open_file.ensures

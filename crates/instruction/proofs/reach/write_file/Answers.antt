@@ -1,24 +1,18 @@
 -- The value's bytes are copied as they lie.
-use native.Mathlib.Omega.{arith}
+use Rattle.std.proofs.Common.{arith}
 use Rattle.operator.specs.declared.instruction.Types.TheVariants.{AnyValue}
-use Rattle.stack.proofs.Popping.{OnTop, value-faults, value-on-top}
-use borrow.Author.Rules.{rules}
+use Rattle.stack.proofs.Popping.{value-faults, value-on-top}
 use Rattle.instruction.proofs.reach.write_file.Goals as goal
 
 pub with_part-requires : goal.with_part-requires
 with_part-requires c =
-    let top : let g = c.place-1.given.0 in
-    OnTop AnyValue c.args.stack.now g.0 g.1.0 g.1.1.0 =
-        value-on-top AnyValue c.args.stack.now c.top_value.ensures c.in-Lies.is in
-    (omega (arith, (top).inside), c.requires.low, omega (arith, c.requires.short, c.requires.inside))
+    let top = value-on-top AnyValue c.args.stack.now c.top_value.ensures c.in-Lies.is in
+    (omega (arith, top.inside), c.requires.low, omega (arith, c.requires.short, c.requires.inside))
 
 pub returns-in-Lies : goal.returns-in-Lies
 returns-in-Lies c =
-    let top : let g = c.place-1.given.0 in
-    OnTop AnyValue c.args.stack.now g.0 g.1.0 g.1.1.0 =
-        value-on-top AnyValue c.args.stack.now c.top_value.ensures c.in-Lies.is in
+    let top = value-on-top AnyValue c.args.stack.now c.top_value.ensures c.in-Lies.is in
     rw top.pops c.with_part.ensures
 
 pub returns-in-NoValue : goal.returns-in-NoValue
-returns-in-NoValue c =
-    value-faults AnyValue _ c.top_value.ensures c.in-NoValue.is _ c.last_step.ensures _
+returns-in-NoValue c = value-faults AnyValue _ c.top_value.ensures c.in-NoValue.is _ c.last_step.ensures _

@@ -1,8 +1,5 @@
 -- With a newline, or without.
-use borrow.Author.Rules.{rules}
 use Rattle.instruction.proofs.values.print_text.Goals as goal
-
--- With a newline, or without.
 
 pub returns-then-ends : goal.returns-then-ends
 returns-then-ends c = rw c.if-ends.true c.with_bytes.ensures

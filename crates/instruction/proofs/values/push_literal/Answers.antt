@@ -12,7 +12,6 @@ use Rattle.buffer.proofs.Parts.{part-to}
 use Rattle.machine.specs.Effect.{Effect, settle}
 use Rattle.machine.specs.Stack.{push}
 use Rattle.stack.proofs.Steps.{last-means, means-as}
-use borrow.Author.Rules.{rules}
 use Rattle.instruction.proofs.values.push_literal.Goals as goal
 
 pub returns-then-code-to : goal.returns-then-code-to

@@ -1,61 +1,43 @@
 -- The text is measured up to its zero, and pushed with it.
-use mathlib.Core.List.{List, [], ◌∷◌, ◌++◌}
-use mathlib.Core.Path.{◌≡◌, sym, ap, ◌∙◌}
-use Prim.Native.Nat.{ℕ, ◌+◌, ◌-◌, ◌≤◌, ◌<◌}
-use lib.ListN.{length, take, drop, length-drop}
+use Rattle.std.proofs.Common.{ℕ, ◌+◌, ◌-◌, ◌≤◌, ◌<◌, ◌≡◌, List, [], ◌∷◌, ◌++◌, length, take, drop, sym, ap, ◌∙◌, arith, length-drop}
 use lib.Seq.{length-take-le, take_all, take-length}
-use native.Mathlib.Omega.{arith}
 use borrow.Author.Tests.{le-leb, lt-leb}
 use Rattle.buffer.specs.Buffer.{part}
 use Rattle.buffer.proofs.Parts.{part-to}
 use Rattle.disc.specs.Name.{trimmed}
 use Rattle.disc.proofs.Names.{text-with-zero}
 use Rattle.stack.proofs.Steps.{last-means}
-use borrow.Author.Rules.{rules}
 use Rattle.instruction.proofs.values.push_text.Goals as goal
 
-measured : (c : goal.After-text_length) → length (trimmed (let a = c.args in drop (a.at + 1) a.code.now)) ≡ c.text_length.result
-measured c =
-    let a = c.args in
-    let whole = take_all (length a.code.now - (a.at + 1)) (let a = c.args in drop (a.at + 1) a.code.now) (omega (arith, length-drop (a.at + 1) a.code.now)) in
-    let e = rw whole at c.text_length.ensures in
-    sym (ap length e.1) ∙ length-take-le c.text_length.result (let a = c.args in drop (a.at + 1) a.code.now) e.0
+-- n bytes of the code from a place are its text
+module _ (code : List ℕ) (from n : ℕ)
+    (known : (n ≤ length (part code from (length code - from))) × (take n (part code from (length code - from)) ≡ trimmed (part code from (length code - from)))) where
+  measured : length (trimmed (drop from code)) ≡ n
+  measured =
+      let whole = take_all (length code - from) (drop from code) (omega (arith, length-drop from code)) in
+      let told = rw whole at known in
+      sym (ap length told.1) ∙ length-take-le n (drop from code) told.0
 
--- with its zero
-pushed : (c : goal.After-text_length) → let a = c.args in
-    a.at + 1 + (c.text_length.result + 1) ≤ length a.code.now
-    → part a.code.now (a.at + 1) (c.text_length.result + 1) ≡ trimmed (let a = c.args in drop (a.at + 1) a.code.now) ++ (0 ∷ [])
-pushed c h =
-    let a = c.args in
-    let m = measured c in
-    ap (λ (n : ℕ). take (n + 1) (let a = c.args in drop (a.at + 1) a.code.now)) (sym m) ∙ text-with-zero (let a = c.args in drop (a.at + 1) a.code.now) (omega (arith, length-drop (a.at + 1) a.code.now))
+  -- with its zero
+  pushed : from + (n + 1) ≤ length code → part code from (n + 1) ≡ trimmed (drop from code) ++ (0 ∷ [])
+  pushed fits =
+      let m = measured in
+      ap (λ (n : ℕ). take (n + 1) (drop from code)) (sym m)
+      ∙ text-with-zero (drop from code) (omega (arith, length-drop from code))
 
 pub returns-then-code-to : goal.returns-then-code-to
 returns-then-code-to c =
-    let measured : length (trimmed (let a = c.args in drop (a.at + 1) a.code.now)) ≡ c.text_length.result =
-        let a = c.args in
-    let whole = take_all (length a.code.now - (a.at + 1)) (let a = c.args in drop (a.at + 1) a.code.now) (omega (arith, length-drop (a.at + 1) a.code.now)) in
-    let e = rw whole at c.text_length.ensures in
-    sym (ap length e.1) ∙ length-take-le c.text_length.result (let a = c.args in drop (a.at + 1) a.code.now) e.0 in
     let a = c.args in
-    let h : length a.code.now < a.at + 1 + (length (trimmed (let a = c.args in drop (a.at + 1) a.code.now)) + 1) = omega (arith, measured, c.if-code-to.true) in
+    let text = measured a.code.now (a.at + 1) c.text_length.result c.text_length.ensures in
+    let h : length a.code.now < a.at + 1 + (length (trimmed (drop (a.at + 1) a.code.now)) + 1) = omega (arith, text, c.if-code-to.true) in
     rw (lt-leb _ _ h) (last-means a.stack.now c.last_step.ensures)
 
 pub returns : goal.returns
 returns c =
-    let measured : length (trimmed (let a = c.args in drop (a.at + 1) a.code.now)) ≡ c.text_length.result =
-        let a = c.args in
-    let whole = take_all (length a.code.now - (a.at + 1)) (let a = c.args in drop (a.at + 1) a.code.now) (omega (arith, length-drop (a.at + 1) a.code.now)) in
-    let e = rw whole at c.text_length.ensures in
-    sym (ap length e.1) ∙ length-take-le c.text_length.result (let a = c.args in drop (a.at + 1) a.code.now) e.0 in
-    let pushed : let a = c.args in
-    a.at + 1 + (c.text_length.result + 1) ≤ length a.code.now
-    → part a.code.now (a.at + 1) (c.text_length.result + 1) ≡ trimmed (let a = c.args in drop (a.at + 1) a.code.now) ++ (0 ∷ []) =
-        λ h. let a = c.args in
-    let m = measured in
-    ap (λ (n : ℕ). take (n + 1) (let a = c.args in drop (a.at + 1) a.code.now)) (sym m) ∙ text-with-zero (let a = c.args in drop (a.at + 1) a.code.now) (omega (arith, length-drop (a.at + 1) a.code.now)) in
     let a = c.args in
     let n = c.text_length.result in
+    let text = measured a.code.now (a.at + 1) n c.text_length.ensures in
     let h : a.at + 1 + (n + 1) ≤ length a.code.now = omega (arith, c.if-code-to.false) in
-    rw (measured, le-leb _ _ h)
-    (rw (take-length a.stack.now, part-to a.code.now (a.at + 1) (n + 1), pushed h) at c.push_item.ensures)
+    let with-zero = pushed a.code.now (a.at + 1) n c.text_length.ensures h in
+    rw (text, le-leb _ _ h)
+    (rw (take-length a.stack.now, part-to a.code.now (a.at + 1) (n + 1), with-zero) at c.push_item.ensures)

@@ -1,16 +1,10 @@
 -- The value's bytes are copied as they lie.
-use Prim.Native.Nat.{◌+◌, ◌≤◌}
-use lib.ListN.{length}
-use native.Mathlib.Omega.{arith}
+use Rattle.std.proofs.Common.{◌+◌, ◌≤◌, length, arith}
 use borrow.Author.Tests.{le-leb, lt-leb}
 use Rattle.operator.specs.declared.instruction.Types.TheVariants.{AnyValue}
-use Rattle.stack.proofs.Popping.{OnTop, value-faults, value-on-top}
+use Rattle.stack.proofs.Popping.{value-faults, value-on-top}
 use Rattle.stack.proofs.Steps.{last-means}
-use borrow.Author.Rules.{rules}
 use Rattle.instruction.proofs.values.set_variable.Goals as goal
-
-fits : (c : goal.Else-code-to) → c.args.at + 1 + 1 ≤ length c.args.code.now
-fits c = omega arith
 
 pub returns-then-code-to : goal.returns-then-code-to
 returns-then-code-to c =
@@ -19,24 +13,17 @@ returns-then-code-to c =
 
 pub with_part-requires : goal.with_part-requires
 with_part-requires c =
-    let fits : c.args.at + 1 + 1 ≤ length c.args.code.now =
-        omega arith in
-    let top : let g = c.kind-1.given.0 in
-    OnTop AnyValue c.args.stack.now g.0 g.1.0 g.1.1.0 =
-        value-on-top AnyValue c.args.stack.now c.top_value.ensures c.in-Lies.is in
-    (omega (arith, (top).inside), c.requires.low, omega (arith, c.requires.short, fits))
+    let top = value-on-top AnyValue c.args.stack.now c.top_value.ensures c.in-Lies.is in
+    (omega (arith, top.inside), c.requires.low, omega (arith, c.requires.short, c.if-code-to.false))
 
 pub returns-in-Lies : goal.returns-in-Lies
 returns-in-Lies c =
-    let fits : c.args.at + 1 + 1 ≤ length c.args.code.now =
-        omega arith in
-    let top : let g = c.kind-1.given.0 in
-    OnTop AnyValue c.args.stack.now g.0 g.1.0 g.1.1.0 =
-        value-on-top AnyValue c.args.stack.now c.top_value.ensures c.in-Lies.is in
-    rw (le-leb _ _ fits, (top).pops) c.with_part.ensures
+    let a = c.args in
+    let fits : a.at + 1 + 1 ≤ length a.code.now = omega arith in
+    let top = value-on-top AnyValue a.stack.now c.top_value.ensures c.in-Lies.is in
+    rw (le-leb _ _ fits, top.pops) c.with_part.ensures
 
 pub returns-in-NoValue : goal.returns-in-NoValue
 returns-in-NoValue c =
-    let fits : c.args.at + 1 + 1 ≤ length c.args.code.now =
-        omega arith in
-    rw (le-leb _ _ (fits)) (value-faults AnyValue _ c.top_value.ensures c.in-NoValue.is _ c.last_step-in-NoValue.ensures _)
+    let fits : c.args.at + 1 + 1 ≤ length c.args.code.now = omega arith in
+    rw (le-leb _ _ fits) (value-faults AnyValue _ c.top_value.ensures c.in-NoValue.is _ c.last_step-in-NoValue.ensures _)
