@@ -42,14 +42,14 @@ registersFrom pc loopstart file sp =
     ++ word_bytes file.start ++ word_bytes file.len ++ word_bytes file.offset ++ (sp ∷ [])
 
 -- the process of that slot of the area
-abbrev pub field_own : List ℕ → ℕ → Process
-field_own area slot = processAt (kernelOf area) slot
+abbrev pub own_at : List ℕ → ℕ → Process
+own_at area slot = processAt (kernelOf area) slot
 
 -- the process of that slot of the area, which runs, and a step that it can take
 pub record Stepping (area : List ℕ) (slot : ℕ) (p : Process) (d : Step) : Type 0 where
   pub size : length area ≡ areaLength
   pub low : slot < slotCount
-  pub own : p ≡ field_own area slot
+  pub own : p ≡ own_at area slot
   pub running : isRunning p ≡ true
   pub few : (kernelOf area).variables.count ≤ maxVariables
   pub sp : p.sp ≤ stackSize
