@@ -1,11 +1,10 @@
 -- A turn writes one more digit in front of those written, which there is room for.
 use Prim.Native.Nat.{◌<◌}
-use mathlib.Core.Path.{◌≡◌, refl, sym, ◌∙◌}
+use mathlib.Core.Path.{refl, ◌∙◌}
 use native.Mathlib.Omega.{arith}
-use lib.ListN.{drop, length-set}
-use borrow.Author.Tests.{lt-leb}
-use Rattle.decimal.specs.Decimal.{decimal, lastDigits}
-use Rattle.decimal.proofs.Laws.{as-digits, digit-next, room, shorter, zeros-shorter}
+use lib.ListN.{length-set}
+use Rattle.decimal.specs.Decimal.{lastDigits}
+use Rattle.decimal.proofs.Laws.{digit-next, room, shorter, zeros-shorter}
 use Rattle.decimal.proofs.digits_of.Goals as goal
 
 pub loop-rest-init : goal.loop-rest-init
@@ -23,10 +22,3 @@ loop-rest-preserved c =
       zeros-shorter l.bytes l.start d.result more l.invariant.3,
       l.invariant.4 ∙ digit-next l.start l.rest d.result l.bytes (omega arith) more (omega arith) d.ensures,
     )
-
-pub returns : goal.returns
-returns c =
-    let l = c.loop-rest in
-    let digits : decimal c.args.n ≡ drop l.start l.bytes =
-        rw (l.invariant.4, lt-leb _ _ c.loop-rest-test.false) in
-    (sym (as-digits _ l.bytes l.start l.invariant.1 (omega arith) l.invariant.3 digits), omega arith)
