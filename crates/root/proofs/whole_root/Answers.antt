@@ -4,9 +4,6 @@ use Rattle.root.proofs.Bisection.{upper-half, lower-half, single}
 use Rattle.root.proofs.whole_root.Goals as goal
 use Rattle.root.proofs.whole_root.Goals.{then-low-half, else-low-half}
 
-pub loop-width-init : goal.loop-width-init
-loop-width-init c = record { from = omega arith; to = omega arith; reach = omega arith; some = omega arith }
-
 pub loop-width-preserved : goal.loop-width-preserved
 loop-width-preserved c = let l = c.loop-width in elim c.if-low-half.branch [
     then-low-half w ↦ upper-half c.args.n l.low l.width l.invariant (omega arith) w.low-is w.if-low-half.true
