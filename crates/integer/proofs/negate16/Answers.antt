@@ -1,10 +1,7 @@
 -- The laws of Division on negation at 16 bits.
 use Rattle.std.proofs.Common.{w16}
-use Rattle.integer.proofs.Division.{negate-fits, negate-reads, negate-least}
+use Rattle.integer.proofs.Division.{negate-reads, negate-least}
 use Rattle.integer.proofs.negate16.Goals as goal
-
-pub overflow_sub-result : goal.overflow_sub-result
-overflow_sub-result c = negate-fits w16 c.args.a c.ranges.a c.if-a-eqminus32768.false
 
 pub returns-then-a-eqminus32768 : goal.returns-then-a-eqminus32768
 returns-then-a-eqminus32768 c = negate-least w16 c.args.a c.ranges.a c.if-a-eqminus32768.true

@@ -1,10 +1,7 @@
 -- The laws of Division on the remainder at 8 bits.
 use Rattle.std.proofs.Common.{w8}
-use Rattle.integer.proofs.Division.{divides, remainder-reads, remainder-vanishes}
+use Rattle.integer.proofs.Division.{remainder-reads, remainder-vanishes}
 use Rattle.integer.proofs.remainder8.Goals as goal
-
-pub nonzero_rem-result : goal.nonzero_rem-result
-nonzero_rem-result c = divides w8 c.args.a c.args.b c.ranges.a c.ranges.b c.if-b-eqminus1.false c.requires
 
 pub returns-then-b-eqminus1 : goal.returns-then-b-eqminus1
 returns-then-b-eqminus1 c = remainder-vanishes w8 c.args.a c.args.b c.ranges.a c.ranges.b c.if-b-eqminus1.true
