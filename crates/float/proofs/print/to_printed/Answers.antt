@@ -1,5 +1,4 @@
 -- What is printed, by what `decode` makes of the value and by its exponent. Assumes nothing.
-use Rattle.std.proofs.Common.{arith}
 use Rattle.float.proofs.Values.{finite, printed-infinite, printed-minus, printed-nan, printed-overflow, printed-plus}
 use Rattle.float.proofs.print.to_printed.Goals as goal
 
@@ -8,12 +7,6 @@ returns-in-NotANumber c = printed-nan c.args.x c.decode.ensures c.in-NotANumber.
 
 pub returns-in-Infinite : goal.returns-in-Infinite
 returns-in-Infinite c = printed-infinite c.args.x c.decode.ensures c.in-Infinite.negative c.in-Infinite.is
-
-pub overflow_mul-significand : goal.overflow_mul-significand
-overflow_mul-significand c = omega (arith, (finite c.args.x c.decode.ensures c.in-Finite.is).short)
-
-pub whole_size-hundredths-requires : goal.whole_size-hundredths-requires
-whole_size-hundredths-requires c = omega (arith, (finite c.args.x c.decode.ensures c.in-Finite.is).short)
 
 pub returns-then-negative : goal.returns-then-negative
 returns-then-negative c =

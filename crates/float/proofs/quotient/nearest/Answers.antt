@@ -1,10 +1,7 @@
 -- `float::quotient::nearest` meets its contract. Assumes nothing.
 use Rattle.std.proofs.Common.{ℕ, ◌+◌, ◌/◌, ◌%◌, ap, ◌∙◌}
-use Rattle.float.proofs.Fractions.{nearest-digit, nearest-whole}
+use Rattle.float.proofs.Fractions.{nearest-digit}
 use Rattle.float.proofs.quotient.nearest.Goals as goal
-
-pub returns-then-s-eq0 : goal.returns-then-s-eq0
-returns-then-s-eq0 c = nearest-whole c.args.a c.args.s c.if-s-eq0.true
 
 pub returns : goal.returns
 returns c = let a = c.args in ap (λ (n : ℕ). n / 2 + n % 2) c.divide-twice.ensures

@@ -1,10 +1,6 @@
 -- A turn has a shift left, and the radicand grows up to 2^48. Assumes nothing.
-use Rattle.std.proofs.Common.{arith}
-use Rattle.float.proofs.Scaling.{done, shift-left, start, start-below, turn}
+use Rattle.float.proofs.Scaling.{shift-left, start, turn}
 use Rattle.float.proofs.sqrt.scale.Goals as goal
-
-pub overflow_mul-radicand-2 : goal.overflow_mul-radicand-2
-overflow_mul-radicand-2 c = omega (arith, start-below c.args.significand c.args.exponent c.requires)
 
 pub loop-radicand-init : goal.loop-radicand-init
 loop-radicand-init c = start c.args.significand c.args.exponent c.requires
@@ -20,8 +16,3 @@ loop-radicand-preserved c =
     let l = c.loop-radicand in
     turn a.significand a.exponent c.requires l.radicand l.shift l.invariant c.loop-radicand-test.true
     (shift-left a.significand a.exponent c.requires l.radicand l.shift l.invariant c.loop-radicand-test.true)
-
-pub returns : goal.returns
-returns c =
-    let l = c.loop-radicand in
-    done c.args.significand c.args.exponent c.requires l.radicand l.shift l.invariant c.loop-radicand-test.false

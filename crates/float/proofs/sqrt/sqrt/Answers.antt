@@ -1,5 +1,5 @@
 -- The root by what `decode` makes of the value: NaN, infinite, zero, negative, positive. Assumes nothing.
-use Rattle.std.proofs.Common.{◌∙◌, subst, arith}
+use Rattle.std.proofs.Common.{◌∙◌, subst}
 use Rattle.float.specs.Decode.{IsDecoded}
 use Rattle.float.proofs.RootCases.{finite-negative, finite-positive, finite-zero, root-infinite, root-minus-infinite, root-nan}
 use Rattle.float.proofs.Values.{finite}
@@ -27,11 +27,6 @@ pub returns-then-negative-2 : goal.returns-then-negative-2
 returns-then-negative-2 c =
     let parts = finite c.args.x c.decode.ensures c.in-Finite.is in
     finite-negative parts c.if-significand-eq0.false c.if-negative-2.true c.from_bits-then-negative-2.ensures
-
-pub positive_root-requires : goal.positive_root-requires
-positive_root-requires c =
-    let parts = finite c.args.x c.decode.ensures c.in-Finite.is in
-    omega (arith, parts.short, parts.near)
 
 pub returns-else-negative-2 : goal.returns-else-negative-2
 returns-else-negative-2 c =

@@ -1,5 +1,4 @@
 -- The whole number, by what `decode` makes of the value and by its exponent. Assumes nothing.
-use Rattle.std.proofs.Common.{arith}
 use Rattle.float.proofs.Values.{finite, whole-finite, whole-infinite, whole-large, whole_nan}
 use Rattle.float.proofs.whole.to_whole.Goals as goal
 
@@ -9,11 +8,6 @@ returns-in-NotANumber c = whole_nan c.args.x c.decode.ensures c.args.rounding c.
 pub returns-in-Infinite : goal.returns-in-Infinite
 returns-in-Infinite c =
     whole-infinite c.args.x c.decode.ensures c.args.rounding c.args.max c.in-Infinite.field-0 c.in-Infinite.is
-
-pub whole_size-requires : goal.whole_size-requires
-whole_size-requires c =
-    let parts = finite c.args.x c.decode.ensures c.in-Finite.is in
-    omega (arith, parts.short)
 
 pub returns-then-exponent-lt-LARGE : goal.returns-then-exponent-lt-LARGE
 returns-then-exponent-lt-LARGE c =
