@@ -1,7 +1,6 @@
 -- The registers and the stack's bytes over the area are the bytes of the state with that process gone on.
 use mathlib.Core.Path.{refl}
 use native.Mathlib.Omega.{arith}
-use borrow.Author.Rules.{rules}
 use Rattle.machine.proofs.Bytes.Area.{kernel-encode-decode}
 use Rattle.process.proofs.Advancing.{went-on-bytes}
 use Rattle.process.proofs.advance.go_on.Goals as goal

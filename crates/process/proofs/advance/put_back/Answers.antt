@@ -1,7 +1,7 @@
 -- The record's bytes over the area are the bytes of the state with that process.
+use borrow.Author.Rules.{rules}
 use mathlib.Core.Path.{sym, ◌∙◌}
 use native.Mathlib.Omega.{arith}
-use borrow.Author.Rules.{rules}
 use Rattle.machine.proofs.Bytes.Area.{kernel-encode-decode}
 use Rattle.machine.proofs.Bytes.Sizes.{SizedProcess}
 use Rattle.area.proofs.Writing.{process-written}

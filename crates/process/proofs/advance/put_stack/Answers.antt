@@ -1,7 +1,6 @@
 -- The head is laid above what is kept, behind it the tail, behind that zeros.
 use Prim.Native.Nat.{◌+◌, ◌-◌}
 use native.Mathlib.Omega.{arith}
-use borrow.Author.Rules.{rules}
 use lib.ListN.{length}
 use Rattle.buffer.specs.Buffer.{zeros}
 use Rattle.machine.specs.Area.{stackAt}
@@ -17,5 +16,5 @@ returns c =
     let middle = a.kept + length a.head.now in
     let sp = middle + length a.tail.now in
     three-laid a.area.now a.head.now a.tail.now (zeros (stackSize - sp)) (bottom + a.kept) (bottom + middle) (bottom + sp)
-    (omega arith) (omega arith) (omega arith) c.overwrite_at.last.0 c.overwrite_at-2.last.0 c.zero_at.new.0
+    (omega arith) (omega arith) (omega arith) c.overwrite_at.new.dst c.overwrite_at-2.new.dst c.zero_at.new.dst
     c.overwrite_at.ensures c.overwrite_at-2.ensures c.zero_at.ensures
