@@ -1,13 +1,14 @@
 -- What is done for slot after slot: what is printed so far, and what the slots that are left still do. A round goes through the ten slots,
 -- a share through the turns of one.
-use Prim.Native.Nat.{ℕ, ◌+◌, ◌*◌, ◌≤◌, ◌<◌}
+use Prim.Native.Nat.{ℕ, ◌+◌, ◌-◌, ◌*◌, ◌≤◌, ◌<◌}
 use mathlib.Core.Path.{◌≡◌, refl, sym, ap, subst⁻¹, ◌∙◌}
 use mathlib.Core.List.{List, [], ◌∷◌, ◌++◌, append_assoc, append-nil}
 use native.Mathlib.Nat.{add-mul, mul-le-mul_right, zero-add}
 use native.Mathlib.Numerals.{add-one}
 use native.Mathlib.Omega.{arith}
-use lib.ListN.{length, drop, get_or, take, drop_of_length-le, length-append}
-use lib.Seq.{drop-cons, drop-drop, paste-zero}
+use borrow.Rule.Slice.PartMut.{Post-is, put_mid}
+use lib.ListN.{length, drop, get_or, take, drop_of_length-le, length-append, length-drop}
+use lib.Seq.{drop-cons, drop-drop, paste-zero, take_all}
 use Rattle.buffer.specs.Buffer.{overwrite}
 use Rattle.buffer.proofs.Buffer.{overwrite-joined, overwrite-length}
 use Rattle.machine.specs.Area.{AreBytes, Whole, kernelBytes, kernelOf}
@@ -145,6 +146,17 @@ module _ {each : Kernel → ℕ → ℕ → List ℕ → Turned} {n : ℕ} {l : 
                 out = sym (append_assoc g.text t.out rest.out) z;
               });
         }
+
+    -- the same, of the rest of the output as it is lent and written back
+    pub going_on : (m : ℕ) (disc' area' part : List ℕ)
+        → turnLeft m disc' area' part ≡ turnLeftBy t (take (length out - printed) (drop printed out))
+        → Going each n l k₀ clock disc₀ out₀ (i + 1) (printed + m) disc' area' (put_mid printed (length out - printed) out part)
+    going_on m disc' area' part left =
+        let room = out-room low in
+        going_next m disc' area' part _ _ left (take_all (length out - printed) (drop printed out) (simp length-drop (omega arith)))
+        (ap (λ (r : List ℕ). take printed out ++ (part ++ r))
+        (Post-is printed (length out) out (omega arith) ∙ drop_of_length-le out {i = length out} (omega arith))
+        ∙ ap (λ (r : List ℕ). take printed out ++ r) (append-nil part))
 
   -- ---- behind the last slot
   pub going-all : length l ≤ i → turnLeft printed disc area out ≡ turnLeftBy (inOrder each l k₀ clock disc₀) out₀

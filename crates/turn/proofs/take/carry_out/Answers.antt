@@ -5,7 +5,6 @@ use mathlib.Core.List.{List, [], ◌++◌, append-nil}
 use native.Mathlib.Omega.{arith}
 use borrow.Author.Rules.{rules}
 use lib.ListN.{length, take}
-use lib.Seq.{length-take-le}
 use Rattle.machine.specs.Area.{kernelBytes, kernelOf}
 use Rattle.machine.specs.Effect.{Effect, asks, awaits}
 use Rattle.machine.specs.Limits.{stackSize}
@@ -17,65 +16,54 @@ use Rattle.machine.specs.declared.Process.{Process}
 use Rattle.process.specs.Stepping.{Left, left, leftBy, pushing, stack_of}
 use Rattle.process.proofs.Advancing.{may-go-on, may-keep, own-keeping, own-pushing}
 use Rattle.stack.specs.Steps.{about, effectBy, effect_of, keeping, placed}
+use Rattle.stack.specs.declared.Step.{Step}
 use Rattle.stack.specs.declared.Action.{Action}
 use Rattle.stack.specs.declared.Action.TheVariants.{Await}
-use Rattle.turn.specs.Turns.{Bounds}
+use Rattle.request.proofs.Answering.{about-length}
+use Rattle.turn.specs.Turns.{Bounds, Carries}
 use Rattle.turn.proofs.take.carry_out.Goals as goal
 
 -- ---- what an action's effect leaves
-module _ (s : tie.Start) where
-  abbrev p : Process
-  p = s.args.p
-
+module _ {disc area : List ℕ} {slot : ℕ} {p : Process} {d : Step} (s : Carries disc area slot p d) where
   abbrev own : Process
-  own = processAt (kernelOf (area s)) s.args.slot
+  own = processAt (kernelOf area) slot
 
   abbrev does : Effect → Left
-  does e = leftBy (carriedOut (kernelOf (area s)) s.args.slot (disc s) e)
+  does e = leftBy (carriedOut (kernelOf area) slot disc e)
 
   abbrev effect : Action → Effect
-  effect a = effectBy a (stack_of p) (about s.args.d) (keeping (stack_of p) s.args.d)
+  effect a = effectBy a (stack_of p) (about d) (keeping (stack_of p) d)
 
   -- the step's effect is that of the action it is told to be
-  done-as : {a : Action} {after : Left} → s.args.d.action ≡ a → after ≡ does (effect a)
-      → after ≡ does (effect_of (stack_of p) s.args.d)
+  done-as : {a : Action} {after : Left} → d.action ≡ a → after ≡ does (effect a) → after ≡ does (effect_of (stack_of p) d)
   done-as told h = h ∙ ap (λ (a : Action). does (effect a)) (sym told)
 
-  bounds : {a : Action} → s.args.d.action ≡ a → Bounds a p s.args.d
-  bounds told = subst (λ (a : Action). Bounds a p s.args.d) told s.pre.bounds
+  bounds : {a : Action} → d.action ≡ a → Bounds a p d
+  bounds told = subst (λ (a : Action). Bounds a p d) told s.bounds
 
   -- the process of its slot, gone on with the file that it has
-  went_on : {after : List ℕ} {l m : Local}
-      → after ≡ kernelBytes (withProcess (kernelOf (area s)) s.args.slot (withFile (withLocal own l) p.file)) → l ≡ m
-      → left (disc s) after ≡ left (disc s) (kernelBytes (withProcess (kernelOf (area s)) s.args.slot (withLocal own m)))
+  went_on : {after : List ℕ} {l m : Local} → after ≡ kernelBytes (withProcess (kernelOf area) slot (withFile (withLocal own l) p.file)) → l ≡ m
+      → left disc after ≡ left disc (kernelBytes (withProcess (kernelOf area) slot (withLocal own m)))
   went_on h e =
-      let same = s.pre.stepping.own in
-      ap (left (disc s))
-      (h ∙ λ t. kernelBytes (withProcess (kernelOf (area s)) s.args.slot (withFile (withLocal own (e t)) (same t).file)))
+      let same = s.stepping.own in
+      ap (left disc) (h ∙ λ t. kernelBytes (withProcess (kernelOf area) slot (withFile (withLocal own (e t)) (same t).file)))
+
+  -- the bytes pushed above what the step keeps
+  pushes : pushing own d.kept d.pc d.loopstart (about d) [] ≡ placed (take d.kept (stack_of p) ++ about d) d.pc d.loopstart
+  pushes =
+      own-pushing s.stepping d.kept d.pc d.loopstart (about d) []
+      ∙ ap (λ (l : List ℕ). placed l d.pc d.loopstart) (append-nil (take d.kept (stack_of p) ++ about d))
 
   -- a wait stays in the state that its process has
-  stays : {after : Left} (id : Number) → Bounds (Await id) p s.args.d
-      → after ≡ does (asks (awaits id (localOf p) (keeping (stack_of p) s.args.d))) → after ≡ does (effect (Await id))
-  stays id b h = h ∙ ap (λ (l : Local). does (asks (awaits id l (keeping (stack_of p) s.args.d)))) (sym b)
-
-  bytes-size : length s.args.d.bytes ≡ stackSize
-  bytes-size = search rules
-
-  about-size : length (about s.args.d) ≡ s.args.d.len
-  about-size = let h = bytes-size in length-take-le s.args.d.len s.args.d.bytes (omega (arith, s.pre.stepping.len))
+  stays : {after : Left} (id : Number) → Bounds (Await id) p d → after ≡ does (asks (awaits id (localOf p) (keeping (stack_of p) d)))
+      → after ≡ does (effect (Await id))
+  stays id b h = h ∙ ap (λ (l : Local). does (asks (awaits id l (keeping (stack_of p) d)))) (sym b)
 
 -- ---- Push
-pub slice_bounds-bytes-end : goal.slice_bounds-bytes-end
-slice_bounds-bytes-end c =
-    let h = bytes-size c in
-    omega (arith, c.requires.stepping.len)
-
-pub slice_bounds-pushed-end : goal.slice_bounds-pushed-end
-slice_bounds-pushed-end c = sym (about-size c)
-
 pub go_on-requires : goal.go_on-requires
 go_on-requires c =
-    may-go-on c.requires.stepping (length (about c.args.d) + 0) (omega (arith, about-size c, bounds c c.in-Push.is))
+    let size : length c.args.d.bytes ≡ stackSize = search rules in
+    may-go-on c.requires.stepping (length (about c.args.d) + 0) (omega (arith, about-length c.requires.stepping size, bounds c.requires c.in-Push.is))
 
 pub go_on-requires-in-Print : goal.go_on-requires-in-Print
 go_on-requires-in-Print c = may-keep c.requires.stepping
@@ -86,77 +74,71 @@ go_on-requires-in-Close c = may-keep c.requires.stepping
 pub returns-in-Push : goal.returns-in-Push
 unfolding carriedOut
 returns-in-Push c =
-    let pushes : let d = c.args.d in
-    pushing (own c) d.kept d.pc d.loopstart (about d) []
-    ≡ placed (take d.kept (stack_of (p c)) ++ about d) d.pc d.loopstart =
-        let d = c.args.d in
-    own-pushing c.requires.stepping d.kept d.pc d.loopstart (about d) []
-    ∙ ap (λ (l : List ℕ). placed l d.pc d.loopstart) (append-nil (take d.kept (stack_of (p c)) ++ about d)) in
-    done-as c c.in-Push.is (went_on c c.go_on.ensures pushes)
+    done-as c.requires c.in-Push.is (went_on c.requires c.go_on.ensures (pushes c.requires))
 
 pub returns-in-Print : goal.returns-in-Print
 unfolding carriedOut
 returns-in-Print c =
-    done-as c c.in-Print.is (went_on c c.go_on-in-Print.ensures (own-keeping c.requires.stepping))
+    done-as c.requires c.in-Print.is (went_on c.requires c.go_on-in-Print.ensures (own-keeping c.requires.stepping))
 
 -- ---- SET
 pub set_variable-requires : goal.set_variable-requires
 set_variable-requires c =
-    (c.requires.stepping, bounds c c.in-Assign.is)
+    (c.requires.stepping, bounds c.requires c.in-Assign.is)
 
 pub returns-in-Assign : goal.returns-in-Assign
 unfolding carriedOut
 returns-in-Assign c =
-    done-as c c.in-Assign.is (c.set_variable.ensures c.args.disc.now)
+    done-as c.requires c.in-Assign.is (c.set_variable.ensures c.args.disc.now)
 
 -- ---- the ends
 pub returns-in-Stop : goal.returns-in-Stop
 unfolding carriedOut
 returns-in-Stop c =
-    done-as c c.in-Stop.is (ap (left c.args.disc.now) c.finish.ensures)
+    done-as c.requires c.in-Stop.is (ap (left c.args.disc.now) c.finish.ensures)
 
 pub returns-in-Fault : goal.returns-in-Fault
 unfolding carriedOut
 returns-in-Fault c =
-    done-as c c.in-Fault.is (ap (left c.args.disc.now) c.finish-in-Fault.ensures)
+    done-as c.requires c.in-Fault.is (ap (left c.args.disc.now) c.finish-in-Fault.ensures)
 
 -- ---- what reaches beyond the process
 pub returns-in-Open : goal.returns-in-Open
 unfolding carriedOut
 returns-in-Open c =
-    done-as c c.in-Open.is c.open_file.ensures
+    done-as c.requires c.in-Open.is c.open_file.ensures
 
 pub returns-in-Close : goal.returns-in-Close
 unfolding carriedOut answered
 returns-in-Close c =
-    done-as c c.in-Close.is (went_on c c.go_on-in-Close.ensures (own-keeping c.requires.stepping))
+    done-as c.requires c.in-Close.is (went_on c.requires c.go_on-in-Close.ensures (own-keeping c.requires.stepping))
 
 pub returns-in-Write : goal.returns-in-Write
 unfolding carriedOut
 returns-in-Write c =
-    done-as c c.in-Write.is c.write_file.ensures
+    done-as c.requires c.in-Write.is c.write_file.ensures
 
 pub returns-in-Read : goal.returns-in-Read
 unfolding carriedOut
 returns-in-Read c =
-    done-as c c.in-Read.is c.read_number.ensures
+    done-as c.requires c.in-Read.is c.read_number.ensures
 
 pub returns-in-ReadString : goal.returns-in-ReadString
 unfolding carriedOut
 returns-in-ReadString c =
-    done-as c c.in-ReadString.is c.read_string.ensures
+    done-as c.requires c.in-ReadString.is c.read_string.ensures
 
 pub fork-requires : goal.fork-requires
 fork-requires c =
-    (c.requires.stepping, c.requires.readable, bounds c c.in-Fork.is, c.requires.next)
+    (c.requires.stepping, c.requires.readable, bounds c.requires c.in-Fork.is, c.requires.next)
 
 pub returns-in-Fork : goal.returns-in-Fork
 unfolding carriedOut
 returns-in-Fork c =
-    done-as c c.in-Fork.is c.fork.ensures
+    done-as c.requires c.in-Fork.is c.fork.ensures
 
 pub returns-in-Await : goal.returns-in-Await
 unfolding carriedOut
 returns-in-Await c =
     let own = c.in-Await.is in
-    done-as c own (stays c c.in-Await.id (bounds c own) (c.wait.ensures c.args.disc.now))
+    done-as c.requires own (stays c.requires c.in-Await.id (bounds c.requires own) (c.wait.ensures c.args.disc.now))
