@@ -5,6 +5,7 @@ ghost use Rattle.machine.specs.Instruction.{find, instructionOf, others};
 use machine::instruction::{Instruction, Reach};
 use operator::operators::Operator;
 
+#[tactic(auto, unfolding(machine::specs::Instruction::find))]
 fn other(n: u8) -> Instruction
     ensures { result ≡ find n others }
 {

@@ -1,7 +1,6 @@
 -- By the number of operands.
 use Rattle.machine.specs.Effect.{operates}
 use Rattle.stack.proofs.Steps.{last-means}
-use borrow.Author.Rules.{rules}
 use Rattle.evaluation.proofs.operate.operate.Goals as goal
 
 pub returns-in-OfOne : goal.returns-in-OfOne

@@ -4,7 +4,6 @@ use Rattle.machine.specs.Effect.{operates}
 use Rattle.operator.specs.Unary.{unary}
 use Rattle.operator.specs.declared.operators.Operator.TheVariants.{OfOne}
 use Rattle.evaluation.proofs.Operands.{behind, one-operand}
-use borrow.Author.Rules.{rules}
 use Rattle.evaluation.proofs.operate.operate_one.Goals as goal
 
 pub returns : goal.returns

@@ -4,7 +4,6 @@ use Rattle.machine.specs.Effect.{operates}
 use Rattle.operator.specs.Binary.{binary}
 use Rattle.operator.specs.declared.operators.Operator.TheVariants.{OfTwo}
 use Rattle.evaluation.proofs.Operands.{behind, two_operands}
-use borrow.Author.Rules.{rules}
 use Rattle.evaluation.proofs.operate.operate_two.Goals as goal
 
 pub next_operand-x-requires : goal.next_operand-x-requires

@@ -1,11 +1,11 @@
 -- y comes off first.
-use mathlib.Core.Path.{ap₂, ◌∙◌}
+use Rattle.std.proofs.Common.{◌∙◌}
+use mathlib.Core.Path.{ap₂}
 use Rattle.machine.specs.Effect.{operates}
 use Rattle.operator.specs.declared.operators.Operator.TheVariants.{Scale}
 use Rattle.operator.specs.declared.operators.Scaling.TheVariants.{Power}
 use Rattle.scaling.specs.Power.{power}
 use Rattle.evaluation.proofs.Operands.{behind, two_operands}
-use borrow.Author.Rules.{rules}
 use Rattle.evaluation.proofs.operate.power.Goals as goal
 
 pub next_operand-x-requires : goal.next_operand-x-requires
@@ -21,5 +21,5 @@ returns c =
     let y = c.top_operand-y in
     let a = c.args in
     two_operands a.stack.now (Scale Power) (behind a.code.now a.stack.now a.loopstart a.at) y.result
-    x.result y.ensures.0 x.ensures.0 (power)
-    (c.power_of-answer.ensures ∙ ap₂ (power) c.number_in.ensures c.number_in-2.ensures) c.push_answer.ensures
+    x.result y.ensures.0 x.ensures.0 power
+    (c.power_of-answer.ensures ∙ ap₂ power c.number_in.ensures c.number_in-2.ensures) c.push_answer.ensures

@@ -5,7 +5,6 @@ use lib.ListN.{length}
 use Rattle.stack.specs.Tops.{bytesBelow}
 use Rattle.stack.specs.declared.TopNumber.{TopNumber}
 use Rattle.stack.proofs.Steps.{last-means}
-use borrow.Author.Rules.{rules}
 use Rattle.evaluation.proofs.operate.push_answer.Goals as goal
 
 pub push_outcome-requires : goal.push_outcome-requires
@@ -20,5 +19,4 @@ pub returns-in-Is : goal.returns-in-Is
 returns-in-Is c = rw c.in-Is.is c.push_outcome.ensures
 
 pub returns-in-NoNumber : goal.returns-in-NoNumber
-returns-in-NoNumber c =
-    rw c.in-NoNumber.is (last-means c.args.stack.now c.last_step.ensures)
+returns-in-NoNumber c = rw c.in-NoNumber.is (last-means c.args.stack.now c.last_step.ensures)

@@ -1,5 +1,4 @@
 -- By the operator.
-use borrow.Author.Rules.{rules}
 use Rattle.evaluation.proofs.operate.scale.Goals as goal
 
 pub returns-in-Constrain : goal.returns-in-Constrain

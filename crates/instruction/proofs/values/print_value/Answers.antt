@@ -1,5 +1,5 @@
 -- A string's text, or a number's.
-use Rattle.std.proofs.Common.{ℕ, ◌≤◌, ◌≡◌, length, take, drop, refl, sym, ap, ◌∙◌, arith, length-take}
+use Rattle.std.proofs.Common.{◌≤◌, ◌≡◌, length, take, drop, refl, sym, ap, ◌∙◌, arith, length-take}
 use lib.Seq.{length-take-le, take_at}
 use borrow.Author.Tests.{eq-eqb, ne_eqb}
 use Rattle.number.specs.Text.{laid, text_of, zeros}

@@ -2,7 +2,5 @@
 use mathlib.Core.List.{append-nil}
 use Rattle.stack.proofs.ends.go.Goals as goal
 
--- Nothing is pushed.
-
 pub returns : goal.returns
 returns c = simp append-nil at c.push_bytes.ensures

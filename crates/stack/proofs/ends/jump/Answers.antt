@@ -2,7 +2,5 @@
 use lib.Seq.{take-length}
 use Rattle.stack.proofs.ends.jump.Goals as goal
 
--- The whole stack is kept.
-
 pub returns : goal.returns
 returns c = rw take-length at c.go.ensures

@@ -1,35 +1,34 @@
 -- Head and tail, laid one behind the other over zeros, are the bytes of the step.
-use mathlib.Core.Path.{◌≡◌, sym, ap, ◌∙◌}
-use mathlib.Core.List.{List, ◌++◌}
-use Prim.Native.Nat.{ℕ, ◌-◌}
+use Rattle.std.proofs.Common.{ℕ, ◌+◌, ◌-◌, ◌≤◌, ◌≡◌, List, ◌++◌, length, replicate, sym, ap, ◌∙◌, arith, length-append}
+use lib.ListN.{length-replicate}
 use native.Mathlib.Nat.{zero-add}
-use native.Mathlib.Omega.{arith}
-use lib.ListN.{length, replicate, length-append, length-replicate}
 use Rattle.buffer.specs.Buffer.{overwrite}
 use Rattle.buffer.proofs.Buffer.{overwrite-joined, overwrite-zeros}
 use Rattle.machine.specs.Limits.{stackSize}
 use Rattle.stack.proofs.ends.with_bytes.Goals as goal
 
+-- two parts laid over the zeros of a whole stack
+laid : (head tail : List ℕ) → length head + length tail ≤ stackSize → {first second : List ℕ}
+    → first ≡ overwrite (replicate stackSize 0) 0 head → second ≡ overwrite first (length head) tail
+    → second ≡ head ++ tail ++ replicate (stackSize - length (head ++ tail)) 0
+laid head tail fits x y =
+    y
+    ∙ ap (λ (l : List ℕ). overwrite l (length head) tail) x
+    ∙ overwrite-joined (replicate stackSize 0) head tail 0 (length head) (sym (zero-add (length head)))
+    (rw (length-replicate {A = ℕ} stackSize 0) (omega arith))
+    ∙ overwrite-zeros (head ++ tail) stackSize
+
 pub returns : goal.returns
 returns c =
-    let laid : let a = c.args in
-    c.overwrite_at-2.new.dst ≡ a.head.now ++ a.tail.now ++ replicate (stackSize - length (a.head.now ++ a.tail.now)) 0 =
-        let a = c.args in
-    let s = a.head.now in
-    let t = a.tail.now in
-    c.overwrite_at-2.ensures
-    ∙ ap (λ (l : List ℕ). overwrite l (length s) t) c.overwrite_at.ensures
-    ∙ overwrite-joined (replicate stackSize 0) s t 0 (length s) (sym (zero-add (length s)))
-    (rw (length-replicate {A = ℕ} stackSize 0) (omega (arith, c.requires)))
-    ∙ overwrite-zeros (s ++ t) stackSize in
-    let a = c.args in (
+    let a = c.args in
+    let bytes = laid a.head.now a.tail.now c.requires.1 c.overwrite_at.ensures c.overwrite_at-2.ensures in (
       λ t. record {
         action = a.action;
         kept = a.kept;
-        bytes = laid t;
+        bytes = bytes t;
         len = sym (length-append a.head.now a.tail.now) t;
         pc = a.pc;
         loopstart = a.loopstart;
       },
-      omega (arith, c.requires),
+      omega (arith, c.requires.1),
     )

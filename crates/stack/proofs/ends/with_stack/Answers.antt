@@ -2,7 +2,5 @@
 use lib.Seq.{take-length}
 use Rattle.stack.proofs.ends.with_stack.Goals as goal
 
--- No bytes, and the whole stack is kept.
-
 pub returns : goal.returns
-returns c = rw (take-length) at c.with_part.ensures
+returns c = rw take-length at c.with_part.ensures

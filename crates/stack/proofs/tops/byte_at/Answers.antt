@@ -4,8 +4,5 @@ use mathlib.Core.Path.{sym}
 use native.Mathlib.Omega.{arith}
 use Rattle.stack.proofs.tops.byte_at.Goals as goal
 
--- Past the end a list has zeros.
-
 pub returns : goal.returns
-returns c = let a = c.args in
-    sym (get_or-eq_default a.bytes.now 0 {n = a.i} (omega arith))
+returns c = sym (get_or-eq_default c.args.bytes.now 0 {n = c.args.i} (omega arith))

@@ -4,8 +4,6 @@ use mathlib.Core.Path.{◌∙◌}
 use Rattle.number.specs.Value.{number_of}
 use Rattle.stack.proofs.tops.number_of.Goals as goal
 
--- A byte that is missing counts as zero, in the definition as here.
-
 pub returns : goal.returns
 unfolding number_of
 returns c =
