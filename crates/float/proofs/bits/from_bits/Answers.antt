@@ -1,4 +1,4 @@
--- `float::bits::from_bits` meets its contract. Assumes nothing.
+-- A pattern above the infinite one is NaN's, and no other is. Assumes nothing.
 use Rattle.std.proofs.Common.{sym}
 use lib.Ieee.{binary32, div, of_bits}
 use Rattle.float.proofs.Patterns.{high-nan, low-no-nan}

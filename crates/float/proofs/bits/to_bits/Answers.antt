@@ -1,4 +1,4 @@
--- `float::bits::to_bits` meets its contract. Assumes nothing.
+-- NaN alone is unequal to itself, and it has one pattern. Assumes nothing.
 use Rattle.std.proofs.Common.{sym, ap, ◌∙◌}
 use lib.Ieee.{binary32, to_bits}
 use Rattle.float.proofs.Patterns.{equal_no_nan, nan_pattern, unequal-nan}

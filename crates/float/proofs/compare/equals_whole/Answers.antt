@@ -1,4 +1,4 @@
--- `float::compare::equals_whole` meets its contract. Assumes nothing.
+-- Both are exact in binary64, where they are compared. Assumes nothing.
 use Rattle.float.proofs.Exactly.{equals-met}
 use Rattle.float.proofs.compare.equals_whole.Goals as goal
 

@@ -1,4 +1,4 @@
--- `float::quotient::cut` meets its contract. Assumes nothing.
+-- A shift by 64 or more leaves no digit. Assumes nothing.
 use Rattle.float.proofs.Fractions.{no-digit-left}
 use Rattle.float.proofs.quotient.cut.Goals as goal
 
