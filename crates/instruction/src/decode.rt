@@ -42,6 +42,7 @@ fn other(n: u8) -> Instruction
 }
 
 // Document 01: "Numbered 1 to 69 by place in appendix C"
+#[tactic(auto, unfolding(machine::specs::Instruction::instructionOf))]
 pub fn instruction(n: u8) -> Instruction
     ensures { result ≡ instructionOf n }
 {

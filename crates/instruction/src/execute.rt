@@ -18,6 +18,7 @@ use stack::ends::last_step;
 use stack::{Action, Step};
 
 // Only GET looks at the work area.
+#[tactic(auto, unfolding(machine::specs::Exec::performs))]
 fn perform(
     code: &[u8],
     stack: &[u8],

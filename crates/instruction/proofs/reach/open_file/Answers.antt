@@ -15,7 +15,8 @@ record Name (stack : List ℕ) (n place len : ℕ) : Type 0 where
   text : part stack place (len - 1) ≡ trimmed (part (take n stack) place len)
   below : take place (take n stack) ≡ take place stack
 
-name_below : (stack : List ℕ) (n kind place len : ℕ) → n ≤ length stack → OnTop AnyString (take n stack) kind place len → Name stack n place len
+name_below : (stack : List ℕ) (n kind place len : ℕ) → n ≤ length stack → OnTop AnyString (take n stack) kind place len
+    → Name stack n place len
 name_below stack n kind place len fits top =
     let text = string-text (take n stack) kind place len top in
     let lent = length-take-le n stack fits in

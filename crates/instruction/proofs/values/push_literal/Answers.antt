@@ -24,7 +24,7 @@ pub returns : goal.returns
 returns c =
     let a = c.args in
     let pushed : ℕ → Effect =
-        λ n. settle a.code.now (At (a.at + 1 + n)) (push a.stack.now a.kind (part a.code.now (a.at + 1) n)) a.loopstart [] in
+    λ n. settle a.code.now (At (a.at + 1 + n)) (push a.stack.now a.kind (part a.code.now (a.at + 1) n)) a.loopstart [] in
     let h : a.at + 1 + a.kind ≤ length a.code.now = omega (arith, c.wide.ensures, c.if-code-to.false) in
     rw (le-leb _ _ h)
     (means-as {e = pushed c.wide.result}

@@ -9,13 +9,17 @@ use Rattle.disc.proofs.Names.{text-with-zero}
 use Rattle.stack.proofs.Steps.{last-means}
 use Rattle.instruction.proofs.values.push_text.Goals as goal
 
--- n bytes of the code from a place are its text
-module _ (code : List ℕ) (from n : ℕ)
-    (known : (n ≤ length (part code from (length code - from))) × (take n (part code from (length code - from)) ≡ trimmed (part code from (length code - from)))) where
+-- the code's n bytes from a place are its text there
+abbrev TextOf : List ℕ → ℕ → ℕ → Type 0
+TextOf code from n =
+    let rest = part code from (length code - from) in
+    (n ≤ length rest) × (take n rest ≡ trimmed rest)
+
+module _ (code : List ℕ) (from n : ℕ) (known : TextOf code from n) where
   measured : length (trimmed (drop from code)) ≡ n
   measured =
       let whole = take_all (length code - from) (drop from code) (omega (arith, length-drop from code)) in
-      let told = rw whole at known in
+      let told : (n ≤ length (drop from code)) × (take n (drop from code) ≡ trimmed (drop from code)) = rw whole at known in
       sym (ap length told.1) ∙ length-take-le n (drop from code) told.0
 
   -- with its zero
@@ -29,7 +33,8 @@ pub returns-then-code-to : goal.returns-then-code-to
 returns-then-code-to c =
     let a = c.args in
     let text = measured a.code.now (a.at + 1) c.text_length.result c.text_length.ensures in
-    let h : length a.code.now < a.at + 1 + (length (trimmed (drop (a.at + 1) a.code.now)) + 1) = omega (arith, text, c.if-code-to.true) in
+    let h : length a.code.now < a.at + 1 + (length (trimmed (drop (a.at + 1) a.code.now)) + 1) =
+    omega (arith, text, c.if-code-to.true) in
     rw (lt-leb _ _ h) (last-means a.stack.now c.last_step.ensures)
 
 pub returns : goal.returns

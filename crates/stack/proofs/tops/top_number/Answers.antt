@@ -38,7 +38,8 @@ returns-in-Lies c =
     let st = c.args.stack.now in
     let v = c.in-Lies in
     let top = value-on-top c.args.types st c.top_value.ensures v.is in (
-      rw top.pops (ap (λ (a : Number). numberAbove a (take v.at st)) (c.number_of.ensures ∙ ap (number_of v.kind) (part-to st v.at v.len))),
+      rw top.pops (ap (λ (a : Number). numberAbove a (take v.at st))
+          (c.number_of.ensures ∙ ap (number_of v.kind) (part-to st v.at v.len))),
       omega (arith, top.inside),
     )
 

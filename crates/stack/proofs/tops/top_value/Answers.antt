@@ -17,24 +17,22 @@ returns-then-not-takes c =
 
 pub returns-then-kind-eq-STRING_KIND : goal.returns-then-kind-eq-STRING_KIND
 unfolding pop
-returns-then-kind-eq-STRING_KIND c =
-    (
-      rw (
-        le-leb 1 (length c.args.stack.now) (omega arith),
-        sym c.takes.ensures ∙ c.if-not-takes.false,
-        eq-eqb _ _ c.if-kind-eq-STRING_KIND.true,
-      ) c.string_on_top.ensures.0,
-      c.string_on_top.ensures.1,
-    )
+returns-then-kind-eq-STRING_KIND c = (
+  rw (
+    le-leb 1 (length c.args.stack.now) (omega arith),
+    sym c.takes.ensures ∙ c.if-not-takes.false,
+    eq-eqb _ _ c.if-kind-eq-STRING_KIND.true,
+  ) c.string_on_top.ensures.0,
+  c.string_on_top.ensures.1,
+)
 
 pub returns : goal.returns
 unfolding pop
-returns c =
-    (
-      rw (
-        le-leb 1 (length c.args.stack.now) (omega arith),
-        sym c.takes.ensures ∙ c.if-not-takes.false,
-        ne_eqb _ _ c.if-kind-eq-STRING_KIND.false,
-      ) c.number_on_top.ensures.0,
-      c.number_on_top.ensures.1,
-    )
+returns c = (
+  rw (
+    le-leb 1 (length c.args.stack.now) (omega arith),
+    sym c.takes.ensures ∙ c.if-not-takes.false,
+    ne_eqb _ _ c.if-kind-eq-STRING_KIND.false,
+  ) c.number_on_top.ensures.0,
+  c.number_on_top.ensures.1,
+)
