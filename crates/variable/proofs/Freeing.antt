@@ -1,5 +1,5 @@
 -- Freeing: the entries that stay close up, zeros behind; memory and the variables of others are as they were.
-use Prim.Native.Nat.{ℕ, ◌+◌, ◌-◌, ◌≤◌}
+use Prim.Native.Nat.{ℕ, ◌-◌, ◌≤◌}
 use mathlib.Core.Path.{◌≡◌, refl, sym, ap, ap₂, ◌∙◌}
 use mathlib.Core.Bool.{Bool, true, false, ◌&&◌, not, and-false, and-true}
 use mathlib.Core.List.{List, [], ◌++◌, map, append_assoc}

@@ -169,4 +169,5 @@ assigned-good live v name id x shaped sized h size owner =
     let r = place-address rest x.size a e in
     added-good live rest (newVariable name id x a) (valueBytes x) (freed-shaped v (is_of name id) (good-variables-is live v h).few shaped)
     r.0 r.1 sized
-    (freed-name-good live v name id h) size owner (rw (freed-counted v (is_of name id)) (keep_all (λ d. not (is_of name id d)) (counted v))))
+    (freed-name-good live v name id h) size owner
+    (rw (freed-counted v (is_of name id)) (keep_all (λ d. not (is_of name id d)) (counted v))))

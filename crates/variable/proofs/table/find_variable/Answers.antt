@@ -1,5 +1,4 @@
 -- The loop stops at the first of that name and owner; behind it there is none.
-use Prim.Native.Nat.{◌-◌}
 use mathlib.Core.Path.{sym}
 use borrow.Author.Count.{below_more}
 use lib.ListN.{get_or}
