@@ -1,5 +1,4 @@
 -- Each turn copies one process more.
-use Prim.Native.Nat.{◌-◌}
 use mathlib.Core.Path.{refl, ◌∙◌}
 use native.Mathlib.Omega.{arith}
 use Rattle.buffer.specs.Lists.{tab}

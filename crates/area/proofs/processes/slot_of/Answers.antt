@@ -1,5 +1,4 @@
 -- The slot where the loop stops is the first live under the ID; behind the loop there is none.
-use Prim.Native.Nat.{◌-◌}
 use mathlib.Core.Path.{sym}
 use native.Mathlib.Omega.{arith}
 use borrow.Author.Count.{below_more}
