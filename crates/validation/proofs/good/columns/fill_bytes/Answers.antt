@@ -1,5 +1,4 @@
 -- Each turn fills one place more with its byte.
-use Prim.Native.Nat.{◌-◌}
 use native.Mathlib.Omega.{arith}
 use Rattle.validation.proofs.Columns.{column-filled, column-next, column-none}
 use Rattle.validation.proofs.good.columns.fill_bytes.Goals as goal

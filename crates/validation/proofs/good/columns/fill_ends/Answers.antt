@@ -1,5 +1,5 @@
 -- Each turn fills one place more with the sum of address and size.
-use Prim.Native.Nat.{ℕ, ◌+◌, ◌*◌, ◌-◌}
+use Prim.Native.Nat.{ℕ, ◌+◌, ◌*◌}
 use mathlib.Core.Path.{ap₂}
 use native.Mathlib.Omega.{arith}
 use Rattle.buffer.proofs.Parts.{part-byte}

@@ -1,5 +1,4 @@
 -- Each turn makes one name more.
-use Prim.Native.Nat.{◌-◌}
 use mathlib.Core.Path.{refl}
 use native.Mathlib.Omega.{arith}
 use Rattle.buffer.specs.Lists.{tab}

@@ -1,5 +1,4 @@
 -- Each turn adds a slot whose ID is new; one that is not new stops the loop.
-use Prim.Native.Nat.{◌-◌}
 use mathlib.Core.Path.{refl, sym, ap, ◌∙◌}
 use native.Mathlib.Omega.{arith}
 use lib.Seq.{take_all}

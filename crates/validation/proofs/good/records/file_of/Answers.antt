@@ -1,5 +1,4 @@
 -- The loop stops at the first that is equal; behind it there is none.
-use Prim.Native.Nat.{◌-◌}
 use native.Mathlib.Omega.{arith}
 use borrow.Author.Count.{below_more}
 use Rattle.validation.proofs.good.records.file_of.Goals as goal

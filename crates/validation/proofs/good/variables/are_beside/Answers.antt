@@ -9,7 +9,8 @@ use Rattle.buffer.specs.Lists.{any, tab}
 use Rattle.buffer.proofs.Fours.{Bytes}
 use Rattle.variable.specs.Limits.{maxVariables}
 use Rattle.validation.specs.Columns.{bytes_of, clash, places, reach}
-use Rattle.validation.proofs.Clashes.{clash-in-columns, clash-next, clash-none, clash-stops, clashBy, endColumn, ownerColumn, reach-enough, startColumn}
+use Rattle.validation.proofs.Clashes.{clash-in-columns, clash-next, clash-none, clash-stops, clashBy, reach-enough}
+use Rattle.validation.proofs.Clashes.{endColumn, ownerColumn, startColumn}
 use Rattle.validation.proofs.good.variables.are_beside.Goals as goal
 
 -- what the test of a turn says of the variables

@@ -1,5 +1,4 @@
 -- Each turn tests one pair more.
-use Prim.Native.Nat.{◌-◌}
 use mathlib.Core.Path.{refl}
 use native.Mathlib.Omega.{arith}
 use Rattle.buffer.proofs.Equivalence.{asked-all, asked-next, asked-none}

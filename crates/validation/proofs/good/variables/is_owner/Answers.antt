@@ -1,5 +1,4 @@
 -- Each turn compares one slot more; ID 0 owns nothing.
-use Prim.Native.Nat.{◌-◌}
 use mathlib.Core.Path.{refl, sym, ap, ◌∙◌}
 use mathlib.Core.Bool.{Bool, ◌&&◌, ◌||◌, not}
 use native.Mathlib.Omega.{arith}
