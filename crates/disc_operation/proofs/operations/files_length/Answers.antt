@@ -1,5 +1,5 @@
 -- Each turn counts the line of one file more.
-use Prim.Native.Nat.{◌+◌, ◌-◌}
+use Prim.Native.Nat.{◌+◌}
 use native.Mathlib.Omega.{arith}
 use Rattle.buffer.proofs.Lines.{counted-all, counted_next, counted_none}
 use Rattle.disc_operation.proofs.Lines.{files-short}

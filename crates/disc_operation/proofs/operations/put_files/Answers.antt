@@ -1,5 +1,4 @@
 -- Each turn writes the line of one file more.
-use Prim.Native.Nat.{◌-◌}
 use native.Mathlib.Omega.{arith}
 use Rattle.buffer.proofs.Lines.{written_all, written_next, written_none, written-room}
 use Rattle.disc_operation.proofs.operations.put_files.Goals as goal
