@@ -17,9 +17,6 @@ use Rattle.operation.proofs.FirstTests.{first-passed, first-refused, first-roomy
 use Rattle.operation.proofs.Lines.{list-short, live-lines}
 use Rattle.operation.proofs.list.list.Goals as goal
 
-passes : (c : goal.In_default) → let a = c.args in Passes a.disc.now a.area.now
-passes c = first-passed _ _ c.check.ensures c.in_default.is
-
 pub returns-in-Unusable : goal.returns-in-Unusable
 unfolding answer otherAnswer
 returns-in-Unusable c = first-refused _ _ c.check.ensures c.in-Unusable.is _ _
@@ -46,7 +43,7 @@ returns c =
     (ap₂ (λ (m : ℕ) (l : List ℕ). answered (Done m) a.disc.now a.area.now l) n c.put_list.ensures.bytes)
 
 pub list_length-requires : goal.list_length-requires
-list_length-requires c = area-size (passes c)
+list_length-requires c = area-size (first-passed _ _ c.check.ensures c.in_default.is)
 
 pub overflow_cast-result : goal.overflow_cast-result
 overflow_cast-result c =

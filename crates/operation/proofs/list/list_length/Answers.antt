@@ -16,7 +16,9 @@ loop-slot-preserved c =
     counted_next _ _ _ c.loop-slot.invariant (omega arith) (ap processOf c.record_at.ensures.0) c.line_length-len.ensures
 
 pub overflow_add-len : goal.overflow_add-len
-overflow_add-len c = omega (arith, (loop-again c).sum, list-short c.args.area.now (c.loop-slot.slot + 1))
+overflow_add-len c =
+    let next = counted_next _ _ _ c.loop-slot.invariant (omega arith) (ap processOf c.record_at.ensures.0) c.line_length-len.ensures in
+    omega (arith, next.sum, list-short c.args.area.now (c.loop-slot.slot + 1))
 
 pub returns : goal.returns
 returns c =

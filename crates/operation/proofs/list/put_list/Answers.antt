@@ -15,10 +15,10 @@ pub put_line-at-requires : goal.put_line-at-requires
 put_line-at-requires c =
     let room : length (lines line_of (processIn c.args.area.now) slotCount) ≤ length c.args.out.now =
         omega (arith, ap length (live-lines c.args.area.now), c.requires.area_in_bounds) in
-    (
-      c.record_at.ensures.1,
-      written-room _ _ _ _ room c.loop-slot.invariant (omega arith) (ap processOf c.record_at.ensures.0),
-    )
+    record {
+      bytes_len = c.record_at.ensures.1;
+      bytes_in_bounds = written-room _ _ _ _ room c.loop-slot.invariant (omega arith) (ap processOf c.record_at.ensures.0);
+    }
 
 pub loop-slot-preserved : goal.loop-slot-preserved
 loop-slot-preserved c =
@@ -32,6 +32,3 @@ returns c =
 
 pub loop-slot-init : goal.loop-slot-init
 loop-slot-init c = written_none _ _ _ _
-
-pub shape_of-out : goal.shape_of-out
-shape_of-out c = c.loop-slot.invariant.size

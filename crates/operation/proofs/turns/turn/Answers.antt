@@ -20,9 +20,6 @@ use Rattle.operation.specs.declared.Answer.TheVariants.{Done}
 use Rattle.operation.proofs.FirstTests.{first-passed, first-refused, first_short}
 use Rattle.operation.proofs.turns.turn.Goals as goal
 
-low : (c : goal.Else-at-ge-SLOT_COUNT) → ltb c.args.slot slotCount ≡ true
-low c = lt-ltb c.args.slot slotCount (omega (arith, c.if-at-ge-SLOT_COUNT.false))
-
 pub returns-in-Unusable : goal.returns-in-Unusable
 unfolding answer
 returns-in-Unusable c = first-refused _ _ c.check.ensures c.in-Unusable.is _ _
@@ -55,8 +52,8 @@ returns-then-not-is_running c =
     low
     (sym c.is_running.ensures ∙ c.if-not-is_running.true))
 
-pub overflow-cast-t27 : goal.overflow-cast-t27
-overflow-cast-t27 c =
+pub overflow_cast-result : goal.overflow_cast-result
+overflow_cast-result c =
     let passes : let a = c.args in Passes a.disc.now a.area.now =
         first-passed _ _ c.check.ensures c.in_default.is in
     let room : leb turnRoom (length c.args.out.now) ≡ true =
@@ -64,7 +61,7 @@ overflow-cast-t27 c =
     let low : ltb c.args.slot slotCount ≡ true =
         lt-ltb c.args.slot slotCount (omega (arith, c.if-at-ge-SLOT_COUNT.false)) in
     let running : let a = c.args in isRunning (processAt (kernelOf a.area.now) a.slot) ≡ true =
-        sym c.is_running.ensures ∙ not-false _ c.if-not-is_running.false in
+        sym c.is_running.ensures ∙ c.if-not-is_running.false in
     let may-turn : let a = c.args in MayTurn (lent a.disc.now a.area.now a.out.now) a.slot =
         record { passes = passes; room = room; low = low; running = running } in
     let a = c.args in
