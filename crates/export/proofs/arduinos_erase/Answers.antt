@@ -2,11 +2,10 @@
 use mathlib.Core.Path.{◌∙◌}
 use borrow.Author.Rules.{rules}
 use mir.Facts.{to_z-of_z}
+use mir.Syntax.{w32}
 use Rattle.export.proofs.Numbered.{numbered}
 use Rattle.export.proofs.arduinos_erase.Goals as goal
 
--- Erase through C: the operation's answer under its number.
-
 pub returns : goal.returns
 returns c out =
-    numbered _ _ _ (to_z-of_z (search rules) ∙ c.number.ensures) (c.erase.ensures out)
+    numbered _ _ _ (to_z-of_z {w = w32} (search rules) ∙ c.number.ensures) (c.erase.ensures out)

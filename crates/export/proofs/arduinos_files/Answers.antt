@@ -2,17 +2,16 @@
 use mathlib.Core.Path.{ap, ◌∙◌}
 use borrow.Author.Rules.{rules}
 use mir.Facts.{to_z-of_z}
+use mir.Syntax.{w32}
 use Rattle.machine.specs.Answer.{answer, onOutput, otherAnswer}
 use Rattle.operation.specs.Answers.{lent}
 use Rattle.store.specs.Answer.{Reported}
 use Rattle.export.proofs.Numbered.{numbered}
 use Rattle.export.proofs.arduinos_files.Goals as goal
 
--- Files through C: the operation's answer under its number.
-
 pub returns : goal.returns
 unfolding answer otherAnswer
 returns c area =
     let a = c.args in
-    numbered _ _ _ (to_z-of_z (search rules) ∙ c.number.ensures)
+    numbered _ _ _ (to_z-of_z {w = w32} (search rules) ∙ c.number.ensures)
     (ap (λ (r : Reported). onOutput r (lent a.disc.now area a.out.now)) c.files.ensures)

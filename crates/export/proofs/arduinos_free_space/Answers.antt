@@ -2,17 +2,16 @@
 use mathlib.Core.Path.{ap, ◌∙◌}
 use borrow.Author.Rules.{rules}
 use mir.Facts.{to_z-of_z}
+use mir.Syntax.{w32}
 use lib.IntN.{ℤ}
 use Rattle.machine.specs.Answer.{answer, otherAnswer}
 use Rattle.export.specs.Returned.{returned}
 use Rattle.export.proofs.Numbered.{numbered}
 use Rattle.export.proofs.arduinos_free_space.Goals as goal
 
--- Free space through C: the operation's answer under its number.
-
 pub returns : goal.returns
 unfolding answer otherAnswer
 returns c area out =
     let a = c.args in
-    numbered _ _ _ (to_z-of_z (search rules) ∙ c.number.ensures)
+    numbered _ _ _ (to_z-of_z {w = w32} (search rules) ∙ c.number.ensures)
     (ap (λ (n : ℤ). returned n a.disc.now area out) c.free_space.ensures)

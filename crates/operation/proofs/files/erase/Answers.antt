@@ -1,19 +1,15 @@
 -- Behind the tests, the file is erased.
-use borrow.Author.Rules.{rules}
 use Rattle.machine.specs.Answer.{answer, otherAnswer}
 use Rattle.operation.proofs.FirstTests.{first_done, first-passed, first-refused}
 use Rattle.operation.proofs.files.erase.Goals as goal
-
--- Behind the tests, the file is erased.
 
 pub returns-in-Unusable : goal.returns-in-Unusable
 unfolding answer otherAnswer
 returns-in-Unusable c out = first-refused _ _ c.check.ensures c.in-Unusable.is out _
 
-pub returns : goal.returns
-unfolding answer otherAnswer
-returns c out =
-    first_done _ _ c.check.ensures c.in_default.is out (c.erase_file.ensures out)
-
 pub erase_file-requires : goal.erase_file-requires
 erase_file-requires c = first-passed _ _ c.check.ensures c.in_default.is
+
+pub returns : goal.returns
+unfolding answer otherAnswer
+returns c out = first_done _ _ c.check.ensures c.in_default.is out (c.erase_file.ensures out)

@@ -1,7 +1,5 @@
 -- The program is started where a slot, its file and an ID are found; else the refusal says what was not.
-use Prim.Native.Nat.{ℕ}
 use mathlib.Core.Path.{◌≡◌, ap, ◌∙◌}
-use mathlib.Core.List.{List}
 use native.Mathlib.Omega.{arith}
 use Rattle.disc.specs.Directory.{entry_at}
 use Rattle.machine.specs.Answer.{run_at}

@@ -2,14 +2,11 @@
 use Prim.Native.Nat.{ℕ}
 use mathlib.Core.Path.{ap}
 use mathlib.Core.List.{List}
-use borrow.Author.Rules.{rules}
 use borrow.Author.Tests.{eq-eqb, ne_eqb}
 use Rattle.machine.specs.Answer.{bootAnswer}
 use Rattle.operation.specs.Answers.{answered}
 use Rattle.operation.specs.declared.Answer.TheVariants.{Done}
 use Rattle.operation.proofs.format.boot.Goals as goal
-
--- An area of the right length is cleared, any other refused.
 
 pub returns-then-area-ne-AREA_LENGTH : goal.returns-then-area-ne-AREA_LENGTH
 unfolding bootAnswer

@@ -3,11 +3,8 @@ use Prim.Native.Nat.{ℕ}
 use mathlib.Core.Path.{ap, ◌∙◌}
 use mathlib.Core.List.{List}
 use lib.ListN.{replicate, set}
-use borrow.Author.Rules.{rules}
 use Rattle.machine.specs.Limits.{next_at}
 use Rattle.operation.proofs.format.clear_area.Goals as goal
-
--- One byte of the zeros is set.
 
 pub returns : goal.returns
 returns c =

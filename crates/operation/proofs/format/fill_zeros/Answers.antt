@@ -1,8 +1,9 @@
-use Prim.Native.Nat.{ℕ, ◌≤◌, ◌-◌}
+-- A zero behind those that are there, until all bytes are zero.
+use Prim.Native.Nat.{ℕ, ◌-◌}
 use mathlib.Core.Path.{◌≡◌, refl, sym, ◌∙◌}
 use native.Mathlib.Numerals.{add-one}
 use native.Mathlib.Omega.{arith}
-use lib.ListN.{length, replicate, take, length-set, replicate-append-replicate}
+use lib.ListN.{length, length-set, replicate-append-replicate}
 use lib.Seq.{take_all, take-suc-set}
 use Rattle.operation.proofs.format.fill_zeros.Goals as goal
 

@@ -4,8 +4,7 @@ use mathlib.Core.Path.{◌≡◌, sym, ap₂, ◌∙◌}
 use mathlib.Core.Bool.{true}
 use mathlib.Core.List.{List}
 use lib.ListN.{length}
-use borrow.Author.Rules.{rules}
-use borrow.Author.Tests.{eq-eqb, ne_eqb, not-false, not-true}
+use borrow.Author.Tests.{eq-eqb, ne_eqb}
 use Rattle.disc.specs.Directory.{isDiscLength}
 use Rattle.machine.specs.Answer.{formatAnswer}
 use Rattle.operation.specs.Answers.{answered}
@@ -19,14 +18,12 @@ returns-then-not-is_disc_length c out = rw (sym c.is_disc_length.ensures ∙ c.i
 pub returns-then-area-ne-AREA_LENGTH : goal.returns-then-area-ne-AREA_LENGTH
 unfolding formatAnswer
 returns-then-area-ne-AREA_LENGTH c out =
-    let disc-long : isDiscLength (length c.args.disc.now) ≡ true =
-        sym c.is_disc_length.ensures ∙ c.if-not-is_disc_length.false in
+    let disc-long : isDiscLength (length c.args.disc.now) ≡ true = sym c.is_disc_length.ensures ∙ c.if-not-is_disc_length.false in
     rw (disc-long, ne_eqb _ _ c.if-area-ne-AREA_LENGTH.true)
 
 pub returns : goal.returns
 unfolding formatAnswer
 returns c out =
-    let disc-long : isDiscLength (length c.args.disc.now) ≡ true =
-        sym c.is_disc_length.ensures ∙ c.if-not-is_disc_length.false in
+    let disc-long : isDiscLength (length c.args.disc.now) ≡ true = sym c.is_disc_length.ensures ∙ c.if-not-is_disc_length.false in
     rw (disc-long, eq-eqb _ _ c.if-area-ne-AREA_LENGTH.false)
     (ap₂ (λ (d a : List ℕ). answered (Done 0) d a out) c.fill_zeros.ensures c.clear_area.ensures)

@@ -1,15 +1,13 @@
 -- Behind the tests, the lines of the live processes, if the output has room.
-use Prim.Native.Nat.{ℕ, ◌<◌}
+use Prim.Native.Nat.{ℕ}
 use mathlib.Core.Path.{◌≡◌, ap, ap₂}
 use mathlib.Core.List.{List}
 use native.Mathlib.Omega.{arith}
-use borrow.Author.Rules.{rules}
 use lib.ListN.{length}
 use Rattle.machine.specs.Answer.{answer, otherAnswer}
 use Rattle.machine.specs.Area.{kernelOf}
 use Rattle.machine.specs.Limits.{slotCount}
 use Rattle.machine.specs.Operations.{listText}
-use Rattle.machine.specs.Refusals.{Passes}
 use Rattle.operation.specs.Answers.{answered}
 use Rattle.operation.specs.declared.Answer.TheVariants.{Done}
 use Rattle.turn.proofs.Passing.{area-size}
@@ -21,6 +19,9 @@ pub returns-in-Unusable : goal.returns-in-Unusable
 unfolding answer otherAnswer
 returns-in-Unusable c = first-refused _ _ c.check.ensures c.in-Unusable.is _ _
 
+pub list_length-requires : goal.list_length-requires
+list_length-requires c = area-size (first-passed _ _ c.check.ensures c.in_default.is)
+
 pub returns-then-out-list_length : goal.returns-then-out-list_length
 unfolding answer otherAnswer
 returns-then-out-list_length c =
@@ -29,25 +30,21 @@ returns-then-out-list_length c =
 
 pub put_list-requires : goal.put_list-requires
 put_list-requires c =
-    let passes : let a = c.args in Passes a.disc.now a.area.now =
-        first-passed _ _ c.check.ensures c.in_default.is in
-    record { area_len = area-size passes; area_in_bounds = omega (arith, c.list_length.ensures) }
+    record {
+      area_len = area-size (first-passed _ _ c.check.ensures c.in_default.is);
+      area_in_bounds = omega (arith, c.list_length.ensures);
+    }
+
+pub overflow_cast-result : goal.overflow_cast-result
+overflow_cast-result c =
+    let area = c.args.area.now in
+    omega (arith, c.put_list.ensures.place, ap length (live-lines area), list-short area slotCount)
 
 pub returns : goal.returns
 unfolding answer otherAnswer
 returns c =
     let a = c.args in
-    let n : c.put_list.result ≡ length (listText (kernelOf c.args.area.now)) = omega (arith, c.put_list.ensures.place) in
-    first-roomy _ _ c.check.ensures c.in_default.is a.out.now (length (listText (kernelOf c.args.area.now))) _
-    (omega (arith, c.list_length.ensures))
+    let text = listText (kernelOf a.area.now) in
+    let n : c.put_list.result ≡ length text = omega (arith, c.put_list.ensures.place) in
+    first-roomy _ _ c.check.ensures c.in_default.is a.out.now (length text) _ (omega (arith, c.list_length.ensures))
     (ap₂ (λ (m : ℕ) (l : List ℕ). answered (Done m) a.disc.now a.area.now l) n c.put_list.ensures.bytes)
-
-pub list_length-requires : goal.list_length-requires
-list_length-requires c = area-size (first-passed _ _ c.check.ensures c.in_default.is)
-
-pub overflow_cast-result : goal.overflow_cast-result
-overflow_cast-result c =
-    let short : c.put_list.result < 65536 =
-        let area = c.args.area.now in
-    omega (arith, c.put_list.ensures.place, ap length (live-lines area), list-short area slotCount) in
-    omega (arith, short)

@@ -1,9 +1,7 @@
 -- Behind the tests, the turns of all slots, if the output has room for them.
 use native.Mathlib.Omega.{arith}
-use borrow.Author.Rules.{rules}
 use Rattle.machine.specs.Answer.{answer}
 use Rattle.machine.specs.Limits.{roundRoom}
-use Rattle.machine.specs.Refusals.{Passes}
 use Rattle.operation.specs.Answers.{answered}
 use Rattle.operation.specs.declared.Answer.TheVariants.{Done}
 use Rattle.operation.proofs.FirstTests.{first-passed, first-refused, first-roomy, first_short}
@@ -18,18 +16,15 @@ unfolding answer
 returns-then-out-lt-ROUND_ROOM c =
     first_short _ _ c.check.ensures c.in_default.is _ roundRoom _ c.if-out-lt-ROUND_ROOM.true
 
+pub take_turns-requires : goal.take_turns-requires
+take_turns-requires c = (first-passed _ _ c.check.ensures c.in_default.is, omega (arith, c.if-out-lt-ROUND_ROOM.false))
+
+pub overflow_cast-result : goal.overflow_cast-result
+overflow_cast-result c = omega (arith, c.take_turns.ensures.1)
+
 pub returns : goal.returns
 unfolding answer
 returns c =
     let left = c.take_turns.ensures.0 in
     first-roomy _ _ c.check.ensures c.in_default.is _ roundRoom _ (omega (arith, c.if-out-lt-ROUND_ROOM.false))
     (λ i. answered (Done (left i).count) (left i).disc (left i).area (left i).out)
-
-pub take_turns-requires : goal.take_turns-requires
-take_turns-requires c =
-    let passes : let a = c.args in Passes a.disc.now a.area.now =
-        first-passed _ _ c.check.ensures c.in_default.is in
-    (passes, omega (arith, c.if-out-lt-ROUND_ROOM.false))
-
-pub overflow_cast-result : goal.overflow_cast-result
-overflow_cast-result c = omega (arith, c.take_turns.ensures.1)

@@ -43,7 +43,8 @@ module _ {area : List ℕ} {slot : ℕ} {d : Step} (s : Stepping area slot (own_
       (keeping (stack_of own) d)
 
   -- what is read
-  module _ {run : Run} {lent : ℕ} {bytes : List ℕ} (r : run ≡ fileRun file) (l : lent ≡ n) (e : bytes ≡ readAt disc run file.offset lent) where
+  module _ {run : Run} {lent : ℕ} {bytes : List ℕ} (r : run ≡ fileRun file) (l : lent ≡ n)
+      (e : bytes ≡ readAt disc run file.offset lent) where
     read-is : bytes ≡ readAt disc (fileRun own.file) own.file.offset n
     read-is = e ∙ (λ i. readAt disc (r i) file.offset (l i)) ∙ ap (λ (f : OpenFile). readAt disc (fileRun f) f.offset n) is
 

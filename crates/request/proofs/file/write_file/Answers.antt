@@ -11,64 +11,40 @@ use Rattle.process.specs.Stepping.{left}
 use Rattle.stack.specs.Steps.{about}
 use Rattle.store.specs.File.{writtenAt}
 use Rattle.process.proofs.Advancing.{may-keep, own-keeping}
-use Rattle.request.specs.Answers.{Ahead}
 use Rattle.request.proofs.Accesses.{ahead, write_granted}
-use Rattle.request.proofs.Answering.{about-inside, about-length, breaks-off, goes_on}
+use Rattle.request.proofs.Answering.{about-length, breaks-off, goes_on}
 use Rattle.request.proofs.file.write_file.Goals as goal
-
-pub slice_bounds-bytes-end : goal.slice_bounds-bytes-end
-slice_bounds-bytes-end c =
-    let size : length c.args.d.bytes ≡ stackSize =
-        search rules in
-    about-inside c.requires.0 (size)
-
-pub slice_bounds-write_at-end : goal.slice_bounds-write_at-end
-slice_bounds-write_at-end c =
-    let size : length c.args.d.bytes ≡ stackSize =
-        search rules in
-    sym (about-length c.requires.0 size)
 
 pub write_at-requires : goal.write_at-requires
 write_at-requires c =
-    let size : length c.args.d.bytes ≡ stackSize =
-        search rules in
-    let inside : let a = c.args in Ahead a.disc.now a.p.file a.d.len =
-        ahead c.args.p.file c.args.d.len c.requires.1 (sym c.access.ensures ∙ c.in-Inside.is) in
+    let a = c.args in
+    let size : length a.d.bytes ≡ stackSize = search rules in
     let n = about-length c.requires.0 size in
-    let h = inside in
+    let h = ahead a.p.file a.d.len c.requires.1 (sym c.in-Inside.ensures) in
     rw c.file_run.ensures (omega arith, h.inside)
 
 pub advanced-requires : goal.advanced-requires
-advanced-requires c =
-    let inside : let a = c.args in Ahead a.disc.now a.p.file a.d.len =
-        ahead c.args.p.file c.args.d.len c.requires.1 (sym c.access.ensures ∙ c.in-Inside.is) in
-    inside.within
+advanced-requires c = (ahead c.args.p.file c.args.d.len c.requires.1 (sym c.in-Inside.ensures)).within
 
 pub go_on-requires : goal.go_on-requires
 go_on-requires c = may-keep c.requires.0
 
 pub returns-in-Inside : goal.returns-in-Inside
 returns-in-Inside c =
-    let size : length c.args.d.bytes ≡ stackSize =
-        search rules in
     let a = c.args in
     let disc = a.disc.now in
-    let e = c.write_at.ensures
-    ∙ ap (λ (r : Run). writtenAt disc r a.p.file.offset (about a.d)) c.file_run.ensures in
+    let size : length a.d.bytes ≡ stackSize = search rules in
+    let e = c.write_at.ensures ∙ ap (λ (r : Run). writtenAt disc r a.p.file.offset (about a.d)) c.file_run.ensures in
     ap (λ (l : List ℕ). left l c.go_on.new.area) e
-    ∙ goes_on c.requires.0 disc (write_granted c.requires.0 disc size (sym c.access.ensures ∙ c.in-Inside.is))
+    ∙ goes_on c.requires.0 disc (write_granted c.requires.0 disc size (sym c.in-Inside.ensures))
     (own-keeping c.requires.0) c.advanced.ensures c.go_on.ensures
 
 pub returns-in-NoFile : goal.returns-in-NoFile
 returns-in-NoFile c =
-    let size : length c.args.d.bytes ≡ stackSize =
-        search rules in
-    breaks-off c.requires.0 _ (write_granted c.requires.0 _ size (sym c.access.ensures ∙ c.in-NoFile.is))
-    c.finish.ensures
+    let size : length c.args.d.bytes ≡ stackSize = search rules in
+    breaks-off c.requires.0 _ (write_granted c.requires.0 _ size (sym c.in-NoFile.ensures)) c.finish.ensures
 
 pub returns-in-PastEnd : goal.returns-in-PastEnd
 returns-in-PastEnd c =
-    let size : length c.args.d.bytes ≡ stackSize =
-        search rules in
-    breaks-off c.requires.0 _ (write_granted c.requires.0 _ size (sym c.access.ensures ∙ c.in-PastEnd.is))
-    c.finish-in-PastEnd.ensures
+    let size : length c.args.d.bytes ≡ stackSize = search rules in
+    breaks-off c.requires.0 _ (write_granted c.requires.0 _ size (sym c.in-PastEnd.ensures)) c.finish-in-PastEnd.ensures

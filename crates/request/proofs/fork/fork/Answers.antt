@@ -1,9 +1,9 @@
 -- FORK: the child's ID is pushed, or 0 where no program starts.
-use Prim.Native.Nat.{ℕ, ◌+◌, ◌≤◌}
+use Prim.Native.Nat.{ℕ}
 use mathlib.Core.Path.{◌≡◌, sym, ap, ◌∙◌}
 use mathlib.Core.List.{List}
 use Rattle.machine.specs.Area.{kernelOf}
-use Rattle.machine.specs.Beyond.{Answered, answered, forked}
+use Rattle.machine.specs.Beyond.{answered, forked}
 use Rattle.machine.specs.Effect.{forks}
 use Rattle.machine.specs.Start.{starting}
 use Rattle.machine.specs.Start.{Starting as StartOf}

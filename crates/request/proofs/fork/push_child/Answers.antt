@@ -15,8 +15,8 @@ use Rattle.request.proofs.Started.{started-said}
 use Rattle.request.proofs.fork.push_child.Goals as goal
 
 -- the area after the child's start, from an entry as it was read
-begun-is : (area : List ℕ) → length area ≡ areaLength → (child : ℕ) {e entry : Entry} {begun : List ℕ} → length e.name ≡ nameSize → e ≡ entry
-    → begun ≡ kernelBytes (started (kernelOf area) child e) → kernelOf begun ≡ started (kernelOf area) child entry
+begun-is : (area : List ℕ) → length area ≡ areaLength → (child : ℕ) {e entry : Entry} {begun : List ℕ} → length e.name ≡ nameSize
+    → e ≡ entry → begun ≡ kernelBytes (started (kernelOf area) child e) → kernelOf begun ≡ started (kernelOf area) child entry
 begun-is area size child {e} named r x =
     started-said area size child e named x ∙ ap (λ (y : Entry). started (kernelOf area) child y) r
 

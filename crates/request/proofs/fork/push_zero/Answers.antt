@@ -1,6 +1,5 @@
 -- The process goes on with an INT 0 pushed.
 use mathlib.Core.Path.{refl}
-use borrow.Author.Rules.{rules}
 use Rattle.machine.specs.Beyond.{pushId}
 use Rattle.process.specs.Stepping.{own_at, stack_of}
 use Rattle.process.proofs.Advancing.{may-go-on}

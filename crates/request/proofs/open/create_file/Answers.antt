@@ -16,7 +16,7 @@ use Rattle.request.proofs.open.create_file.Goals as goal
 pub create-requires : goal.create-requires
 create-requires c =
     let a = c.args in
-    let h = admitted a.disc.now (about a.d) a.n c.in-Start.start (sym c.admit.ensures ∙ c.in-Start.is) in
+    let h = admitted a.disc.now (about a.d) a.n c.in-Start.start (sym c.in-Start.ensures) in
     record {
       readable = c.requires.1;
       disc_bound = (h.few, omega (arith, (good-name-is (about a.d) h.good).short));
@@ -26,7 +26,7 @@ create-requires c =
 pub overflow_cast-start : goal.overflow_cast-start
 overflow_cast-start c =
     let a = c.args in
-    let h = admitted a.disc.now (about a.d) a.n c.in-Start.start (sym c.admit.ensures ∙ c.in-Start.is) in
+    let h = admitted a.disc.now (about a.d) a.n c.in-Start.start (sym c.in-Start.ensures) in
     omega (arith, h.placed.high, c.requires.1.high)
 
 pub returns-in-Start : goal.returns-in-Start
@@ -36,11 +36,11 @@ returns-in-Start c =
         λ x. createdAt (kernelOf a.area.now) a.slot a.disc.now x (about a.d) a.n (keeping (stack_of a.p) a.d) in
     answers c.requires.0 a.disc.now
     (ap (λ (l : List ℕ). left l c.open_run.new.area) c.create.ensures ∙ c.open_run.ensures a.disc.now _)
-    (ap answer (sym c.in-Start.is ∙ c.admit.ensures))
+    (ap answer c.in-Start.ensures)
 
 pub returns-in-Denied : goal.returns-in-Denied
 returns-in-Denied c =
     let a = c.args in
     let answer : Admission → Answered =
         λ x. createdAt (kernelOf a.area.now) a.slot a.disc.now x (about a.d) a.n (keeping (stack_of a.p) a.d) in
-    breaks-off c.requires.0 a.disc.now (ap answer (sym c.admit.ensures ∙ c.in-Denied.is)) c.finish.ensures
+    breaks-off c.requires.0 a.disc.now (ap answer (sym c.in-Denied.ensures)) c.finish.ensures

@@ -1,6 +1,5 @@
 -- The process goes on with nothing pushed.
 use mathlib.Core.Path.{refl}
-use borrow.Author.Rules.{rules}
 use Rattle.process.proofs.Advancing.{may-keep, own-keeping}
 use Rattle.request.proofs.Answering.{goes_on}
 use Rattle.request.proofs.open.open_run.Goals as goal

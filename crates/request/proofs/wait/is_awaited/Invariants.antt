@@ -1,17 +1,10 @@
 -- The loop: whether the number is the ID of a live process in a slot passed.
 use Prim.Native.Nat.{◌-◌}
-use mathlib.Core.Path.{ap, ◌∙◌}
-use native.Mathlib.Omega.{arith}
-use borrow.Author.Rules.{rules}
 use Rattle.area.specs.Parts.{processIn}
-use Rattle.area.proofs.Reading.{process-read}
-use Rattle.buffer.proofs.Equivalence.{Asked, asked-all, asked-next, asked-none}
-use Rattle.machine.specs.Area.{kernelOf}
+use Rattle.buffer.proofs.Equivalence.{Asked}
 use Rattle.machine.specs.Limits.{slotCount}
 use Rattle.request.specs.Answers.{isAwaitedBy}
 use Rattle.request.proofs.wait.is_awaited.Given as goal
-
--- The loop: whether the number is the ID of a live process in a slot passed.
 
 abbrev pub invariant-loop-slot : goal.invariant-loop-slot
 invariant-loop-slot l = Asked (isAwaitedBy l.id) (processIn l.area) slotCount l.awaited l.slot

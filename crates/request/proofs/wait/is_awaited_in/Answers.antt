@@ -4,8 +4,6 @@ use mir.Facts.{to_z_pos}
 use mir.Syntax.{w32}
 use Rattle.request.proofs.wait.is_awaited_in.Goals as goal
 
--- Running or paused, and the number equals its ID.
-
 pub returns : goal.returns
 returns c =
     let id = c.args.p.id in

@@ -1,7 +1,6 @@
 -- The process stays as it is, or goes on, by whether a live process has the ID.
 use mathlib.Core.Path.{sym, ◌∙◌}
 use native.Mathlib.Omega.{arith}
-use borrow.Author.Rules.{rules}
 use Rattle.machine.specs.State.{localOf}
 use Rattle.process.specs.Stepping.{stack_of}
 use Rattle.stack.specs.Steps.{keeping}

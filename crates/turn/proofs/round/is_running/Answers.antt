@@ -1,13 +1,10 @@
 -- The state byte of the record says whether the process runs.
 use mathlib.Core.Path.{sym, ap, ◌∙◌}
-use borrow.Author.Rules.{rules}
 use lib.Dec.{eqb}
 use lib.ListN.{get_or}
 use Rattle.area.proofs.Reading.{process-read}
 use Rattle.machine.specs.State.{isRunning}
 use Rattle.turn.proofs.round.is_running.Goals as goal
-
--- The state byte of the record says whether the process runs.
 
 pub returns : goal.returns
 returns c =

@@ -1,8 +1,9 @@
 -- Turn after turn of one slot's share, each in the rest of the output.
-use Prim.Native.Nat.{ℕ, ◌+◌, ◌-◌, ◌<◌, ◌≤◌}
+use Prim.Native.Nat.{ℕ, ◌-◌, ◌<◌}
 use mathlib.Core.Path.{ap, ◌∙◌}
 use native.Mathlib.Omega.{arith}
-use lib.ListN.{length, drop, replicate, take, get_or-replicate, length-drop, length-replicate, length-take}
+use borrow.Author.Rules.{rules}
+use lib.ListN.{length, replicate, get_or-replicate, length-drop, length-replicate, length-take}
 use Rattle.machine.specs.Area.{kernelOf}
 use Rattle.machine.specs.Limits.{turnRoom}
 use Rattle.machine.specs.Operations.{inOrder, turnIfRunning}
@@ -25,7 +26,7 @@ loop-taken-init c =
     let n = c.turns_due-due.result in
     let few = due-few a.slot a.clock a.disc.now a.area.now c.requires.0 in
     going-first turnIfRunning turnRoom (replicate n a.slot) a.clock a.disc.now a.area.now a.out.now c.requires.0
-    (λ i. omega arith) (omega (arith, few, c.turns_due-due.ensures, c.requires.2, length-replicate n a.slot))
+    (λ i. search rules) (omega (arith, few, c.turns_due-due.ensures, c.requires.2, length-replicate n a.slot))
 
 pub turn_if_running-printed-requires : goal.turn_if_running-printed-requires
 turn_if_running-printed-requires c =

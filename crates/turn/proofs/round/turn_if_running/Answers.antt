@@ -3,9 +3,10 @@ use mathlib.Core.Path.{◌≡◌, sym, ap, ◌∙◌}
 use mathlib.Core.Bool.{true, false}
 use mathlib.Core.List.{[]}
 use native.Mathlib.Omega.{arith}
+use borrow.Author.Rules.{rules}
 use borrow.Author.Tests.{eq-eqb, ne_eqb}
 use lib.Seq.{paste-zero}
-use Rattle.machine.specs.Area.{Whole, kernelOf}
+use Rattle.machine.specs.Area.{AreBytes, Whole, kernelOf}
 use Rattle.machine.specs.Operations.{turnIfRunning}
 use Rattle.machine.specs.State.{isRunning, processAt}
 use Rattle.machine.proofs.Bytes.Area.{kernel-encode-decode}
@@ -32,5 +33,6 @@ returns c =
     let a = c.args in
     let idle : isRunning (processAt (kernelOf a.area.now) a.slot) ≡ false =
         sym (ap isRunning c.process_at-p.ensures) ∙ ne_eqb _ _ c.if-p-eq-RUNNING.false in
-    let whole : Whole a.area.now = kernel-encode-decode a.area.now (λ i. omega (arith, c.type_inv.area i)) (area-size c.requires.0) in
+    let bytes : AreBytes a.area.now = λ i. search rules in
+    let whole : Whole a.area.now = kernel-encode-decode a.area.now bytes (area-size c.requires.0) in
     rw idle (λ t. turnLeft 0 a.disc.now (sym whole t) (sym (paste-zero a.out.now 0 []) t))

@@ -42,7 +42,8 @@ module _ {disc area : List ℕ} {slot : ℕ} {p : Process} {d : Step} (s : Carri
   bounds told = subst (λ (a : Action). Bounds a p d) told s.bounds
 
   -- the process of its slot, gone on with the file that it has
-  went_on : {after : List ℕ} {l m : Local} → after ≡ kernelBytes (withProcess (kernelOf area) slot (withFile (withLocal own l) p.file)) → l ≡ m
+  went_on : {after : List ℕ} {l m : Local}
+      → after ≡ kernelBytes (withProcess (kernelOf area) slot (withFile (withLocal own l) p.file)) → l ≡ m
       → left disc after ≡ left disc (kernelBytes (withProcess (kernelOf area) slot (withLocal own m)))
   went_on h e =
       let same = s.stepping.own in
@@ -59,83 +60,71 @@ module _ {disc area : List ℕ} {slot : ℕ} {p : Process} {d : Step} (s : Carri
       → after ≡ does (effect (Await id))
   stays id b h = h ∙ ap (λ (l : Local). does (asks (awaits id l (keeping (stack_of p) d)))) (sym b)
 
--- ---- Push
+-- ---- Push and Print
 pub go_on-requires : goal.go_on-requires
 go_on-requires c =
     let size : length c.args.d.bytes ≡ stackSize = search rules in
-    may-go-on c.requires.stepping (length (about c.args.d) + 0) (omega (arith, about-length c.requires.stepping size, bounds c.requires c.in-Push.is))
+    may-go-on c.requires.stepping (length (about c.args.d) + 0)
+    (omega (arith, about-length c.requires.stepping size, bounds c.requires c.in-Push.is))
+
+pub returns-in-Push : goal.returns-in-Push
+unfolding carriedOut
+returns-in-Push c = done-as c.requires c.in-Push.is (went_on c.requires c.go_on.ensures (pushes c.requires))
 
 pub go_on-requires-in-Print : goal.go_on-requires-in-Print
 go_on-requires-in-Print c = may-keep c.requires.stepping
 
-pub go_on-requires-in-Close : goal.go_on-requires-in-Close
-go_on-requires-in-Close c = may-keep c.requires.stepping
-
-pub returns-in-Push : goal.returns-in-Push
-unfolding carriedOut
-returns-in-Push c =
-    done-as c.requires c.in-Push.is (went_on c.requires c.go_on.ensures (pushes c.requires))
-
 pub returns-in-Print : goal.returns-in-Print
 unfolding carriedOut
-returns-in-Print c =
-    done-as c.requires c.in-Print.is (went_on c.requires c.go_on-in-Print.ensures (own-keeping c.requires.stepping))
+returns-in-Print c = done-as c.requires c.in-Print.is (went_on c.requires c.go_on-in-Print.ensures (own-keeping c.requires.stepping))
 
 -- ---- SET
 pub set_variable-requires : goal.set_variable-requires
-set_variable-requires c =
-    (c.requires.stepping, bounds c.requires c.in-Assign.is)
+set_variable-requires c = (c.requires.stepping, bounds c.requires c.in-Assign.is)
 
 pub returns-in-Assign : goal.returns-in-Assign
 unfolding carriedOut
-returns-in-Assign c =
-    done-as c.requires c.in-Assign.is (c.set_variable.ensures c.args.disc.now)
+returns-in-Assign c = done-as c.requires c.in-Assign.is (c.set_variable.ensures c.args.disc.now)
 
 -- ---- the ends
 pub returns-in-Stop : goal.returns-in-Stop
 unfolding carriedOut
-returns-in-Stop c =
-    done-as c.requires c.in-Stop.is (ap (left c.args.disc.now) c.finish.ensures)
+returns-in-Stop c = done-as c.requires c.in-Stop.is (ap (left c.args.disc.now) c.finish.ensures)
 
 pub returns-in-Fault : goal.returns-in-Fault
 unfolding carriedOut
-returns-in-Fault c =
-    done-as c.requires c.in-Fault.is (ap (left c.args.disc.now) c.finish-in-Fault.ensures)
+returns-in-Fault c = done-as c.requires c.in-Fault.is (ap (left c.args.disc.now) c.finish-in-Fault.ensures)
 
 -- ---- what reaches beyond the process
 pub returns-in-Open : goal.returns-in-Open
 unfolding carriedOut
-returns-in-Open c =
-    done-as c.requires c.in-Open.is c.open_file.ensures
+returns-in-Open c = done-as c.requires c.in-Open.is c.open_file.ensures
+
+pub go_on-requires-in-Close : goal.go_on-requires-in-Close
+go_on-requires-in-Close c = may-keep c.requires.stepping
 
 pub returns-in-Close : goal.returns-in-Close
 unfolding carriedOut answered
-returns-in-Close c =
-    done-as c.requires c.in-Close.is (went_on c.requires c.go_on-in-Close.ensures (own-keeping c.requires.stepping))
+returns-in-Close c = done-as c.requires c.in-Close.is (went_on c.requires c.go_on-in-Close.ensures (own-keeping c.requires.stepping))
 
 pub returns-in-Write : goal.returns-in-Write
 unfolding carriedOut
-returns-in-Write c =
-    done-as c.requires c.in-Write.is c.write_file.ensures
+returns-in-Write c = done-as c.requires c.in-Write.is c.write_file.ensures
 
 pub returns-in-Read : goal.returns-in-Read
 unfolding carriedOut
-returns-in-Read c =
-    done-as c.requires c.in-Read.is c.read_number.ensures
+returns-in-Read c = done-as c.requires c.in-Read.is c.read_number.ensures
 
 pub returns-in-ReadString : goal.returns-in-ReadString
 unfolding carriedOut
-returns-in-ReadString c =
-    done-as c.requires c.in-ReadString.is c.read_string.ensures
+returns-in-ReadString c = done-as c.requires c.in-ReadString.is c.read_string.ensures
 
 pub fork-requires : goal.fork-requires
-fork-requires c =
-    (c.requires.stepping, c.requires.readable, bounds c.requires c.in-Fork.is, c.requires.next)
+fork-requires c = (c.requires.stepping, c.requires.readable, bounds c.requires c.in-Fork.is, c.requires.next)
 
 pub returns-in-Fork : goal.returns-in-Fork
 unfolding carriedOut
-returns-in-Fork c =
-    done-as c.requires c.in-Fork.is c.fork.ensures
+returns-in-Fork c = done-as c.requires c.in-Fork.is c.fork.ensures
 
 pub returns-in-Await : goal.returns-in-Await
 unfolding carriedOut
