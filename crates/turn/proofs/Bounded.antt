@@ -162,5 +162,5 @@ module _ (disc area : List ℕ) (passes : Passes disc area) where
         -- the step is the effect of the instruction in that slot
         pub effect_is : Steps disc area clock q d → effect_of (stack_of q) d ≡ effectAt (kernelOf area) slot clock disc
         effect_is =
-            subst⁻¹ (λ (r : Process). Steps disc area clock r d → effect_of (stack_of r) d ≡ effectAt (kernelOf area) slot clock disc) copied
-            (λ m. m.same)
+            subst⁻¹ (λ (r : Process). Steps disc area clock r d → effect_of (stack_of r) d ≡ effectAt (kernelOf area) slot clock disc)
+            copied (λ m. m.same)

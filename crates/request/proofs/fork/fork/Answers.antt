@@ -31,23 +31,23 @@ pub push_child-requires : goal.push_child-requires
 push_child-requires c =
     (own-stepping c.requires.0, own-file c.requires.0, c.requires.2, c.requires.1, c.in-Starts.ensures.1, c.requires.3)
 
-pub push_zero-requires : goal.push_zero-requires
-push_zero-requires c = (own-stepping c.requires.0, own-file c.requires.0, c.requires.2)
-
-pub push_zero-requires-in-NoFile : goal.push_zero-requires-in-NoFile
-push_zero-requires-in-NoFile c = (own-stepping c.requires.0, own-file c.requires.0, c.requires.2)
-
-pub push_zero-requires-in-NoId : goal.push_zero-requires-in-NoId
-push_zero-requires-in-NoId c = (own-stepping c.requires.0, own-file c.requires.0, c.requires.2)
-
 pub returns-in-Starts : goal.returns-in-Starts
 returns-in-Starts c = forks-by c.requires.0 c.args.disc.now c.push_child.ensures c.in-Starts.ensures.0
+
+pub push_zero-requires : goal.push_zero-requires
+push_zero-requires c = (own-stepping c.requires.0, own-file c.requires.0, c.requires.2)
 
 pub returns-in-NoSlot : goal.returns-in-NoSlot
 returns-in-NoSlot c = forks-by c.requires.0 c.args.disc.now (c.push_zero.ensures c.args.disc.now 12) c.in-NoSlot.ensures.0
 
+pub push_zero-requires-in-NoFile : goal.push_zero-requires-in-NoFile
+push_zero-requires-in-NoFile c = (own-stepping c.requires.0, own-file c.requires.0, c.requires.2)
+
 pub returns-in-NoFile : goal.returns-in-NoFile
 returns-in-NoFile c = forks-by c.requires.0 c.args.disc.now (c.push_zero-in-NoFile.ensures c.args.disc.now 10) c.in-NoFile.ensures.0
+
+pub push_zero-requires-in-NoId : goal.push_zero-requires-in-NoId
+push_zero-requires-in-NoId c = (own-stepping c.requires.0, own-file c.requires.0, c.requires.2)
 
 pub returns-in-NoId : goal.returns-in-NoId
 returns-in-NoId c = forks-by c.requires.0 c.args.disc.now (c.push_zero-in-NoId.ensures c.args.disc.now 13) c.in-NoId.ensures.0

@@ -1,5 +1,4 @@
 -- The processes of the slots are read one after the other.
-use Prim.Native.Nat.{◌-◌}
 use mathlib.Core.Path.{ap, ◌∙◌}
 use native.Mathlib.Omega.{arith}
 use Rattle.area.proofs.Reading.{process-read}
