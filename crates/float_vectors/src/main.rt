@@ -1,5 +1,7 @@
 // Reads patterns of FLOAT, four bytes each, and writes a line for each with what the proved functions answer:
 // tools/float_vectors/generate.py says which field is what.
+#![tactic(auto)]
+
 ghost use Rattle.std.specs.Prelude.{◌+◌, ◌≤◌};
 
 use float::bits::{from_bytes, to_bits};
@@ -7,6 +9,8 @@ use float::compare::{equals_whole, is_zero};
 use float::print::{Printed, to_printed};
 use float::sqrt::sqrt;
 use float::whole::{Rounding, Size, Whole, to_size, to_whole};
+use std::io;
+use std::io::Read;
 
 // A line's bytes, its newline the last.
 const LINE: usize = 93;
@@ -23,10 +27,8 @@ fn put(line: &mut [u8; LINE], at: usize, count: usize, value: u64)
     requires { at + count ≤ 93 }
 {
     let mut rest = value;
-    let mut left = count;
-    while left > 0 {
-        left -= 1;
-        line[at + left] = digit(rest);
+    for k in 0..count {
+        line[at + count - 1 - k] = digit(rest);
         rest /= 16;
     }
 }
@@ -34,11 +36,7 @@ fn put(line: &mut [u8; LINE], at: usize, count: usize, value: u64)
 // 32 bits in two's complement, and 2^32 for out of range.
 fn whole_code(w: Whole) -> u64 {
     match w {
-        Whole::Is(z) => if z >= 0 {
-            z as u64
-        } else {
-            0xffff_ffff - ((-1 - z) as u64)
-        },
+        Whole::Is(z) => u64::from(z.cast_unsigned()),
         Whole::OutOfRange => 0x1_0000_0000,
     }
 }
@@ -69,20 +67,16 @@ fn print_amount(p: Printed) -> u64 {
 // A bit for each of WHOLES: whether x equals it.
 fn mask(x: f32) -> u64 {
     let mut bits: u64 = 0;
-    let mut i = 8;
-    while i > 0 {
-        i -= 1;
-        let z = WHOLES[i];
-        bits = bits % 128 * 2;
-        if equals_whole(x, z) {
-            bits += 1;
+    for i in 0..WHOLES.len() {
+        if equals_whole(x, WHOLES[i]) {
+            bits |= 1 << i;
         }
     }
     bits
 }
 
-fn write_line(line: &[u8; LINE]) {
-    io::write_all(1, line);
+fn write_line(rt: &impl Print, line: &[u8; LINE]) -> io::Result<()> {
+    rt.write_all(line)
 }
 
 // The whole numbers that x becomes, each for a type's greatest.
@@ -111,25 +105,24 @@ fn put_others(line: &mut [u8; LINE], x: f32) {
     put(line, 89, 3, size_code(to_size(x, 3935)));
 }
 
-fn show(a: u8, b: u8, c: u8, d: u8) {
+fn show(rt: &impl Print, bytes: [u8; 4]) -> io::Result<()> {
+    let [a, b, c, d] = bytes;
     let x = from_bytes(a, b, c, d);
-    let pattern = (((a as u64) * 256 + (b as u64)) * 256 + (c as u64)) * 256 + (d as u64);
+    let pattern = u64::from(u32::from_be_bytes(bytes));
     let mut line = [b' '; LINE];
     put(&mut line, 0, 8, pattern);
     put_wholes(&mut line, x);
     put_others(&mut line, x);
     line[LINE - 1] = b'\n';
-    write_line(&line);
+    write_line(rt, &line)
 }
 
-fn main() {
-    let mut turns: u32 = 0;
-    while turns < 100000 {
-        let mut pattern = [0u8; 4];
-        if io::read_full(0, &mut pattern) < 4 {
-            return;
-        }
-        show(pattern[0], pattern[1], pattern[2], pattern[3]);
-        turns += 1;
+fn main(rt: HostRuntime) -> io::Result<()> {
+    let mut bytes = Vec::new(rt.alloc());
+    rt.reader().read_to_end(&mut bytes)?;
+    let (patterns, _) = bytes.as_slice().as_chunks::<4>();
+    for pattern in patterns {
+        show(&rt, *pattern)?;
     }
+    Ok(())
 }

@@ -25,46 +25,54 @@
 // Without a share a process has one instruction in a round, so that the rounds are the instructions of slot 0, and what
 // it stays at: two rounds at DELAYUNTIL; none or two at WAITUNTILDONE, by whether the child ends in FORK's round or two
 // later.
+#![tactic(auto)]
+
 mod code;
 mod programs;
 mod show;
 
 use running::MOST_ROUNDS;
+use std::io;
 
-fn main() {
-    show::stacks(b"A.1, two numbers", programs::numbers());
-    show::stacks(b"A.1, a string", programs::hello());
-    show::run(b"A.2", programs::printed(), MOST_ROUNDS);
-    show::run(b"A.3.2", programs::branch(), MOST_ROUNDS);
-    show::run(b"A.3.3, 33 rounds of it", programs::endless(), 33);
-    show::run(b"A.3.4", programs::counted(), MOST_ROUNDS);
-    show::run(b"A.4", programs::blink(), MOST_ROUNDS);
+fn main(rt: HostRuntime) -> io::Result<()> {
+    show::stacks(&rt, b"A.1, two numbers", programs::numbers())?;
+    show::stacks(&rt, b"A.1, a string", programs::hello())?;
+    show::run(&rt, b"A.2", programs::printed(), MOST_ROUNDS)?;
+    show::run(&rt, b"A.3.2", programs::branch(), MOST_ROUNDS)?;
+    show::run(&rt, b"A.3.3, 33 rounds of it", programs::endless(), 33)?;
+    show::run(&rt, b"A.3.4", programs::counted(), MOST_ROUNDS)?;
+    show::run(&rt, b"A.4", programs::blink(), MOST_ROUNDS)?;
     show::run(
+        &rt,
         b"A.4 with prints for pins, 38 rounds of it",
         programs::blink_printed(),
         38,
-    );
-    show::run(b"A.5", programs::written(), MOST_ROUNDS);
-    show::run(b"A.6 as printed", programs::forked(), MOST_ROUNDS);
+    )?;
+    show::run(&rt, b"A.5", programs::written(), MOST_ROUNDS)?;
+    show::run(&rt, b"A.6 as printed", programs::forked(), MOST_ROUNDS)?;
     show::run(
+        &rt,
         b"A.6 with its missing STRING",
         programs::forked_string(),
         MOST_ROUNDS,
-    );
-    show::run(b"Q-3, load lamps", programs::load_lamps(), MOST_ROUNDS);
+    )?;
+    show::run(&rt, b"Q-3, load lamps", programs::load_lamps(), MOST_ROUNDS)?;
     show::run_beside(
+        &rt,
         b"Q-9, A.3.4 with a share of 8 beside A.3.4, 8 rounds of it",
         programs::counted(),
         8,
-    );
+    )?;
     show::run_beside(
+        &rt,
         b"Q-9, A.3.4 with a share of 8 beside A.3.4",
         programs::counted(),
         MOST_ROUNDS,
-    );
+    )?;
     show::run_shared(
+        &rt,
         b"Q-9, A.4 with prints for pins and a share of 8, 13 rounds of it",
         programs::blink_printed(),
         13,
-    );
+    )
 }

@@ -3,6 +3,7 @@ use crate::code::Code;
 use disc::layout::SHORT_DISC;
 use machine::limits::{AREA_LENGTH, MAX_SHARE, RECORDS_AT};
 use running::MOST_ROUNDS;
+use std::io;
 
 // Milliseconds from one round to the next.
 const STEP: u32 = 100;
@@ -22,92 +23,113 @@ fn store_front(disc: &mut [u8], bytes: &[u8], len: usize) {
     }
 }
 
-fn start(title: &[u8], code: Code, disc: &mut [u8], area: &mut [u8; AREA_LENGTH]) {
-    printing::text(title);
-    printing::text(b"\n");
+fn start(
+    rt: &impl Print,
+    title: &[u8],
+    code: Code,
+    disc: &mut [u8],
+    area: &mut [u8; AREA_LENGTH],
+) -> io::Result<()> {
+    printing::text(rt, title)?;
+    println!(rt;)?;
     export::arduinos_format(disc, area);
     let bytes = code.bytes;
     store_front(disc, &bytes, code.len);
     export::arduinos_run(disc, area, b"guide");
+    Ok(())
 }
 
 // Document 02, Q-9: as many turns a round as there can be.
-fn start_shared(title: &[u8], code: Code, disc: &mut [u8], area: &mut [u8; AREA_LENGTH]) {
-    start(title, code, disc, area);
+fn start_shared(
+    rt: &impl Print,
+    title: &[u8],
+    code: Code,
+    disc: &mut [u8],
+    area: &mut [u8; AREA_LENGTH],
+) -> io::Result<()> {
+    start(rt, title, code, disc, area)?;
     export::arduinos_share(disc, area, FIRST_ID, MAX_SHARE as u32);
+    Ok(())
 }
 
 // Beside it, in the next slot, the same program with one turn a round.
-fn start_beside(title: &[u8], code: Code, disc: &mut [u8], area: &mut [u8; AREA_LENGTH]) {
-    start_shared(title, code, disc, area);
+fn start_beside(
+    rt: &impl Print,
+    title: &[u8],
+    code: Code,
+    disc: &mut [u8],
+    area: &mut [u8; AREA_LENGTH],
+) -> io::Result<()> {
+    start_shared(rt, title, code, disc, area)?;
     export::arduinos_run(disc, area, b"guide");
+    Ok(())
 }
 
-fn finish(disc: &mut [u8], area: &mut [u8; AREA_LENGTH], most: u16) {
-    let rounds = running::rounds(disc, area, STEP, most);
-    running::print_end(rounds, area);
+fn finish(
+    rt: &impl Print,
+    disc: &mut [u8],
+    area: &mut [u8; AREA_LENGTH],
+    most: u16,
+) -> io::Result<()> {
+    let rounds = running::rounds(rt, disc, area, STEP, most)?;
+    running::print_end(rt, rounds, area)
 }
 
 // Runs a program to its end, and so many rounds at most.
-pub fn run(title: &[u8], code: Code, most: u16) {
+pub fn run(rt: &impl Print, title: &[u8], code: Code, most: u16) -> io::Result<()> {
     let mut disc = [0u8; SHORT_DISC];
     let mut area = [0u8; AREA_LENGTH];
-    start(title, code, &mut disc, &mut area);
-    finish(&mut disc, &mut area, most);
+    start(rt, title, code, &mut disc, &mut area)?;
+    finish(rt, &mut disc, &mut area, most)
 }
 
 // The same with the most turns a round.
-pub fn run_shared(title: &[u8], code: Code, most: u16) {
+pub fn run_shared(rt: &impl Print, title: &[u8], code: Code, most: u16) -> io::Result<()> {
     let mut disc = [0u8; SHORT_DISC];
     let mut area = [0u8; AREA_LENGTH];
-    start_shared(title, code, &mut disc, &mut area);
-    finish(&mut disc, &mut area, most);
+    start_shared(rt, title, code, &mut disc, &mut area)?;
+    finish(rt, &mut disc, &mut area, most)
 }
 
 // The same beside one with one turn a round.
-pub fn run_beside(title: &[u8], code: Code, most: u16) {
+pub fn run_beside(rt: &impl Print, title: &[u8], code: Code, most: u16) -> io::Result<()> {
     let mut disc = [0u8; SHORT_DISC];
     let mut area = [0u8; AREA_LENGTH];
-    start_beside(title, code, &mut disc, &mut area);
-    finish(&mut disc, &mut area, most);
+    start_beside(rt, title, code, &mut disc, &mut area)?;
+    finish(rt, &mut disc, &mut area, most)
 }
 
-fn print_byte(byte: u8) {
-    printing::text(b" ");
-    printing::number(byte as i32);
-}
-
-fn print_bytes(area: &[u8; AREA_LENGTH], sp: u8) {
-    let mut i: u8 = 0;
-    while i < sp {
-        print_byte(area[STACK_AT + i as usize]);
-        i += 1;
+fn print_bytes(rt: &impl Print, area: &[u8; AREA_LENGTH], sp: u8) -> io::Result<()> {
+    for i in 0..sp {
+        print!(rt; " {}", area[STACK_AT + i as usize])?;
     }
+    Ok(())
 }
 
 // The stack of slot 0, its bottom first.
-fn print_stack(area: &[u8; AREA_LENGTH]) {
-    printing::text(b"stack");
-    print_bytes(area, area[SP_AT]);
-    printing::text(b"\n");
+fn print_stack(rt: &impl Print, area: &[u8; AREA_LENGTH]) -> io::Result<()> {
+    print!(rt; "stack")?;
+    print_bytes(rt, area, area[SP_AT])?;
+    println!(rt;)
 }
 
 // Rounds until no process lives, with the stack of slot 0 after each.
-fn rounds(disc: &mut [u8], area: &mut [u8; AREA_LENGTH]) -> u16 {
-    let mut count: u16 = 0;
-    while count < MOST_ROUNDS && running::lives(disc, area) {
-        running::round(disc, area, 0);
-        print_stack(area);
-        count += 1;
+fn rounds(rt: &impl Print, disc: &mut [u8], area: &mut [u8; AREA_LENGTH]) -> io::Result<u16> {
+    for count in 0..MOST_ROUNDS {
+        if !running::lives(disc, area) {
+            return Ok(count);
+        }
+        running::round(rt, disc, area, 0)?;
+        print_stack(rt, area)?;
     }
-    count
+    Ok(MOST_ROUNDS)
 }
 
 // Runs a program to its end, with its stack after each round.
-pub fn stacks(title: &[u8], code: Code) {
+pub fn stacks(rt: &impl Print, title: &[u8], code: Code) -> io::Result<()> {
     let mut disc = [0u8; SHORT_DISC];
     let mut area = [0u8; AREA_LENGTH];
-    start(title, code, &mut disc, &mut area);
-    let count = rounds(&mut disc, &mut area);
-    running::print_end(count, &area);
+    start(rt, title, code, &mut disc, &mut area)?;
+    let count = rounds(rt, &mut disc, &mut area)?;
+    running::print_end(rt, count, &area)
 }

@@ -1,21 +1,24 @@
 // Runs document 01's 'Run and compared' and shares through the functions that the firmware calls, on a long disc too,
 // and erase on discs that are not good; prints what was asked and what came out. The gate compares that with the file
 // stdout.
+#![tactic(auto)]
+
 mod discs;
 mod long_discs;
 mod shares;
 mod variables;
 
 use disc::layout::SHORT_DISC;
+use std::io;
 
-fn main() {
-    discs::sizes();
+fn main(rt: HostRuntime) -> io::Result<()> {
+    discs::sizes(&rt)?;
     let mut disc = [0u8; SHORT_DISC];
-    variables::another(&mut disc);
-    variables::again(&mut disc);
-    shares::alone(&mut disc);
-    shares::beside(&mut disc);
-    discs::wrong_lengths();
-    discs::damaged();
-    long_discs::cases();
+    variables::another(&rt, &mut disc)?;
+    variables::again(&rt, &mut disc)?;
+    shares::alone(&rt, &mut disc)?;
+    shares::beside(&rt, &mut disc)?;
+    discs::wrong_lengths(&rt)?;
+    discs::damaged(&rt)?;
+    long_discs::cases(&rt)
 }

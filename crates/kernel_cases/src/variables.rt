@@ -4,6 +4,7 @@ ghost use Rattle.std.specs.Prelude.{◌≤◌};
 use machine::limits::AREA_LENGTH;
 use running::MOST_ROUNDS;
 use running::instructions::{CHAR, SET, STOP};
+use std::io;
 
 // A CHAR and its SET.
 const PAIR: usize = 4;
@@ -24,37 +25,36 @@ fn put_set(code: &mut [u8; CODE_LENGTH], i: u8, name: u8)
 // A program that sets the variables 0 to 24, then the last, and stops.
 fn setting(last: u8) -> [u8; CODE_LENGTH] {
     let mut code = [STOP; CODE_LENGTH];
-    let mut i: u8 = 0;
-    while i < FULL {
+    for i in 0..FULL {
         put_set(&mut code, i, i);
-        i += 1;
     }
     put_set(&mut code, FULL, last);
     code
 }
 
 // Runs a program to its end, and says after how many rounds and by which fault it ended.
-fn run(label: &[u8], disc: &mut [u8], code: [u8; CODE_LENGTH]) {
+fn run(rt: &impl Print, label: &[u8], disc: &mut [u8], code: [u8; CODE_LENGTH]) -> io::Result<()> {
     let mut area = [0u8; AREA_LENGTH];
     export::arduinos_format(disc, &mut area);
     export::arduinos_store(disc, b"sets", &code);
     export::arduinos_run(disc, &mut area, b"sets");
-    let rounds = running::rounds(disc, &mut area, 1, MOST_ROUNDS);
-    printing::text(label);
-    printing::text(b": ");
-    running::print_end(rounds, &area);
+    let rounds = running::rounds(rt, disc, &mut area, 1, MOST_ROUNDS)?;
+    printing::text(rt, label)?;
+    printing::text(rt, b": ")?;
+    running::print_end(rt, rounds, &area)
 }
 
 // Document 01: "a 26th variable gives fault 10". Its SET is the 52nd instruction.
-pub fn another(disc: &mut [u8]) {
-    run(b"a program that sets 26 variables", disc, setting(25));
+pub fn another(rt: &impl Print, disc: &mut [u8]) -> io::Result<()> {
+    run(rt, b"a program that sets 26 variables", disc, setting(25))
 }
 
 // Document 01: "setting one of 25 again does not". The STOP is the 53rd instruction.
-pub fn again(disc: &mut [u8]) {
+pub fn again(rt: &impl Print, disc: &mut [u8]) -> io::Result<()> {
     run(
+        rt,
         b"a program that sets one of its 25 variables again",
         disc,
         setting(7),
-    );
+    )
 }

@@ -1,4 +1,6 @@
 // Runs the operators on numbers and writes what they answer; tools/number_vectors/generate.py says which line is what.
+#![tactic(auto)]
+
 mod binary;
 mod constrain;
 mod map;
@@ -12,38 +14,37 @@ mod unary;
 use crate::operands::Grid;
 use operator::instruction::operator;
 use operator::operators::{Operator, Scaling};
+use std::io;
+use std::io::Read;
 
-fn write_scaling(instruction: u8, o: Scaling, grid: &Grid) {
+fn write_scaling(rt: &impl Print, instruction: u8, o: Scaling, grid: &Grid) -> io::Result<()> {
     match o {
-        Scaling::Constrain => constrain::write_lines(instruction, grid),
-        Scaling::Map => map::write_lines(instruction, grid),
-        Scaling::Power => power::write_lines(instruction, grid),
+        Scaling::Constrain => constrain::write_lines(rt, instruction, grid),
+        Scaling::Map => map::write_lines(rt, instruction, grid),
+        Scaling::Power => power::write_lines(rt, instruction, grid),
     }
 }
 
-fn write_operator(instruction: u8, grid: &Grid) {
+fn write_operator(rt: &impl Print, instruction: u8, grid: &Grid) -> io::Result<()> {
     match operator(instruction) {
-        Operator::OfOne(o) => unary::write_lines(instruction, o, grid),
-        Operator::OfTwo(o) => binary::write_lines(instruction, o, grid),
-        Operator::Scale(o) => write_scaling(instruction, o, grid),
-        Operator::NotAnOperator => {}
+        Operator::OfOne(o) => unary::write_lines(rt, instruction, o, grid),
+        Operator::OfTwo(o) => binary::write_lines(rt, instruction, o, grid),
+        Operator::Scale(o) => write_scaling(rt, instruction, o, grid),
+        Operator::NotAnOperator => Ok(()),
     }
 }
 
-fn write_operators(grid: &Grid) {
-    let mut n: u32 = 0;
-    while n < 256 {
-        write_operator((n % 256) as u8, grid);
-        n += 1;
+fn write_operators(rt: &impl Print, grid: &Grid) -> io::Result<()> {
+    for instruction in 0..=u8::MAX {
+        write_operator(rt, instruction, grid)?;
     }
+    Ok(())
 }
 
-fn main() {
+fn main(rt: HostRuntime) -> io::Result<()> {
     let mut grid = [0u8; 1000];
-    if io::read_full(0, &mut grid) < 1000 {
-        return;
-    }
-    write_operators(&grid);
-    text::write_lines(&grid);
-    types::write_lines();
+    rt.reader().read_exact(&mut grid)?;
+    write_operators(&rt, &grid)?;
+    text::write_lines(&rt, &grid)?;
+    types::write_lines(&rt)
 }

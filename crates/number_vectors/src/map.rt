@@ -1,6 +1,7 @@
 // MAP, over drawn operands of each five types.
 use crate::operands::{Grid, drawn, kind_by};
 use crate::tally::{Tally, checksum, count, empty, write_field, write_tally};
+use std::io;
 
 // How many cases a line has.
 const CASES: u32 = 4096;
@@ -38,8 +39,7 @@ fn next(draw: u32) -> u32 {
 fn over_draws(kinds: Kinds, grid: &Grid) -> Tally {
     let mut t = empty();
     let mut draw = seed(kinds);
-    let mut i: u32 = 0;
-    while i < CASES {
+    for _ in 0..CASES {
         let a = next(draw);
         let b = next(a);
         let c = next(b);
@@ -51,25 +51,23 @@ fn over_draws(kinds: Kinds, grid: &Grid) -> Tally {
         let new_low = drawn(grid, kinds.d, d);
         let new_high = drawn(grid, kinds.e, draw);
         t = count(t, scaling::map::map(x, low, high, new_low, new_high));
-        i += 1;
     }
     t
 }
 
-fn write_line(instruction: u8, kinds: Kinds, grid: &Grid) {
-    io::print_decimal(1, instruction as u64);
-    write_field(kinds.a as u32);
-    write_field(kinds.b as u32);
-    write_field(kinds.c as u32);
-    write_field(kinds.d as u32);
-    write_field(kinds.e as u32);
-    write_tally(over_draws(kinds, grid));
+fn write_line(rt: &impl Print, instruction: u8, kinds: Kinds, grid: &Grid) -> io::Result<()> {
+    rt.print(instruction)?;
+    write_field(rt, kinds.a as u32)?;
+    write_field(rt, kinds.b as u32)?;
+    write_field(rt, kinds.c as u32)?;
+    write_field(rt, kinds.d as u32)?;
+    write_field(rt, kinds.e as u32)?;
+    write_tally(rt, over_draws(kinds, grid))
 }
 
-pub fn write_lines(instruction: u8, grid: &Grid) {
-    let mut line: u32 = 0;
-    while line < 243 {
-        write_line(instruction, kinds_of(line), grid);
-        line += 1;
+pub fn write_lines(rt: &impl Print, instruction: u8, grid: &Grid) -> io::Result<()> {
+    for line in 0..243 {
+        write_line(rt, instruction, kinds_of(line), grid)?;
     }
+    Ok(())
 }

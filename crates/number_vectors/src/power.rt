@@ -5,6 +5,7 @@ use number::Number;
 use operator::instruction::{takes, types_of};
 use operator::operators::{Operator, Scaling};
 use scaling::power::power_of;
+use std::io;
 
 const EXPONENTS: u32 = 24;
 
@@ -26,10 +27,8 @@ fn exponent(k: u32) -> u32 {
 // A CHAR has the low byte of the exponent.
 fn over_exponents(start: Tally, x: Number, second: u8) -> Tally {
     let mut t = start;
-    let mut k: u32 = 0;
-    while k < EXPONENTS {
+    for k in 0..EXPONENTS {
         t = count(t, power_of(x, whole(second, exponent(k))));
-        k += 1;
     }
     t
 }
@@ -37,22 +36,18 @@ fn over_exponents(start: Tally, x: Number, second: u8) -> Tally {
 fn over_wholes(first: u8, second: u8) -> Tally {
     let end = values(first);
     let mut t = empty();
-    let mut bits: u32 = 0;
-    while bits < end {
+    for bits in 0..end {
         t = over_exponents(t, whole(first, bits), second);
-        bits += 1;
     }
     t
 }
 
 fn over_floats(second: u8, grid: &Grid) -> Tally {
     let mut t = empty();
-    let mut i: usize = 0;
-    while i < OPERANDS {
+    for i in 0..OPERANDS {
         if kind_at(grid, i) == FLOAT {
             t = over_exponents(t, operand_at(grid, i), second);
         }
-        i += 1;
     }
     t
 }
@@ -65,19 +60,25 @@ fn over_type(first: u8, second: u8, grid: &Grid) -> Tally {
     }
 }
 
-fn write_line(instruction: u8, first: u8, second: u8, grid: &Grid) {
+fn write_line(
+    rt: &impl Print,
+    instruction: u8,
+    first: u8,
+    second: u8,
+    grid: &Grid,
+) -> io::Result<()> {
     if takes(types_of(Operator::Scale(Scaling::Power), 1), second) {
-        io::print_decimal(1, instruction as u64);
-        write_field(first as u32);
-        write_field(second as u32);
-        write_tally(over_type(first, second, grid));
+        rt.print(instruction)?;
+        write_field(rt, first as u32)?;
+        write_field(rt, second as u32)?;
+        write_tally(rt, over_type(first, second, grid))?;
     }
+    Ok(())
 }
 
-pub fn write_lines(instruction: u8, grid: &Grid) {
-    let mut line: u32 = 0;
-    while line < 9 {
-        write_line(instruction, kind_by(line / 3), kind_by(line), grid);
-        line += 1;
+pub fn write_lines(rt: &impl Print, instruction: u8, grid: &Grid) -> io::Result<()> {
+    for line in 0..9 {
+        write_line(rt, instruction, kind_by(line / 3), kind_by(line), grid)?;
     }
+    Ok(())
 }

@@ -2,6 +2,7 @@
 use number::Number;
 use number::value::encode;
 use operator::Outcome;
+use std::io;
 
 // The greatest prime below 2^32.
 const MODULUS: u64 = 4294967291;
@@ -43,30 +44,28 @@ pub fn count(t: Tally, outcome: Outcome) -> Tally {
         },
         Outcome::DivisionByZero => Tally {
             sum: checksum(t.sum, 7),
-            sevens: std::num::wrapping_add_u32(t.sevens, 1),
+            sevens: t.sevens.wrapping_add(1),
             eights: t.eights,
         },
         Outcome::OutOfRange => Tally {
             sum: checksum(t.sum, 8),
             sevens: t.sevens,
-            eights: std::num::wrapping_add_u32(t.eights, 1),
+            eights: t.eights.wrapping_add(1),
         },
     }
 }
 
-pub fn write_field(n: u32) {
-    io::write_all(1, b" ");
-    io::print_decimal(1, n as u64);
+pub fn write_field(rt: &impl Print, n: u32) -> io::Result<()> {
+    print!(rt; " {n}")
 }
 
-pub fn write_sum(sum: u32) {
-    io::write_all(1, b" ");
-    io::print_hex(1, sum as u64, 8);
+pub fn write_sum(rt: &impl Print, sum: u32) -> io::Result<()> {
+    print!(rt; " {sum:08x}")
 }
 
-pub fn write_tally(t: Tally) {
-    write_sum(t.sum);
-    write_field(t.sevens);
-    write_field(t.eights);
-    io::write_all(1, b"\n");
+pub fn write_tally(rt: &impl Print, t: Tally) -> io::Result<()> {
+    write_sum(rt, t.sum)?;
+    write_field(rt, t.sevens)?;
+    write_field(rt, t.eights)?;
+    println!(rt;)
 }

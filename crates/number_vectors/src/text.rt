@@ -3,47 +3,42 @@ use crate::operands::{CHAR, FLOAT, Grid, INT, OPERANDS, kind_at, operand_at, val
 use crate::tally::{checksum, write_sum};
 use number::Number;
 use number::text::{Text, write};
+use std::io;
 
-fn write_prefix(bytes: &[u8], len: usize) {
+fn write_prefix(rt: &impl Print, bytes: &[u8], len: usize) -> io::Result<()> {
     if len <= bytes.len() {
-        io::write_all(1, &bytes[..len]);
+        rt.write_all(&bytes[..len])?;
     }
-    io::write_all(1, b"\n");
+    println!(rt;)
 }
 
-fn write_line(a: Number) {
+fn write_line(rt: &impl Print, a: Number) -> io::Result<()> {
     let text = write(a);
     let bytes = text.bytes;
-    write_prefix(&bytes, text.len);
+    write_prefix(rt, &bytes, text.len)
 }
 
 // 997 times -32 to 32, as bits of INT.
-fn write_multiples() {
-    let mut k: u32 = 0;
-    while k < 65 {
-        write_line(whole(INT, 33632 + 997 * k));
-        k += 1;
+fn write_multiples(rt: &impl Print) -> io::Result<()> {
+    for k in 0..65 {
+        write_line(rt, whole(INT, 33632 + 997 * k))?;
     }
+    Ok(())
 }
 
-fn write_type(kind: u8, grid: &Grid) {
-    let mut i: usize = 0;
-    while i < OPERANDS {
+fn write_type(rt: &impl Print, kind: u8, grid: &Grid) -> io::Result<()> {
+    for i in 0..OPERANDS {
         if kind_at(grid, i) == kind {
-            write_line(operand_at(grid, i));
+            write_line(rt, operand_at(grid, i))?;
         }
-        i += 1;
     }
+    Ok(())
 }
 
 fn checksum_prefix(start: u32, bytes: &[u8; 16], len: usize) -> u32 {
     let mut sum = checksum(start, (len % 256) as u8);
-    let mut i: usize = 0;
-    while i < 16 {
-        if i < len {
-            sum = checksum(sum, bytes[i]);
-        }
-        i += 1;
+    for byte in bytes.iter().take(len) {
+        sum = checksum(sum, *byte);
     }
     sum
 }
@@ -53,23 +48,21 @@ fn checksum_text(sum: u32, text: Text) -> u32 {
     checksum_prefix(sum, &bytes, text.len)
 }
 
-fn write_every(kind: u8) {
+fn write_every(rt: &impl Print, kind: u8) -> io::Result<()> {
     let end = values(kind);
     let mut sum: u32 = 0;
-    let mut bits: u32 = 0;
-    while bits < end {
+    for bits in 0..end {
         sum = checksum_text(sum, write(whole(kind, bits)));
-        bits += 1;
     }
-    io::print_decimal(1, kind as u64);
-    write_sum(sum);
-    io::write_all(1, b"\n");
+    rt.print(kind)?;
+    write_sum(rt, sum)?;
+    println!(rt;)
 }
 
-pub fn write_lines(grid: &Grid) {
-    write_multiples();
-    write_type(INT, grid);
-    write_type(FLOAT, grid);
-    write_every(CHAR);
-    write_every(INT);
+pub fn write_lines(rt: &impl Print, grid: &Grid) -> io::Result<()> {
+    write_multiples(rt)?;
+    write_type(rt, INT, grid)?;
+    write_type(rt, FLOAT, grid)?;
+    write_every(rt, CHAR)?;
+    write_every(rt, INT)
 }

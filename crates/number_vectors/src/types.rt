@@ -1,47 +1,45 @@
 // Which operand types each instruction takes.
 use crate::tally::write_field;
 use operator::instruction::{operator, takes, types_of};
+use std::io;
 
-fn write_types(instruction: u8, place: u8) {
-    let mut kind: u8 = 0;
-    while kind < 6 {
+fn write_types(rt: &impl Print, instruction: u8, place: u8) -> io::Result<()> {
+    for kind in 0..6 {
         if takes(types_of(operator(instruction), place), kind) {
-            write_field(kind as u32);
+            write_field(rt, kind as u32)?;
         }
-        kind += 1;
     }
-    io::write_all(1, b"\n");
+    println!(rt;)
 }
 
 // At place 0, that of the operand pushed first.
-fn write_first(instruction: u8) {
-    io::print_decimal(1, instruction as u64);
-    write_types(instruction, 0);
+fn write_first(rt: &impl Print, instruction: u8) -> io::Result<()> {
+    rt.print(instruction)?;
+    write_types(rt, instruction, 0)
 }
 
 // At the places above it, up to `last`.
-fn write_others(instruction: u8, last: u8) {
-    let mut place: u8 = 0;
-    while place < last {
-        place += 1;
-        io::print_decimal(1, instruction as u64);
-        write_field(place as u32);
-        write_types(instruction, place);
+fn write_others(rt: &impl Print, instruction: u8, last: u8) -> io::Result<()> {
+    for below in 0..last {
+        let place = below + 1;
+        rt.print(instruction)?;
+        write_field(rt, place as u32)?;
+        write_types(rt, instruction, place)?;
     }
+    Ok(())
 }
 
-fn write_firsts() {
-    let mut n: u32 = 0;
-    while n < 256 {
-        write_first((n % 256) as u8);
-        n += 1;
+fn write_firsts(rt: &impl Print) -> io::Result<()> {
+    for instruction in 0..=u8::MAX {
+        write_first(rt, instruction)?;
     }
+    Ok(())
 }
 
 // CONSTRAIN has three operands, MAP five, POW two.
-pub fn write_lines() {
-    write_firsts();
-    write_others(38, 2);
-    write_others(39, 4);
-    write_others(40, 1);
+pub fn write_lines(rt: &impl Print) -> io::Result<()> {
+    write_firsts(rt)?;
+    write_others(rt, 38, 2)?;
+    write_others(rt, 39, 4)?;
+    write_others(rt, 40, 1)
 }

@@ -4,26 +4,23 @@ use crate::tally::{Tally, count, empty, write_field, write_tally};
 use operator::instruction::{takes, types_of};
 use operator::operators::{Operator, Unary};
 use operator::unary::apply;
+use std::io;
 
 fn over_wholes(o: Unary, kind: u8) -> Tally {
     let end = values(kind);
     let mut t = empty();
-    let mut bits: u32 = 0;
-    while bits < end {
+    for bits in 0..end {
         t = count(t, apply(o, whole(kind, bits)));
-        bits += 1;
     }
     t
 }
 
 fn over_floats(o: Unary, grid: &Grid) -> Tally {
     let mut t = empty();
-    let mut i: usize = 0;
-    while i < OPERANDS {
+    for i in 0..OPERANDS {
         if kind_at(grid, i) == FLOAT {
             t = count(t, apply(o, operand_at(grid, i)));
         }
-        i += 1;
     }
     t
 }
@@ -36,16 +33,17 @@ fn over_type(o: Unary, kind: u8, grid: &Grid) -> Tally {
     }
 }
 
-fn write_line(instruction: u8, o: Unary, kind: u8, grid: &Grid) {
+fn write_line(rt: &impl Print, instruction: u8, o: Unary, kind: u8, grid: &Grid) -> io::Result<()> {
     if takes(types_of(Operator::OfOne(o), 0), kind) {
-        io::print_decimal(1, instruction as u64);
-        write_field(kind as u32);
-        write_tally(over_type(o, kind, grid));
+        rt.print(instruction)?;
+        write_field(rt, kind as u32)?;
+        write_tally(rt, over_type(o, kind, grid))?;
     }
+    Ok(())
 }
 
-pub fn write_lines(instruction: u8, o: Unary, grid: &Grid) {
-    write_line(instruction, o, CHAR, grid);
-    write_line(instruction, o, INT, grid);
-    write_line(instruction, o, FLOAT, grid);
+pub fn write_lines(rt: &impl Print, instruction: u8, o: Unary, grid: &Grid) -> io::Result<()> {
+    write_line(rt, instruction, o, CHAR, grid)?;
+    write_line(rt, instruction, o, INT, grid)?;
+    write_line(rt, instruction, o, FLOAT, grid)
 }

@@ -1,76 +1,67 @@
 // What programs print: texts, numbers with their sign, what an operation wrote, and checksums.
-use libc::STDOUT_FILENO;
+#![tactic(auto)]
 
-pub fn text(bytes: &[u8]) {
-    io::write_all(STDOUT_FILENO, bytes);
+use std::io;
+
+pub fn text(rt: &impl Print, bytes: &[u8]) -> io::Result<()> {
+    rt.write_all(bytes)
 }
 
-// -1 - n, and not -n, since the lowest number has no negative.
-fn magnitude(n: i32) -> u64 {
-    if 0 <= n {
-        n as u64
-    } else {
-        (-1 - n) as u64 + 1
-    }
-}
-
-pub fn number(n: i32) {
-    if n < 0 {
-        text(b"-");
-    }
-    io::print_decimal(STDOUT_FILENO, magnitude(n));
+pub fn number(rt: &impl Print, n: i32) -> io::Result<()> {
+    rt.print(n)
 }
 
 // Eight digits.
-pub fn hex(n: u64) {
-    io::print_hex(STDOUT_FILENO, n, 8);
+pub fn hex(rt: &impl Print, n: u64) -> io::Result<()> {
+    print!(rt; "{n:08x}")
 }
 
 // A line for a number that was asked for.
-pub fn line(label: &[u8], n: i32) {
-    text(label);
-    text(b": ");
-    number(n);
-    text(b"\n");
+pub fn line(rt: &impl Print, label: &[u8], n: i32) -> io::Result<()> {
+    text(rt, label)?;
+    println!(rt; ": {n}")
 }
 
 // The line of a call that must leave a buffer as it was.
-pub fn kept_line(label: &[u8], n: i32, before: &[u8], after: &[u8]) {
-    text(label);
-    text(b": ");
-    number(n);
+pub fn kept_line(
+    rt: &impl Print,
+    label: &[u8],
+    n: i32,
+    before: &[u8],
+    after: &[u8],
+) -> io::Result<()> {
+    text(rt, label)?;
     if buffer::bytes::same_bytes(before, after) {
-        text(b", untouched\n");
+        println!(rt; ": {n}, untouched")
     } else {
-        text(b", changed\n");
+        println!(rt; ": {n}, changed")
     }
 }
 
 // What an operation wrote, as many bytes as it returned; of a refused one a line with the number.
-pub fn output(returned: i32, out: &[u8]) {
-    let len = magnitude(returned) as usize;
+pub fn output(rt: &impl Print, returned: i32, out: &[u8]) -> io::Result<()> {
     if returned < 0 {
-        line(b"refused", returned);
-    } else if out.len() < len {
-        line(b"more than the output has", returned);
+        return line(rt, b"refused", returned);
+    }
+    let len = returned as usize;
+    if out.len() < len {
+        line(rt, b"more than the output has", returned)
     } else {
-        text(&out[..len]);
+        text(rt, &out[..len])
     }
 }
 
 // Differs for buffers that differ in one byte or in their length.
 fn sum(bytes: &[u8]) -> u64 {
     let mut sum: u64 = 1;
-    let mut i: usize = 0;
-    while i < bytes.len() {
-        sum = (sum * 257 + bytes[i] as u64) % 4294967291;
-        i += 1;
+    for byte in bytes {
+        sum = (sum * 257 + u64::from(*byte)) % 4294967291;
     }
     sum
 }
 
 // A space and the checksum of a buffer.
-pub fn checksum(bytes: &[u8]) {
-    text(b" ");
-    hex(sum(bytes));
+pub fn checksum(rt: &impl Print, bytes: &[u8]) -> io::Result<()> {
+    text(rt, b" ")?;
+    hex(rt, sum(bytes))
 }

@@ -24,10 +24,9 @@ pub fn free_space(disc: &[u8]) -> i32 {
 
 // Erases the file of that name, if the disc is good and has one. Whether it is in use, only the kernel knows.
 fn erase(disc: &mut [u8], name: &[u8]) {
-    if let Checked::Unusable(_) = disc_operation::operations::check(disc) {
-        return;
-    }
-    if let Found::At(i) = disc::directory::find(disc, name) {
+    if let Checked::Usable = disc_operation::operations::check(disc)
+        && let Found::At(i) = disc::directory::find(disc, name)
+    {
         store::file::erase_entry(disc, i);
     }
 }
@@ -58,12 +57,10 @@ pub fn with_files(count: u8) -> [u8; SHORT_DISC]
     requires { count ≤ maxFiles }
 {
     let mut disc = [0u8; SHORT_DISC];
-    let mut i: u8 = 0;
-    while i < count {
+    for i in 0..count {
         let letter = b'a' + i;
         let next = with(disc, &[letter], &[letter; 10]);
         disc = next;
-        i += 1;
     }
     disc
 }

@@ -4,16 +4,23 @@ ghost use Rattle.disc.specs.Layout.{shortDisc};
 
 use disc::layout::SHORT_DISC;
 use printing::text;
+use std::io;
 
 // Whether the disc has these bytes from place at on.
-pub fn part_line(label: &[u8], disc: [u8; SHORT_DISC], at: usize, bytes: &[u8])
+pub fn part_line(
+    rt: &impl Print,
+    label: &[u8],
+    disc: [u8; SHORT_DISC],
+    at: usize,
+    bytes: &[u8],
+) -> io::Result<()>
     requires { at + length bytes.now ≤ shortDisc }
 {
-    text(label);
+    text(rt, label)?;
     let end = at + bytes.len();
     if buffer::bytes::same_bytes(&disc[at..end], bytes) {
-        text(b": right\n");
+        text(rt, b": right\n")
     } else {
-        text(b": wrong\n");
+        text(rt, b": wrong\n")
     }
 }

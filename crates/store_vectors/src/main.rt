@@ -1,7 +1,12 @@
 // Runs the outside vectors, calls and answers of another implementation, from data/vectors, and prints what comes out.
 // tools/vectors/generate.py writes that file, and the file stdout that the gate compares with.
-ghost use Rattle.io.specs.Counts.{IsPrefixLen};
+#![tactic(auto)]
 
+ghost use Rattle.std.specs.Prelude.{◌≤◌, length, IfOk};
+
+use std::fs::File;
+use std::io;
+use std::io::{BufReader, Read};
 use store::Answer;
 
 // No buffer of a vector is longer.
@@ -9,16 +14,17 @@ const LONGEST: usize = 4096;
 
 // Reads the next buffer of a vector, its length in two bytes and then its bytes, and answers the length. One that has
 // no room counts as empty.
-fn read_part(fd: i32, buf: &mut [u8]) -> usize
-    ensures { IsPrefixLen result buf.new }
+fn read_part(input: &mut impl Read, buf: &mut [u8]) -> io::Result<usize>
+    ensures { IfOk result (λ len. len ≤ length buf.new) }
 {
     let mut size = [0u8; 2];
-    io::read_full(fd, &mut size);
+    input.read_exact(&mut size)?;
     let len = buffer::bytes::word(size[0], size[1]) as usize;
     if buf.len() < len {
-        return 0;
+        return Ok(0);
     }
-    io::read_full(fd, &mut buf[..len])
+    input.read_exact(&mut buf[..len])?;
+    Ok(len)
 }
 
 // The operation of a vector, told by its first letter; free space has 'u', for unused.
@@ -32,53 +38,58 @@ fn perform(operation: u8, disc: &mut [u8], name: &[u8], bytes: &[u8], out: &mut 
 }
 
 // A vector's line: its letter, the number, checksums of disc and output after the call.
-fn run(operation: u8, disc: &mut [u8], name: &[u8], bytes: &[u8], out: &mut [u8]) {
+fn run(
+    rt: &impl Print,
+    operation: u8,
+    disc: &mut [u8],
+    name: &[u8],
+    bytes: &[u8],
+    out: &mut [u8],
+) -> io::Result<()> {
     let answer = perform(operation, disc, name, bytes, out);
-    printing::text(&[operation, b' ']);
-    printing::number(disc_operation::numbers::number(answer));
-    printing::checksum(disc);
-    printing::checksum(out);
-    printing::text(b"\n");
+    printing::text(rt, &[operation, b' '])?;
+    printing::number(rt, disc_operation::numbers::number(answer))?;
+    printing::checksum(rt, disc)?;
+    printing::checksum(rt, out)?;
+    println!(rt;)
 }
 
 // Runs one vector, and answers whether there was one.
-fn run_next(fd: i32) -> bool {
+fn run_next(rt: &impl Print, input: &mut impl Read) -> io::Result<bool> {
     let mut operation = [0u8; 1];
-    if io::read_full(fd, &mut operation) == 0 {
-        return false;
+    if input.read(&mut operation)? == 0 {
+        return Ok(false);
     }
     let mut disc = [0u8; LONGEST];
-    let disc_len = read_part(fd, &mut disc);
+    let disc_len = read_part(input, &mut disc)?;
     let mut name = [0u8; 16];
-    let name_len = read_part(fd, &mut name);
+    let name_len = read_part(input, &mut name)?;
     let mut bytes = [0u8; LONGEST];
-    let len = read_part(fd, &mut bytes);
+    let len = read_part(input, &mut bytes)?;
     let mut out = [0u8; LONGEST];
-    let out_len = read_part(fd, &mut out);
+    let out_len = read_part(input, &mut out)?;
     run(
+        rt,
         operation[0],
         &mut disc[..disc_len],
         &name[..name_len],
         &bytes[..len],
         &mut out[..out_len],
-    );
-    true
+    )?;
+    Ok(true)
 }
 
 // A proved loop ends; this one at the latest after so many vectors.
-fn run_all(fd: i32) {
-    let mut left: u64 = 100000;
-    while left > 0 && run_next(fd) {
-        left -= 1;
+fn run_all(rt: &impl Print, input: &mut impl Read) -> io::Result<()> {
+    for _ in 0..100000 {
+        if !run_next(rt, input)? {
+            break;
+        }
     }
+    Ok(())
 }
 
-fn main() {
-    let fd = os::open_read(b"vectors");
-    if fd < 0 {
-        os::fail(b"vectors");
-        return;
-    }
-    run_all(fd);
-    libc::close(fd);
+fn main(rt: HostRuntime) -> io::Result<()> {
+    let file = File::open(&rt, "vectors")?;
+    run_all(&rt, &mut BufReader::new(rt.alloc(), file)?)
 }

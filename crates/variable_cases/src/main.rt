@@ -1,10 +1,14 @@
 // Runs document 01's cases of variable memory and prints what comes out. The gate compares that with the file stdout.
+#![tactic(auto)]
+
 mod cases;
 mod print;
 mod sets;
 
-fn main() {
-    cases::twenty_six();
-    cases::full_memory();
-    cases::ending();
+use std::io;
+
+fn main(rt: HostRuntime) -> io::Result<()> {
+    cases::twenty_six(&rt)?;
+    cases::full_memory(&rt)?;
+    cases::ending(&rt)
 }

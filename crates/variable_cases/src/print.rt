@@ -1,70 +1,47 @@
 // What the program prints: texts, places, and the table with its memory.
-use libc::STDOUT_FILENO;
+use std::io;
 use variable::table::{count_of, entry_at};
 use variable::{Placing, VARIABLES_SIZE, Variable};
 
-pub fn text(bytes: &[u8]) {
-    io::write_all(STDOUT_FILENO, bytes);
-}
-
-fn number(n: u64) {
-    text(b" ");
-    io::print_decimal(STDOUT_FILENO, n);
+pub fn text(rt: &impl Print, bytes: &[u8]) -> io::Result<()> {
+    rt.write_all(bytes)
 }
 
 // Where a value went, or why it did not.
-pub fn placing_line(p: Placing) {
+pub fn placing_line(rt: &impl Print, p: Placing) -> io::Result<()> {
     match p {
-        Placing::Address(a) => {
-            text(b" at");
-            number(a as u64);
-        }
-        Placing::NoEntry => text(b" no entry"),
-        Placing::NoRun => text(b" no run"),
+        Placing::Address(a) => println!(rt; " at {a}"),
+        Placing::NoEntry => println!(rt; " no entry"),
+        Placing::NoRun => println!(rt; " no run"),
     }
-    text(b"\n");
 }
 
-fn entry_line(e: Variable) {
-    text(b"name");
-    number(e.name as u64);
-    text(b" address");
-    number(e.address as u64);
-    text(b" size");
-    number(e.size as u64);
-    text(b" owner");
-    number(e.owner as u64);
-    text(b"\n");
+fn entry_line(rt: &impl Print, e: Variable) -> io::Result<()> {
+    println!(rt;
+        "name {} address {} size {} owner {}",
+        e.name, e.address, e.size, e.owner
+    )
 }
 
 // The first six entries, those behind the count too.
-fn entry_lines(variables: [u8; VARIABLES_SIZE]) {
-    let mut i: usize = 0;
-    while i < 6 {
-        entry_line(entry_at(&variables, i));
-        i += 1;
+fn entry_lines(rt: &impl Print, variables: [u8; VARIABLES_SIZE]) -> io::Result<()> {
+    for i in 0..6 {
+        entry_line(rt, entry_at(&variables, i))?;
     }
+    Ok(())
 }
 
 // The first 16 bytes of memory.
-fn memory_line(memory: [u8; VARIABLES_SIZE]) {
-    text(b"memory");
-    let mut i: usize = 0;
-    while i < 16 {
-        number(wide(memory[i]));
-        i += 1;
+fn memory_line(rt: &impl Print, memory: [u8; VARIABLES_SIZE]) -> io::Result<()> {
+    print!(rt; "memory")?;
+    for byte in &memory[..16] {
+        print!(rt; " {byte}")?;
     }
-    text(b"\n");
+    println!(rt;)
 }
 
-fn wide(byte: u8) -> u64 {
-    byte as u64
-}
-
-pub fn table_lines(v: [u8; VARIABLES_SIZE]) {
-    text(b"count");
-    number(count_of(&v) as u64);
-    text(b"\n");
-    entry_lines(v);
-    memory_line(v);
+pub fn table_lines(rt: &impl Print, v: [u8; VARIABLES_SIZE]) -> io::Result<()> {
+    println!(rt; "count {}", count_of(&v))?;
+    entry_lines(rt, v)?;
+    memory_line(rt, v)
 }

@@ -1,4 +1,6 @@
 // SETs of strings whose bytes are all alike, and freeing, from an empty memory on.
+use crate::print;
+use std::io;
 use variable::table::count_of;
 use variable::{MAX_VARIABLES, Placing, VALUE_SIZE, VARIABLES_SIZE};
 
@@ -50,22 +52,34 @@ pub fn set(
 }
 
 // Says where a string would go.
-pub fn try_set(label: &[u8], v: [u8; VARIABLES_SIZE], name: u8, size: u8) {
+pub fn try_set(
+    rt: &impl Print,
+    label: &[u8],
+    v: [u8; VARIABLES_SIZE],
+    name: u8,
+    size: u8,
+) -> io::Result<()> {
     let done = assign(v, name, 1, size, 255);
     let placing = done.placing;
-    crate::print::text(label);
-    crate::print::placing_line(placing);
+    print::text(rt, label)?;
+    print::placing_line(rt, placing)
 }
 
 // Says whether a SET has written anything.
-pub fn try_write(label: &[u8], v: [u8; VARIABLES_SIZE], name: u8, size: u8) {
+pub fn try_write(
+    rt: &impl Print,
+    label: &[u8],
+    v: [u8; VARIABLES_SIZE],
+    name: u8,
+    size: u8,
+) -> io::Result<()> {
     let done = assign(v, name, 1, size, 255);
     let next = done.variables;
-    crate::print::text(label);
+    print::text(rt, label)?;
     if buffer::bytes::same_bytes(&v, &next) {
-        crate::print::text(b" nothing written\n");
+        print::text(rt, b" nothing written\n")
     } else {
-        crate::print::text(b" written\n");
+        print::text(rt, b" written\n")
     }
 }
 
@@ -89,11 +103,9 @@ pub fn ended(v: [u8; VARIABLES_SIZE], owner: u16) -> [u8; VARIABLES_SIZE] {
 // Variables 0 to n - 1 of process 1, of that size.
 pub fn several(n: u8, size: u8) -> [u8; VARIABLES_SIZE] {
     let mut v = no_variables();
-    let mut i: u8 = 0;
-    while i < n {
+    for i in 0..n {
         let next = set(v, i, 1, size, i);
         v = next;
-        i += 1;
     }
     v
 }

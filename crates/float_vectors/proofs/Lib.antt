@@ -1,2 +1,0 @@
--- The laws of casts that the program needs.
-pub mod Casts
