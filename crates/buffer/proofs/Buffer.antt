@@ -1,13 +1,13 @@
 -- Laws of `part`, `overwrite` and two-byte fields.
 use Prim.Native.Nat.{ℕ, suc, ◌+◌, ◌*◌, ◌/◌, ◌%◌, ◌-◌, ◌≤◌, ◌<◌}
 use mathlib.Core.Path.{◌≡◌, refl, sym, ap, ◌∙◌}
-use mathlib.Core.List.{List, [], ◌∷◌, ◌++◌, append_assoc}
+use mathlib.Core.List.{List, [], ◌∷◌, ◌++◌, append_assoc, append-nil}
 use native.Mathlib.Nat.{add_assoc, zero-add}
 use native.Mathlib.Numerals.{add-one}
 use native.Mathlib.Omega.{arith}
 use lib.ListN.{length, get_or, set, take, drop, replicate, length-drop, length-append}
 use lib.Seq.{take-suc, take-suc-set, get_or-drop, get_or-take, length-take-le, take_at, drop_at, drop-drop, drop-append-add, take-append-le}
-use lib.Seq.{paste, paste-suc, drop-paste, set_split, append_snoc, take-length, take-take}
+use lib.Seq.{paste, paste-suc, drop-length, drop-paste, set_split, append_snoc, take-length, take-take}
 use Rattle.buffer.specs.Buffer.{part, overwrite}
 use Rattle.buffer.proofs.Lists.{drop-replicate}
 
@@ -79,6 +79,10 @@ overwrite-joined d s t at b q h = ap (λ (k : ℕ). overwrite (overwrite d at s)
         let m : drop (at + length s + length t) (overwrite d at s) ≡ drop (at + (length s + length t)) d =
         rw (← n, drop-append-add, n, drop-drop) (rw add_assoc) in
         rw (take_at (take at d ++ s) (drop (at + length s) d) (at + length s) n, m, length-append, ← append_assoc)
+
+-- laid over all of it
+pub overwrite-whole : (d s : List ℕ) → length d ≡ length s → overwrite d 0 s ≡ s
+overwrite-whole d s h = rw (zero-add, ← h, drop-length) (append-nil s)
 
 -- laid over zeros, from the first
 pub overwrite-zeros : (s : List ℕ) (n : ℕ) → overwrite (replicate n 0) 0 s ≡ s ++ replicate (n - length s) 0

@@ -44,7 +44,8 @@ part-spelled l at n h =
 
 module _ (k l : List ℕ) (bk : Bytes k) (bl : Bytes l) where
   -- the words of two equal numbers
-  pub four-words : (i j : ℕ) → eqb (fourAt k i) (fourAt l j) ≡ eqb (word_at k i) (word_at l j) && eqb (word_at k (i + 2)) (word_at l (j + 2))
+  pub four-words : (i j : ℕ)
+      → eqb (fourAt k i) (fourAt l j) ≡ eqb (word_at k i) (word_at l j) && eqb (word_at k (i + 2)) (word_at l (j + 2))
   unfolding fourAt
   four-words i j =
       words-apart (word_at k i) (word_at k (i + 2)) (word_at l j) (word_at l (j + 2)) (word_bound k bk i) (word_bound l bl j)
@@ -65,7 +66,8 @@ module _ (k l : List ℕ) (bk : Bytes k) (bl : Bytes l) where
         let b3 : get_or k (i + 3) 0 ≡ get_or l (j + 3) 0 = rw (add_assoc i 2 1, add_assoc j 2 1) at (after t b2) in
         rw (part-spelled k i 4 hk, part-spelled l j 4 hl, add-zero i, add-zero j, b0, b1, b2, b3)
       where
-        after : word_at k (i + 2) ≡ word_at l (j + 2) → get_or k (i + 2) 0 ≡ get_or l (j + 2) 0 → get_or k (i + 2 + 1) 0 ≡ get_or l (j + 2 + 1) 0
+        after : word_at k (i + 2) ≡ word_at l (j + 2) → get_or k (i + 2) 0 ≡ get_or l (j + 2) 0
+            → get_or k (i + 2 + 1) 0 ≡ get_or l (j + 2 + 1) 0
         after t b = omega arith
 
     same_byte : part k i 4 ≡ part l j 4 → (n : ℕ) → n < 4 → get_or k (i + n) 0 ≡ get_or l (j + n) 0

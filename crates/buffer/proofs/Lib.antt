@@ -1,7 +1,9 @@
 -- The laws of crate buffer, by topic.
 pub mod Bools
 pub mod Buffer
+pub mod ByteLists
 pub mod Disjunctions
+pub mod Each
 pub mod Equivalence
 pub mod FixedWidth
 pub mod Fours
@@ -10,5 +12,6 @@ pub mod Lines
 pub mod Lists
 pub mod Parts
 pub mod Runs
+pub mod Scattered
 pub mod Tables
 pub mod Words

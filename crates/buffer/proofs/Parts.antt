@@ -3,12 +3,13 @@ use Prim.Native.Nat.{ℕ, zero, suc, ◌+◌, ◌-◌, ◌≤◌, ◌<◌}
 use mathlib.Core.Path.{◌≡◌, sym, ap, ◌∙◌, subst}
 use mathlib.Core.List.{List, [], ◌∷◌, ◌++◌, append_assoc}
 use mathlib.Core.Logic.{◌⊎◌, ⊎_elim}
-use native.Mathlib.Nat.{add-zero}
+use native.Mathlib.Nat.{add_assoc, add-zero}
 use native.Mathlib.Omega.{arith}
 use lib.ListN.{length, get_or, take, drop, length-drop}
-use lib.Seq.{drop-append-add, drop-append-le, drop_at, drop-drop, get_or-drop, get_or-take, length-take-le, take-add, take-append-le, take-nil}
+use lib.Seq.{drop-append-add, drop-append-le, drop_at, drop-drop, get_or-drop, get_or-take, length-take-le, take-add, take-append-le}
+use lib.Seq.{take-nil}
 use lib.Seq.{take-take}
-use Rattle.buffer.specs.Buffer.{part, overwrite}
+use Rattle.buffer.specs.Buffer.{overwrite, part, word_at}
 use Rattle.buffer.proofs.Buffer.{overwrite-take, overwrite-part, part-behind}
 
 -- ---- parts
@@ -49,6 +50,14 @@ same_byte k l m i e h = sym (get_or-take m k i 0 h) ∙ ap (λ (r : List ℕ). g
 
 pub part-of-part : (l : List ℕ) (at n i m : ℕ) → i + m ≤ n → part (part l at n) i m ≡ part l (at + i) m
 part-of-part l at n i m h = part-of-take (drop at l) n i m h ∙ ap (λ (r : List ℕ). take m r) (drop-drop i at l)
+
+-- a two-byte field of a part
+pub part-word : (l : List ℕ) (at n i : ℕ) → i + 1 < n → word_at (part l at n) i ≡ word_at l (at + i)
+part-word l at n i h = rw (part-byte l at n i (omega arith), part-byte l at n (i + 1) h, add_assoc)
+
+-- the first bytes of a part
+pub part-first : (l : List ℕ) (at m n : ℕ) → m ≤ n → part (part l at n) 0 m ≡ part l at m
+part-first l at m n h = take-take m n (drop at l) h
 
 -- a byte is a part of one byte
 pub byte-of-part : (k l : List ℕ) (i j : ℕ) → part k i 1 ≡ part l j 1 → get_or k i 0 ≡ get_or l j 0

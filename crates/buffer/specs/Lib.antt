@@ -1,3 +1,4 @@
 pub mod Buffer
 pub mod Laid
 pub mod Lists
+pub mod Scattered

@@ -1,5 +1,6 @@
 -- A number in decimal digits.
-use Rattle.std.specs.Prelude.{ℕ, zero, suc, ◌+◌, ◌-◌, ◌/◌, ◌%◌, Bool, true, false, List, [], ◌∷◌, ◌++◌, leb, length, replicate}
+use Rattle.std.specs.Prelude.{ℕ, zero, suc, ◌+◌, ◌-◌, ◌/◌, ◌%◌, Bool, true, false, List, [], ◌∷◌, ◌++◌, leb, length}
+use Rattle.std.specs.Prelude.{replicate}
 use Rattle.decimal.specs.declared.Digits.{Digits}
 
 abbrev pub ifMore : Bool → List ℕ → List ℕ

@@ -28,7 +28,8 @@ entry-back e h = λ t. record { name = name t; start = start t; len = len t }
     words = word_bytes e.start ++ word_bytes e.len
 
     byte : (n : ℕ) → get_or (entryBytes e) (nameSize + n) 0 ≡ get_or words n 0
-    byte n = rw append_assoc (subst (λ (k : ℕ). get_or (e.name ++ words) (k + n) 0 ≡ get_or words n 0) h (get_or-append-add e.name words n 0))
+    byte n = rw append_assoc (subst (λ (k : ℕ). get_or (e.name ++ words) (k + n) 0 ≡ get_or words n 0) h (get_or-append-add e.name words n
+        0))
 
     name : take nameSize (entryBytes e) ≡ e.name
     name = rw append_assoc (take_at e.name words nameSize h)
@@ -58,7 +59,8 @@ entry-fields disc at name start len h n s l = λ t. record { name = named t; sta
     counted = l ∙ rw (byte (nameSize + 2) (omega arith), byte (nameSize + 3) (omega arith), add_assoc at nameSize 2, add_assoc)
 
 -- ---- the directory rests on its bytes alone
-pub same-entry : (d e : List ℕ) (i j : ℕ) → part d (i * entrySize) entrySize ≡ part e (j * entrySize) entrySize → entry_at d i ≡ entry_at e j
+pub same-entry : (d e : List ℕ) (i j : ℕ) → part d (i * entrySize) entrySize ≡ part e (j * entrySize) entrySize
+    → entry_at d i ≡ entry_at e j
 unfolding entry_at
 same-entry d e i j h = ap entry_of h
 

@@ -114,7 +114,8 @@ module _ (b : ℕ → ℕ) (p : OnePass b) where
   text-byte : (i : ℕ) → i < length (text_of b) → get_or (text_of b) i 0 ≡ b i
   text-byte i h =
       let m : i < nameSize = omega (arith, short) in
-      ap (λ (l : List ℕ). get_or l i 0) (sym (trimmed-first (field_of b))) ∙ get_or-take (length (text_of b)) (field_of b) i 0 h ∙ byte b i m
+      ap (λ (l : List ℕ). get_or l i 0) (sym (trimmed-first (field_of b))) ∙ get_or-take (length (text_of b)) (field_of b) i 0 h
+      ∙ byte b i m
 
   named : (i : ℕ) → i < length (text_of b) → isNameByte (get_or (text_of b) i 0) ≡ true
   named i h =

@@ -4,5 +4,7 @@ pub mod Fields
 pub mod Goodness
 pub mod InPlace
 pub mod Lengths
+pub mod Locations
 pub mod Lookups
 pub mod Names
+pub mod Offsets

@@ -1,7 +1,9 @@
 -- The disc: its directory and its files.
-use Rattle.std.specs.Prelude.{ℕ, ◌+◌, ◌*◌, ◌≤◌, ◌≡◌, Bool, true, false, ◌&&◌, ◌||◌, not, List, ◌++◌, map, ◌⊎◌, eqb, leb, length, get_or, take}
+use Rattle.std.specs.Prelude.{ℕ, ◌+◌, ◌*◌, ◌≤◌, ◌<◌, ◌≡◌, Bool, true, false, ◌&&◌, ◌||◌, not, List, ◌++◌, map, ◌⊎◌, eqb}
+use Rattle.std.specs.Prelude.{leb, length, get_or, take}
 use Rattle.buffer.specs.Buffer.{part, word_at, word_bytes}
 use Rattle.buffer.specs.Lists.{all, index, pairs, same, tab}
+use Rattle.buffer.specs.Scattered.{gathered}
 use Rattle.buffer.specs.declared.Found.{Found}
 use Rattle.buffer.specs.declared.Found.TheVariants.{Nowhere}
 use Rattle.place.specs.Place.{apart}
@@ -21,7 +23,11 @@ DiscLength n = (n ≡ shortDisc) ⊎ (n ≡ longDisc)
 
 -- Document 01: "Ten directory entries of 16 bytes from 0: name 12, start 2, length 2."
 abbrev pub entry_of : List ℕ → Entry
-entry_of bytes = record { name = take nameSize bytes; start = word_at bytes nameSize; len = word_at bytes (nameSize + 2) }
+entry_of bytes = record {
+  name = take nameSize bytes;
+  start = word_at bytes nameSize;
+  len = word_at bytes (nameSize + 2);
+}
 
 abbrev pub entryBytes : Entry → List ℕ
 entryBytes e = e.name ++ word_bytes e.start ++ word_bytes e.len
@@ -44,9 +50,13 @@ runOf e = record { start = e.start; len = e.len }
 abbrev pub taken : List ℕ → List Run
 taken disc = map runOf (files disc)
 
--- what the file of these bytes holds
+-- ---- what a file holds
+-- where the byte at an offset of a file lies
+unfoldable pub location : List ℕ → Run → ℕ → ℕ
+location disc run i = run.start + i
+
 unfoldable pub contents : List ℕ → Run → List ℕ
-contents disc run = part disc run.start run.len
+contents disc run = gathered (location disc run) disc run.len
 
 -- ---- lookup
 abbrev pub named : List ℕ → Entry → Bool
@@ -82,3 +92,14 @@ pub record Readable (disc : List ℕ) : Type 0 where
   pub low : dataStart ≤ length disc
   pub high : length disc ≤ 65535
   pub few : fileCount disc ≤ maxFiles
+
+-- the directory has a file of that start and length
+pub record FileAt (disc : List ℕ) (run : Run) : Type 0 where
+  pub place : ℕ
+  pub inside : place < fileCount disc
+  pub run_is : run ≡ runOf (entry_at disc place)
+
+-- what code needs to know of a file to read and write its bytes
+pub record Held (disc : List ℕ) (run : Run) : Type 0 where
+  pub sound : goodDisc disc ≡ true
+  pub file : FileAt disc run

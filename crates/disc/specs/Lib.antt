@@ -1,3 +1,4 @@
 pub mod Layout
 pub mod Name
 pub mod Directory
+pub mod Offsets

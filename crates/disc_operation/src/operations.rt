@@ -8,7 +8,6 @@ ghost use Rattle.store.specs.Answer.{retrieveAnswer, storeAnswer, updated};
 
 use buffer::Found;
 use disc::Entry;
-use disc::layout::DATA_START;
 use place::Run;
 use store::{Admission, Answer, Checked, Refusal};
 
@@ -58,12 +57,14 @@ pub fn retrieve(disc: &[u8], name: &[u8], out: &mut [u8]) -> Answer
         Found::At(i) => {
             let entry = disc::directory::entry_at(disc, i);
             let len = entry.len as usize;
-            let start = entry.start as usize;
             if out.len() < len {
                 return Answer::Refused(Refusal::ShortOutput);
             }
-            let end = start + len;
-            buffer::bytes::overwrite_at(out, 0, &disc[start..end]);
+            let run = Run {
+                start: entry.start,
+                len: entry.len,
+            };
+            store::file::read_at(disc, run, 0, &mut out[..len]);
             Answer::Done(entry.len)
         }
     }
@@ -137,8 +138,5 @@ pub fn free_space(disc: &[u8]) -> Answer
     if let Checked::Unusable(refusal) = check(disc) {
         return Answer::Refused(refusal);
     }
-    let count = disc::directory::file_count(disc);
-    let runs = disc::directory::taken_runs(disc);
-    let len = place::longest_run(runs, count, DATA_START, disc.len());
-    Answer::Done(len as u16)
+    Answer::Done(store::file::room_on(disc) as u16)
 }

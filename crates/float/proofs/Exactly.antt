@@ -1,5 +1,6 @@
 -- A value that equals a whole number equals what the whole number does. Assumes nothing.
-use Rattle.std.proofs.Common.{◌≡◌, ℕ, suc, ◌*◌, ◌<◌, Bool, true, false, ◌&&◌, ◌||◌, eqb, ℤ, pos, negsuc, refl, ap, ◌∙◌, mul_right_comm, arith, to_z-of_z, w32, SFits, to_z, of_z}
+use Rattle.std.proofs.Common.{◌≡◌, ℕ, suc, ◌*◌, ◌<◌, Bool, true, false, ◌&&◌, ◌||◌, eqb, ℤ, pos, negsuc, refl, ap, ◌∙◌, mul_right_comm}
+use Rattle.std.proofs.Common.{arith, to_z-of_z, w32, SFits, to_z, of_z}
 use mathlib.Core.Bool.{beq}
 use native.Mathlib.Nat.{eq_of_mul-eq-mul_right}
 use lib.Ieee.{Float, nan, inf, fin, binary64, down, eq, level, of_int, round, up}

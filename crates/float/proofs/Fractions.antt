@@ -1,6 +1,9 @@
 -- Whole numbers out of a fraction depend on the fraction alone; and those out of a number times one power of two over another. Assumes
 -- nothing.
-use Rattle.std.proofs.Common.{◌≡◌, ℕ, zero, suc, ◌+◌, ◌-◌, ◌*◌, ◌/◌, ◌%◌, ◌^◌, ◌<◌, ◌≤◌, Bool, true, false, not, sym, refl, ap, ◌∙◌, subst, le_trans, le_of_eq, le_refl, lt_of_lt_of_le, mul-le-mul_right, mul_assoc, mul_comm, div-lt_iff_lt-mul, add-mul, le_antisymm, pow-suc, mul-add, mul_right_comm, le_of_mul-le-mul_right, mul_left_comm, arith, pow_pos, pow_mono, pow-add}
+use Rattle.std.proofs.Common.{◌≡◌, ℕ, zero, suc, ◌+◌, ◌-◌, ◌*◌, ◌/◌, ◌%◌, ◌^◌, ◌<◌, ◌≤◌, Bool, true, false, not, sym, refl, ap, ◌∙◌, subst}
+use Rattle.std.proofs.Common.{le_trans, le_of_eq, le_refl, lt_of_lt_of_le, mul-le-mul_right, mul_assoc, mul_comm, div-lt_iff_lt-mul}
+use Rattle.std.proofs.Common.{add-mul, le_antisymm, pow-suc, mul-add, mul_right_comm, le_of_mul-le-mul_right, mul_left_comm, arith, pow_pos}
+use Rattle.std.proofs.Common.{pow_mono, pow-add}
 use mathlib.Core.Path.{subst⁻¹}
 use native.Mathlib.Nat.{add-div_right, div-div-eq-div-mul, div-eq_of_lt}
 use native.Mathlib.Nat.{mul-div-mul_left}
@@ -22,8 +25,11 @@ up_le n d k h l = under
     under z = omega arith
 
 le_up : (n d k : ℕ) → 0 < d → directed true n d ≤ k → n ≤ k * d
-le_up n d k h l = omega
-    (arith, subst (λ (a : ℕ). n + (d - 1) < a) (add-mul k 1 d) ((div-lt_iff_lt-mul {k = d} {x = n + (d - 1)} {y = k + 1} h).0 (omega arith)))
+le_up n d k h l = omega (
+  arith,
+  subst (λ (a : ℕ). n + (d - 1) < a) (add-mul k 1 d) ((div-lt_iff_lt-mul {k = d} {x = n + (d - 1)} {y = k + 1} h).0 (omega
+      arith)),
+)
 
 -- ---- n / d is a / c
 pub fraction-le : (n d a c k : ℕ) → 0 < c → n * c ≡ a * d → a ≤ k * c → n ≤ k * d

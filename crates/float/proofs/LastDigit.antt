@@ -1,5 +1,7 @@
 -- A root with one binary digit too many, to the nearest: `closest` rounds the digit off, and no tie occurs. Assumes nothing.
-use Rattle.std.proofs.Common.{◌≡◌, ℕ, zero, suc, ◌+◌, ◌-◌, ◌*◌, ◌/◌, ◌%◌, ◌<◌, ◌≤◌, sym, ap, ◌∙◌, subst, ⊎_elim, le_trans, le_of_eq, lt_of_lt_of_le, le_of_suc-le-suc, not-suc-le-zero, lt_of_le_of_lt, mul-le-mul_right, mul_assoc, add-mul, eq-zero-or-pos, mul-lt-mul_of_pos_right, mul-pos, mul_left_comm, arith}
+use Rattle.std.proofs.Common.{◌≡◌, ℕ, zero, suc, ◌+◌, ◌-◌, ◌*◌, ◌/◌, ◌%◌, ◌<◌, ◌≤◌, sym, ap, ◌∙◌, subst, ⊎_elim, le_trans, le_of_eq}
+use Rattle.std.proofs.Common.{lt_of_lt_of_le, le_of_suc-le-suc, not-suc-le-zero, lt_of_le_of_lt, mul-le-mul_right, mul_assoc, add-mul}
+use Rattle.std.proofs.Common.{eq-zero-or-pos, mul-lt-mul_of_pos_right, mul-pos, mul_left_comm, arith}
 use Prim.Native.Nat.compare
 use Prim.Native.Nat.{Ordering}
 use Prim.Native.Nat.{compare}

@@ -1,5 +1,6 @@
 -- Patterns of 32 bits: which are a NaN's, and what value the three fields of another one make. Assumes nothing.
-use Rattle.std.proofs.Common.{◌≡◌, ℕ, zero, suc, ◌+◌, ◌-◌, ◌*◌, ◌/◌, ◌%◌, ◌^◌, ◌<◌, ◌≤◌, Bool, true, false, cond, not, T, eqb, leb, ◌⊎◌, sym, refl, ap, ◌∙◌, subst, inl, inr, arith, le-ltb, lt-ltb, ne_eqb, eqb-true}
+use Rattle.std.proofs.Common.{◌≡◌, ℕ, zero, suc, ◌+◌, ◌-◌, ◌*◌, ◌/◌, ◌%◌, ◌^◌, ◌<◌, ◌≤◌, Bool, true, false, cond, not, T, eqb, leb, ◌⊎◌}
+use Rattle.std.proofs.Common.{sym, refl, ap, ◌∙◌, subst, inl, inr, arith, le-ltb, lt-ltb, ne_eqb, eqb-true}
 use mathlib.Core.Path.{subst⁻¹}
 use borrow.Author.Tests.{eqb-false}
 use lib.Ieee.{Float, nan, inf, fin, Format, binary32, fits, hid, is_nan, nan_bits, ne, odd, of_bits, of_fields, ones, to_bits, top}
@@ -72,7 +73,8 @@ module _ (b : ℕ) where
     full = λ h. omega arith;
   }
 
-  normal : (s : Bool) (n t : ℕ) → (n ≡ 255 → ⊥) → (n ≡ 0 → ⊥) → HasValue (of_fields binary32 s n t) s ((t + 8388608) * 2 ^ (n - 1)) (2 ^ 149)
+  normal : (s : Bool) (n t : ℕ) → (n ≡ 255 → ⊥) → (n ≡ 0 → ⊥)
+      → HasValue (of_fields binary32 s n t) s ((t + 8388608) * 2 ^ (n - 1)) (2 ^ 149)
   unfolding of_fields
   normal s zero t h k = absurd (k refl)
   normal s (suc n) t h k =

@@ -1,5 +1,6 @@
 -- The range of a whole type: which sizes with a sign are in it. Assumes nothing.
-use Rattle.std.proofs.Common.{◌≡◌, ℕ, zero, suc, ◌+◌, ◌-◌, ◌<◌, ◌≤◌, Bool, true, false, cond, leb, ℤ, pos, negsuc, ◌-ℤ◌, neg_ℤ, sym, refl, ap, ◌∙◌, arith, to_z-of_z, w32, SFits, to_z, of_z, le-leb, leb-true}
+use Rattle.std.proofs.Common.{◌≡◌, ℕ, zero, suc, ◌+◌, ◌-◌, ◌<◌, ◌≤◌, Bool, true, false, cond, leb, ℤ, pos, negsuc, ◌-ℤ◌, neg_ℤ, sym, refl}
+use Rattle.std.proofs.Common.{ap, ◌∙◌, arith, to_z-of_z, w32, SFits, to_z, of_z, le-leb, leb-true}
 use mathlib.Core.Path.{subst⁻¹}
 use borrow.Author.Tests.{lt-leb}
 use lib.IntN.{+ℤ_idl}

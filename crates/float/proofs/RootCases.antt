@@ -1,5 +1,6 @@
 -- The root of each kind of value. Assumes nothing.
-use Rattle.std.proofs.Common.{◌≡◌, ℕ, zero, suc, ◌*◌, ◌/◌, ◌^◌, ◌<◌, Bool, true, false, ℤ, sym, refl, ap, ◌∙◌, true≢false, mul-pos, zero-mul, mul-div_cancel, arith, pow_pos}
+use Rattle.std.proofs.Common.{◌≡◌, ℕ, zero, suc, ◌*◌, ◌/◌, ◌^◌, ◌<◌, Bool, true, false, ℤ, sym, refl, ap, ◌∙◌, true≢false, mul-pos}
+use Rattle.std.proofs.Common.{zero-mul, mul-div_cancel, arith, pow_pos}
 use lib.Ieee.{Float, nan, inf, fin, binary32, down, of_bits, up}
 use lib.Ieee.Exact.{HasValue}
 use lib.Ieee.Fits.{down_pos, up_pos}

@@ -1,6 +1,9 @@
 -- The rounded root by way of the whole root of the scaled operand: of the 25 digits of that root the last one is rounded off. Assumes
 -- nothing.
-use Rattle.std.proofs.Common.{◌≡◌, ℕ, suc, ◌+◌, ◌-◌, ◌*◌, ◌/◌, ◌^◌, ◌<◌, ◌≤◌, Bool, true, false, cond, T, eqb, sym, refl, ap, ◌∙◌, subst, ⊎_elim, le_trans, le_of_eq, lt_of_lt_of_le, lt_of_le_of_lt, mul-le-mul_right, mul_assoc, suc-mul, mul_comm, mul-le-mul, le_antisymm, eq-or-lt_of_le, mul-pos, pow-suc, lt_of_not-le, not-le_of_lt, mul-div_cancel, arith, eqb→eq, pow_pos, pow_mono, pow-add, shl_lt}
+use Rattle.std.proofs.Common.{◌≡◌, ℕ, suc, ◌+◌, ◌-◌, ◌*◌, ◌/◌, ◌^◌, ◌<◌, ◌≤◌, Bool, true, false, cond, T, eqb, sym, refl, ap, ◌∙◌, subst}
+use Rattle.std.proofs.Common.{⊎_elim, le_trans, le_of_eq, lt_of_lt_of_le, lt_of_le_of_lt, mul-le-mul_right, mul_assoc, suc-mul, mul_comm}
+use Rattle.std.proofs.Common.{mul-le-mul, le_antisymm, eq-or-lt_of_le, mul-pos, pow-suc, lt_of_not-le, not-le_of_lt, mul-div_cancel, arith}
+use Rattle.std.proofs.Common.{eqb→eq, pow_pos, pow_mono, pow-add, shl_lt}
 use mathlib.Core.Path.{subst⁻¹}
 use native.Mathlib.Nat.{mul-div-mul_left}
 use lib.Ieee.{Float, nan, inf, fin, binary32, down, fits, of_bits, round, size, to_bits, top}

@@ -1,6 +1,7 @@
 -- t * 2 ^ e as m * 4 ^ g with a larger m turn by turn, until m has 49 digits: the loop of `scale`, and that every t above 0 is so scaled.
 -- Assumes nothing.
-use Rattle.std.proofs.Common.{◌≡◌, ℕ, zero, suc, ◌+◌, ◌-◌, ◌*◌, ◌/◌, ◌%◌, ◌^◌, ◌<◌, ◌≤◌, sym, refl, ap, ◌∙◌, subst, inl, inr, not-suc-le-zero, mul_assoc, mul_comm, mul-le-mul, pow-suc, mul_left_comm, arith, pow_mono, pow-add}
+use Rattle.std.proofs.Common.{◌≡◌, ℕ, zero, suc, ◌+◌, ◌-◌, ◌*◌, ◌/◌, ◌%◌, ◌^◌, ◌<◌, ◌≤◌, sym, refl, ap, ◌∙◌, subst, inl, inr}
+use Rattle.std.proofs.Common.{not-suc-le-zero, mul_assoc, mul_comm, mul-le-mul, pow-suc, mul_left_comm, arith, pow_mono, pow-add}
 use native.Mathlib.Nat.{mul-mul-mul_comm}
 use Rattle.float.specs.Scale.{IsScaled}
 use Rattle.float.proofs.Tests.{lt-or-le}

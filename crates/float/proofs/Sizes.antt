@@ -1,5 +1,6 @@
 -- What a conversion answers is in the type's range; and OPEN's size out of such an answer. Assumes nothing.
-use Rattle.std.proofs.Common.{◌≡◌, ℕ, zero, suc, ◌*◌, ◌^◌, ◌<◌, ◌≤◌, true, false, T, ℤ, pos, negsuc, nat_abs, refl, ap, ◌∙◌, subst, lt_of_le_of_lt, arith, to_z-of_z, w16, w32, Fits, SFits, to_z, of_z, lt-ltb}
+use Rattle.std.proofs.Common.{◌≡◌, ℕ, zero, suc, ◌*◌, ◌^◌, ◌<◌, ◌≤◌, true, false, T, ℤ, pos, negsuc, nat_abs, refl, ap, ◌∙◌, subst}
+use Rattle.std.proofs.Common.{lt_of_le_of_lt, arith, to_z-of_z, w16, w32, Fits, SFits, to_z, of_z, lt-ltb}
 use mathlib.Core.Path.{subst⁻¹}
 use lib.Ieee.{Float, nan, inf, fin, down, up}
 use lib.Signed.{lt_z, mag, non_neg}
@@ -43,7 +44,8 @@ module _ (z : ℤ) (f : SFits w32 z) where
   module _ (max : ℕ) (x : Float) (e : Is z ≡ whole_of TowardZero max x) where
     pub size-some : lt_z (pos 0) (to_z w32 (of_z w32 z)) ≡ true → size.Is (nat_abs (to_z w32 (of_z w32 z))) ≡ size_of max x
     unfolding size_of
-    size-some h = ap (λ (y : ℤ). size.Is (nat_abs y)) (to_z-of_z f) ∙ by z (subst (λ (y : ℤ). lt_z (pos 0) y ≡ true) (to_z-of_z f) h) ∙ ap sized e
+    size-some h = ap (λ (y : ℤ). size.Is (nat_abs y)) (to_z-of_z f) ∙ by z (subst (λ (y : ℤ). lt_z (pos 0) y ≡ true) (to_z-of_z f) h)
+        ∙ ap sized e
       where
         by : (y : ℤ) → lt_z (pos 0) y ≡ true → size.Is (nat_abs y) ≡ sized (Is y)
         by (pos zero) h = true-false h refl

@@ -1,5 +1,7 @@
 -- The definitions of Whole and Print at a value that equals a fraction a / c. Assumes nothing.
-use Rattle.std.proofs.Common.{◌≡◌, ℕ, ◌-◌, ◌*◌, ◌%◌, ◌^◌, ◌<◌, ◌≤◌, Bool, true, false, cond, not, ◌&&◌, eqb, ltb, sym, refl, ap, ◌∙◌, subst, le_trans, lt_of_lt_of_le, mul_assoc, mul-le-mul, le-div_iff_mul-le, arith, pow_pos, pow_mono, shl_exact, le-ltb, lt-ltb, ne_eqb}
+use Rattle.std.proofs.Common.{◌≡◌, ℕ, ◌-◌, ◌*◌, ◌%◌, ◌^◌, ◌<◌, ◌≤◌, Bool, true, false, cond, not, ◌&&◌, eqb, ltb, sym, refl, ap, ◌∙◌, subst}
+use Rattle.std.proofs.Common.{le_trans, lt_of_lt_of_le, mul_assoc, mul-le-mul, le-div_iff_mul-le, arith, pow_pos, pow_mono, shl_exact}
+use Rattle.std.proofs.Common.{le-ltb, lt-ltb, ne_eqb}
 use lib.Ieee.{Float, nan, inf, fin, down, up}
 use lib.Ieee.Exact.{HasValue}
 use lib.Ieee.Fits.{down_pos, up_pos}
@@ -29,7 +31,8 @@ module _ (a k : ℕ) {q : ℕ} where
 
 -- ---- a value x that is ±a / c
 module _ (s : Bool) (a c : ℕ) (hc : 0 < c) where
-  pub whole-of-value : (r : Rounding) (max : ℕ) (x : Float) → HasValue x s a c → within max (signed s (wholeSize r s a c)) ≡ whole_of r max x
+  pub whole-of-value : (r : Rounding) (max : ℕ) (x : Float) → HasValue x s a c
+      → within max (signed s (wholeSize r s a c)) ≡ whole_of r max x
   unfolding whole_of
   whole-of-value r max nan v = absurd v
   whole-of-value r max (inf t) v = absurd v

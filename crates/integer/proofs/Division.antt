@@ -1,5 +1,6 @@
 -- Negation, the quotient cut toward zero and its remainder, over the width: where they fit and what they read. Assumes nothing.
-use Rattle.std.proofs.Common.{◌≡◌, ℕ, zero, suc, ◌-◌, ◌/◌, ◌^◌, ◌<◌, ◌≤◌, ℤ, pos, negsuc, ◌-ℤ◌, neg_ℤ, sym, refl, ap, ◌∙◌, mod-eq_of_lt, div-le_self, div-one, arith, pow_pos, to_z-of_z, SFits, to_z, of_z}
+use Rattle.std.proofs.Common.{◌≡◌, ℕ, zero, suc, ◌-◌, ◌/◌, ◌^◌, ◌<◌, ◌≤◌, ℤ, pos, negsuc, ◌-ℤ◌, neg_ℤ, sym, refl, ap, ◌∙◌, mod-eq_of_lt}
+use Rattle.std.proofs.Common.{div-le_self, div-one, arith, pow_pos, to_z-of_z, SFits, to_z, of_z}
 use mathlib.Core.Path.{subst⁻¹}
 use native.Mathlib.Nat.{mod-one, div-lt_self}
 use lib.IntN.{+ℤ_idl}

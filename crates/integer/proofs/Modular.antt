@@ -1,6 +1,8 @@
 -- `residue m` carries sums, differences and products of whole numbers to those of the residues, for every m above 0; so the
 -- wrapping operations on the bits give the exact result, wrapped, at every width. Assumes nothing.
-use Rattle.std.proofs.Common.{◌≡◌, ℕ, zero, suc, ◌+◌, ◌-◌, ◌*◌, ◌/◌, ◌%◌, ◌^◌, ◌<◌, ℤ, pos, negsuc, ◌+ℤ◌, ◌-ℤ◌, ◌*ℤ◌, sym, ap, ◌∙◌, ⊎_elim, lt_of_le_of_lt, le_of_lt, mod-lt, mod-eq_of_lt, suc-mul, add-mul, eq-or-lt_of_le, mul-le-mul_left, mul-lt-mul_of_pos_right, mul_right_comm, arith, pow_pos, pow-add, to_z-of_z, Fits, SFits, to_z, of_z}
+use Rattle.std.proofs.Common.{◌≡◌, ℕ, zero, suc, ◌+◌, ◌-◌, ◌*◌, ◌/◌, ◌%◌, ◌^◌, ◌<◌, ℤ, pos, negsuc, ◌+ℤ◌, ◌-ℤ◌, ◌*ℤ◌, sym, ap, ◌∙◌, ⊎_elim}
+use Rattle.std.proofs.Common.{lt_of_le_of_lt, le_of_lt, mod-lt, mod-eq_of_lt, suc-mul, add-mul, eq-or-lt_of_le, mul-le-mul_left}
+use Rattle.std.proofs.Common.{mul-lt-mul_of_pos_right, mul_right_comm, arith, pow_pos, pow-add, to_z-of_z, Fits, SFits, to_z, of_z}
 use mathlib.Core.Path.{subst⁻¹}
 use native.Mathlib.Nat.{mod_self, suc-mod, mod-add-mod, add-mod-mod, add-mod_right, mod-add-div'}
 use native.Mathlib.Nat.{add-mul-mod_self_right, zero-mod}
@@ -91,7 +93,8 @@ module _ (m : ℕ) (h : 0 < m) where
       mod-add-mod (residue m a * residue m b) m (residue m b) ∙ ap (λ (u : ℕ). u % m) (sym (suc-mul (residue m a) (residue m b)))
       ∙ sym (mod-mul (suc (residue m a)) (residue m b)) ∙ ap (λ (u : ℕ). u * residue m b % m) (sym (residue-suc a))
 
-  mul-suc : (a b : ℤ) → residue m (a *ℤ b) ≡ residue m a * residue m b % m → residue m (suc_ℤ a *ℤ b) ≡ residue m (suc_ℤ a) * residue m b % m
+  mul-suc : (a b : ℤ) → residue m (a *ℤ b) ≡ residue m a * residue m b % m
+      → residue m (suc_ℤ a *ℤ b) ≡ residue m (suc_ℤ a) * residue m b % m
   mul-suc a b e = ap (residue m) (suc_ℤ-*ℤ a b) ∙ residue-add (a *ℤ b) b ∙ ap (λ (u : ℕ). (u + residue m b) % m) e ∙ one_more a b
 
   mul_pred : (a b : ℤ) → residue m (a *ℤ b) ≡ residue m a * residue m b % m

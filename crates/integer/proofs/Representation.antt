@@ -1,6 +1,8 @@
 -- The two's complement of a signed number and back, over the width: what `signed8`, `signed16`, `bits8` and `bits16` ask.
 -- A signed argument stands in a function's needs as `to_z w (of_z w z)`, the reading of its bits. Assumes nothing.
-use Rattle.std.proofs.Common.{◌≡◌, ℕ, suc, ◌+◌, ◌-◌, ◌*◌, ◌/◌, ◌%◌, ◌^◌, ◌<◌, ◌≤◌, Bool, true, false, T, ltb, leb, ℤ, pos, negsuc, ◌+ℤ◌, ◌*ℤ◌, neg_ℤ, nat_abs, sym, refl, ap, ◌∙◌, subst, ap₂, add-zero, mod-eq_of_lt, mul-zero, mul-one, arith, pow_pos, to_z-of_z, w8, w16, w32, w64, Fits, SFits, to_z, of_z, rules, ltb-false, ltb-true, le-ltb, lt-ltb}
+use Rattle.std.proofs.Common.{◌≡◌, ℕ, suc, ◌+◌, ◌-◌, ◌*◌, ◌/◌, ◌%◌, ◌^◌, ◌<◌, ◌≤◌, Bool, true, false, T, ltb, leb, ℤ, pos, negsuc, ◌+ℤ◌}
+use Rattle.std.proofs.Common.{◌*ℤ◌, neg_ℤ, nat_abs, sym, refl, ap, ◌∙◌, subst, ap₂, add-zero, mod-eq_of_lt, mul-zero, mul-one, arith}
+use Rattle.std.proofs.Common.{pow_pos, to_z-of_z, w8, w16, w32, w64, Fits, SFits, to_z, of_z, rules, ltb-false, ltb-true, le-ltb, lt-ltb}
 use mathlib.Core.Path.{subst⁻¹}
 use native.Mathlib.Nat.{add-mod_right, div-eq_of_lt, div-eq_of_lt-le, mod-eq-sub-mod}
 use lib.IntN.{sub_ℕ}

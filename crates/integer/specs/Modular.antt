@@ -9,6 +9,7 @@ residue m (pos n) = n % m
 residue m (negsuc n) = m - suc (n % m)
 
 -- Document 01: "otherwise the exact whole result is kept modulo 65,536, or 256 for CHAR".
--- The number of width w that differs from z by a multiple of 2 ^ bits w; `to_z w n` reads the bits n as a signed number.
+-- The number of width w that differs from z by a multiple of 2 ^ bits w; `to_z w n` reads the bits n as a signed
+-- number.
 unfoldable pub wrapped : Width → ℤ → ℤ
 wrapped w z = to_z w (residue (2 ^ bits w) z)

@@ -10,6 +10,7 @@ use lib.Count.{count_trailing_zeros}
 use lib.IntN.{negsuc, pos}
 use lib.Ieee.{of_bits, of_fields}
 use borrow.Author.Tests.{ltb-true}
+use Rattle.buffer.specs.Scattered.{gathered, scattered}
 use Rattle.buffer.specs.Lists.{all, any, flat, index, keep, pairs, same, tab}
 use Rattle.decimal.specs.Decimal.{lastDigits}
 use Rattle.float.specs.Print.{printedOf}
@@ -24,9 +25,10 @@ use Rattle.operator.specs.Unary.{unary}
 use Rattle.number.specs.Value.{number_of}
 use Rattle.place.specs.Place.{apart, begins, fits, freeFrom, greatest, least, place}
 use Rattle.disc.specs.Directory.{beside as besideEntry, contents, entry_at, fileCount, goodDisc, goodEntry, goodFiles, isDiscLength, lookup}
+use Rattle.disc.specs.Directory.{location}
 use Rattle.disc.specs.Name.{goodField, goodName, trimmed}
 use Rattle.store.specs.Answer.{checked, storeAnswer}
-use Rattle.store.specs.File.{admission, entered, erased, place_of, readAt, writtenAt}
+use Rattle.store.specs.File.{admission, entered, erased, place_of, readAt, roomOn, sizeLimit, writtenAt}
 use Rattle.variable.specs.Assign.{assignedCells, added, assigned, placeFor, placing}
 use Rattle.variable.specs.Good.{beside as besideVariable, goodSize, goodVariable, goodVariables}
 use Rattle.variable.specs.Table.{freed, owned}
@@ -80,7 +82,8 @@ started i n calls rest c =
 
 runs : Computed 1 1 alone restAlone × Computed 5 21 beside restBeside × (length (watch 1 restAlone) ≡ 11)
     × (get_or (observations (notRefused (watch 1 restAlone))) 7 (declined (pos 0)) ≡ printed)
-unfolding contents fileCount none restAlone restBeside place_in givesOut lacksSpace turnDisturbs writeLands events turnEvents shareEvents lastStorage
+unfolding contents gathered location scattered sizeLimit roomOn fileCount none restAlone restBeside place_in givesOut lacksSpace
+    turnDisturbs writeLands events turnEvents shareEvents lastStorage
     total watch answer otherAnswer storeAnswer checked isDiscLength lookup index entry_at tab goodDisc goodFiles goodEntry goodField
     goodName besideEntry all pairs apart begins fits freeFrom greatest least place place_of admission entered erased writtenAt readAt
     goodArea goodKernel goodHeader goodProcess goodLive goodRegisters goodFile isProgram otherId goodVariables goodVariable goodSize

@@ -6,14 +6,16 @@ use lib.Dec.{ltb}
 use lib.ListN.{drop, length, take}
 use lib.Seq.{split_at}
 use borrow.Author.Tests.{ltb-true}
+use Rattle.buffer.specs.Scattered.{gathered, scattered}
 use Rattle.buffer.specs.Lists.{all, any, flat, index, keep, pairs, same, tab}
 use Rattle.operator.specs.Instruction.{lookup as lookupOperator, operatorOf, includes}
 use Rattle.number.specs.Value.{number_of}
 use Rattle.place.specs.Place.{apart, begins, fits, freeFrom, greatest, least, place}
 use Rattle.disc.specs.Directory.{beside as besideEntry, contents, entry_at, fileCount, goodDisc, goodEntry, goodFiles, isDiscLength, lookup}
+use Rattle.disc.specs.Directory.{location}
 use Rattle.disc.specs.Name.{goodField, goodName, trimmed}
 use Rattle.store.specs.Answer.{checked, storeAnswer}
-use Rattle.store.specs.File.{admission, entered, erased, place_of, writtenAt}
+use Rattle.store.specs.File.{admission, entered, erased, place_of, roomOn, sizeLimit, writtenAt}
 use Rattle.variable.specs.Good.{goodVariables}
 use Rattle.variable.specs.Table.{owned}
 use Rattle.variable.specs.Bytes.{variablesOf}
@@ -41,7 +43,8 @@ use Rattle.literal_rows.specs.NewFileExample.{NewFileExample, between, calls, no
 
 computed : Passes formatted.disc formatted.area × (ltb 6 (length trace) ≡ true) × (ltb 6 (length (drop 7 trace)) ≡ true)
     × OpensNew 1 0 opening × NoneInterferes 1 between × Executes 1 0 59 reading
-unfolding contents fileCount trace events turnEvents shareEvents lastStorage total place_in writeLands inOrder shareOfTurns turnIfRunning answer
+unfolding contents gathered location scattered sizeLimit roomOn fileCount trace events turnEvents shareEvents lastStorage total place_in
+    writeLands inOrder shareOfTurns turnIfRunning answer
     otherAnswer formatAnswer storeAnswer checked isDiscLength lookup index entry_at tab goodDisc goodFiles goodEntry goodField
     goodName besideEntry all pairs apart begins fits freeFrom greatest least place place_of admission entered erased writtenAt
     goodArea goodKernel goodHeader goodProcess goodLive goodRegisters goodFile isProgram otherId goodVariables kernelOf kernelBytes

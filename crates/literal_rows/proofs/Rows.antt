@@ -2,6 +2,7 @@
 use mathlib.Core.Path.{refl}
 use lib.Count.{count_trailing_zeros}
 use lib.Ieee.{of_bits, of_fields}
+use Rattle.buffer.specs.Scattered.{gathered, scattered}
 use Rattle.buffer.specs.Lists.{all, any, flat, index, keep, pairs, same, tab}
 use Rattle.decimal.specs.Decimal.{lastDigits}
 use Rattle.float.specs.Print.{printedOf}
@@ -16,9 +17,10 @@ use Rattle.operator.specs.Unary.{unary}
 use Rattle.number.specs.Value.{number_of}
 use Rattle.place.specs.Place.{apart, begins, fits, freeFrom, greatest, least, place}
 use Rattle.disc.specs.Directory.{beside as besideEntry, contents, entry_at, fileCount, goodDisc, goodEntry, goodFiles, isDiscLength, lookup}
+use Rattle.disc.specs.Directory.{location}
 use Rattle.disc.specs.Name.{goodField, goodName, trimmed}
 use Rattle.store.specs.Answer.{checked, fileLine, filesAnswer, storeAnswer}
-use Rattle.store.specs.File.{admission, entered, erased, place_of, readAt, writtenAt}
+use Rattle.store.specs.File.{admission, entered, erased, place_of, readAt, roomOn, sizeLimit, writtenAt}
 use Rattle.variable.specs.Assign.{added, assigned, placeFor, placing}
 use Rattle.variable.specs.Good.{beside as besideVariable, goodSize, goodVariable, goodVariables}
 use Rattle.variable.specs.Table.{freed, owned}
@@ -44,7 +46,8 @@ use Rattle.literal_rows.specs.Programs.{BenchOnBytes, WaitsOnBytes}
 use Rattle.literal_rows.specs.Run.{Listings, RunOnBytes}
 
 rows : RunOnBytes × Listings × AreaRows × DiscRows × LongDiscRows × BenchOnBytes × WaitsOnBytes × NewFilesOnBytes
-unfolding contents fileCount RunOnBytes Listings AreaRows DiscRows LongDiscRows BenchOnBytes WaitsOnBytes NewFilesOnBytes laid leftBy numbers turns
+unfolding contents gathered location scattered sizeLimit roomOn fileCount RunOnBytes Listings AreaRows DiscRows LongDiscRows BenchOnBytes
+    WaitsOnBytes NewFilesOnBytes laid leftBy numbers turns
     answer otherAnswer formatAnswer
     storeAnswer checked isDiscLength filesAnswer fileLine lookup index entry_at tab goodDisc goodFiles goodEntry goodField goodName
     besideEntry all pairs apart begins fits freeFrom greatest least place place_of admission
@@ -52,7 +55,8 @@ unfolding contents fileCount RunOnBytes Listings AreaRows DiscRows LongDiscRows 
     goodRegisters goodFile isProgram otherId goodVariables goodVariable goodSize besideVariable kernelOf kernelBytes variablesOf flat any
     keep ended turned carriedOut answered owned freed assigned placeFor placing added exec performs find instructionOf operatorOf
     lookupOperator includes operates settle pop popNumber popString wellFormed trimmed same unary binary whole wrapped wholeBits
-    convertedFloat number_of text_of printedOf whole_of lastDigits of_bits of_fields count_trailing_zeros commanded starting endedSlot slotOf listText
+    convertedFloat number_of text_of printedOf whole_of lastDigits of_bits of_fields count_trailing_zeros commanded starting endedSlot
+    slotOf listText
     processLine inUse
 rows = (
   (refl, refl, refl),

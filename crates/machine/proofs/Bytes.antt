@@ -1,6 +1,5 @@
--- Lists of bytes; what is written is read back: the area's bytes and the state.
-pub mod Each
-pub mod ByteLists
+-- Texts of bytes; what is written is read back: the area's bytes and the state.
+pub mod ByteTexts
 pub mod Sizes
 pub mod Records
 pub mod Area

@@ -7,7 +7,6 @@ pub mod EffectBytes
 pub mod ExecBytes
 pub mod ByteStates
 pub mod ByteSteps
-pub mod ByteDiscs
 pub mod AnswerBytes
 pub mod TurnBytes
 pub mod CallBytes

@@ -1,5 +1,6 @@
 -- What disc and process table answer to an instruction that reaches beyond its process.
-use Rattle.std.specs.Prelude.{ℕ, ◌+◌, ◌-◌, ◌/◌, ◌%◌, Bool, true, false, cond, ◌&&◌, List, [], ◌∷◌, ◌++◌, eqb, leb, pos, length, drop}
+use Rattle.std.specs.Prelude.{ℕ, ◌+◌, ◌/◌, ◌%◌, Bool, true, false, cond, ◌&&◌, List, [], ◌∷◌, ◌++◌, eqb, leb, pos}
+use Rattle.std.specs.Prelude.{length, drop}
 use Rattle.buffer.specs.Buffer.{zeros}
 use Rattle.buffer.specs.Lists.{any}
 use Rattle.buffer.specs.declared.Found.{Found}
@@ -10,9 +11,8 @@ use Rattle.number.specs.Compare.{equals, sizeWithin}
 use Rattle.number.specs.declared.Number.{Number}
 use Rattle.place.specs.declared.Run.{Run}
 use Rattle.disc.specs.Directory.{contents, entry_at, lookup}
-use Rattle.disc.specs.Layout.{dataStart}
 use Rattle.disc.specs.Name.{trimmed}
-use Rattle.store.specs.File.{admission, readAt, stored, writtenAt}
+use Rattle.store.specs.File.{admission, readAt, sizeLimit, stored, writtenAt}
 use Rattle.store.specs.declared.Admission.{Admission}
 use Rattle.store.specs.declared.Admission.TheVariants.{Start, Denied}
 use Rattle.machine.specs.Effect.{Request, opens, closes, writes, reads, readsString, forks, awaits}
@@ -49,9 +49,9 @@ pushed l stack = record { stack = stack; pc = l.pc; loopstart = l.loopstart }
 abbrev pub pushId : Local → ℕ → Local
 pushId l id = pushed l (push l.stack 2 (id / 256 ∷ id % 256 ∷ []))
 
--- the size that OPEN's new file may have: what fits between the data's start and the disc's end, 863 or 3,935
+-- the size that OPEN's new file may have
 abbrev pub newFileSize : List ℕ → Number → Size
-newFileSize disc size = sizeWithin (length disc - dataStart) size
+newFileSize disc size = sizeWithin (sizeLimit disc) size
 
 module _ (k : Kernel) (slot : ℕ) (disc : List ℕ) where
   abbrev pub ownFile : OpenFile

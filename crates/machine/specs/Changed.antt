@@ -4,38 +4,38 @@ use Rattle.std.specs.Prelude.{ℕ, ◌+◌, ◌≤◌, ◌<◌, ◌≡◌, true,
 use Rattle.buffer.specs.Buffer.{overwrite, part}
 use Rattle.place.specs.Place.{fits, run_from}
 use Rattle.place.specs.ShortestFit.{ShortestFit}
-use Rattle.disc.specs.Directory.{contents}
+use Rattle.disc.specs.Directory.{contents, fileCount, location}
 use Rattle.disc.specs.Layout.{countAt, entrySize, nameSize}
+use Rattle.disc.specs.Offsets.{entryStart, size_of, start_of}
 use Rattle.variable.specs.Limits.{memorySize}
 use Rattle.variable.specs.Table.{counted, runOf}
 use Rattle.variable.specs.declared.Variables.{Variables}
-use Rattle.machine.specs.Fields.{Ended, Lowest, Named, NoFile, Spells, entryStart, filesOn, nextId, size_of}
-use Rattle.machine.specs.Fields.{start_of}
+use Rattle.machine.specs.Fields.{Ended, Lowest, Named, NoFile, Spells, nextId}
 use Rattle.machine.specs.Limits.{idLimit, stackSize}
 use Rattle.machine.specs.State.{noLoop, processAt, running}
 use Rattle.machine.specs.Suppositions.{othersThan}
 use Rattle.machine.specs.declared.Kernel.{Kernel}
 
--- a file of these bytes enters last, from start on; every other byte stays
+-- a file of these bytes enters last, under that start; every byte but its entry, the count and its own stays
 pub record Enters (before after name bytes : List ℕ) (start : ℕ) : Type 0 where
-  pub count : filesOn after ≡ filesOn before + 1
-  pub spelled : Spells after (entryStart (filesOn before)) name
-  pub starts : start_of after (filesOn before) ≡ start
-  pub sized : size_of after (filesOn before) ≡ length bytes
+  pub count : fileCount after ≡ fileCount before + 1
+  pub spelled : Spells after (entryStart (fileCount before)) name
+  pub starts : start_of after (fileCount before) ≡ start
+  pub sized : size_of after (fileCount before) ≡ length bytes
   pub holds : contents after (run_from start (length bytes)) ≡ bytes
   pub rest : (j : ℕ) → (j ≡ countAt → ⊥)
-      → (j < entryStart (filesOn before)) ⊎ (entryStart (filesOn before) + entrySize ≤ j)
-      → (j < start) ⊎ (start + length bytes ≤ j)
+      → (j < entryStart (fileCount before)) ⊎ (entryStart (fileCount before) + entrySize ≤ j)
+      → ((i : ℕ) → i < length bytes → j ≡ location after (run_from start (length bytes)) i → ⊥)
       → get_or after j 0 ≡ get_or before j 0
 
 -- Document 01: "Later entries move up, the vacated entry becomes zero, data bytes remain."
 pub record Leaves (before after : List ℕ) (i : ℕ) : Type 0 where
-  pub count : filesOn after + 1 ≡ filesOn before
+  pub count : fileCount after + 1 ≡ fileCount before
   pub earlier : (j : ℕ) → j < entryStart i → get_or after j 0 ≡ get_or before j 0
-  pub later : (j : ℕ) → entryStart i ≤ j → j < entryStart (filesOn after) → get_or after j 0
+  pub later : (j : ℕ) → entryStart i ≤ j → j < entryStart (fileCount after) → get_or after j 0
       ≡ get_or before (j + entrySize) 0
-  pub vacated : (j : ℕ) → entryStart (filesOn after) ≤ j → j < entryStart (filesOn before) → get_or after j 0 ≡ 0
-  pub rest : (j : ℕ) → entryStart (filesOn before) ≤ j → (j ≡ countAt → ⊥) → get_or after j 0 ≡ get_or before j 0
+  pub vacated : (j : ℕ) → entryStart (fileCount after) ≤ j → j < entryStart (fileCount before) → get_or after j 0 ≡ 0
+  pub rest : (j : ℕ) → entryStart (fileCount before) ≤ j → (j ≡ countAt → ⊥) → get_or after j 0 ≡ get_or before j 0
 
 -- Document 01, run: "Takes the lowest ended slot: state 'r', no loop, name, ID and code filled in, all else of the
 -- record zero."

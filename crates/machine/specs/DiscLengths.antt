@@ -1,31 +1,32 @@
 -- Document 02, Q-2: a disc of either length.
-use Rattle.std.specs.Prelude.{ℕ, ◌-◌, ◌*◌, ◌/◌, ◌≤◌, ◌≡◌, false, List, ◌⊎◌, eqb, ℤ, pos, neg_ℤ, length}
+use Rattle.std.specs.Prelude.{ℕ, ◌*◌, ◌/◌, ◌≤◌, ◌≡◌, false, List, ◌⊎◌, eqb, ℤ, pos, neg_ℤ, length}
 use Rattle.std.specs.Float.{fin}
 use Rattle.std.specs.Float.Ieee.{up, down}
 use Rattle.float.specs.declared.whole.Size.{Size}
 use Rattle.float.specs.declared.whole.Size.TheVariants.{Is, Refused}
 use Rattle.number.specs.declared.Number.TheVariants.{Int, Float}
-use Rattle.disc.specs.Directory.{DiscLength, isDiscLength}
-use Rattle.disc.specs.Layout.{dataStart, longDisc, shortDisc}
+use Rattle.disc.specs.Directory.{DiscLength, fileCount, isDiscLength}
+use Rattle.disc.specs.Layout.{longDisc, shortDisc}
+use Rattle.store.specs.File.{sizeLimit}
 use Rattle.machine.specs.Answer.{Buffers, answer, other, store}
 use Rattle.machine.specs.Beyond.{newFileSize}
-use Rattle.machine.specs.Fields.{IsName, filesOn}
+use Rattle.machine.specs.Fields.{IsName}
 
 -- "data ending at 1023 or 4095, so *store* takes up to 863 or 3,935"
-abbrev pub dataBytes : ℕ → ℕ
-dataBytes n = n - dataStart
-
 abbrev pub BothSizes : Type 0
-BothSizes = (dataBytes shortDisc ≡ 863) × (dataBytes longDisc ≡ 3935)
+BothSizes =
+    (disc : List ℕ)
+    → (length disc ≡ shortDisc → sizeLimit disc ≡ 863)
+    × (length disc ≡ longDisc → sizeLimit disc ≡ 3935)
 
 abbrev pub Fitting : (disc : List ℕ) (n : ℕ) → Type 0
-Fitting disc n = (1 ≤ n) × (n ≤ dataBytes (length disc))
+Fitting disc n = (1 ≤ n) × (n ≤ sizeLimit disc)
 
 -- a disc without files, whatever its other bytes, takes any file that fits under any good name, and refuses every other
 -- by 6
 abbrev pub EmptyDiscTakes : Type 0
 EmptyDiscTakes =
-    (b : Buffers) (name bytes : List ℕ) → DiscLength (length b.disc) → filesOn b.disc ≡ 0 → IsName name
+    (b : Buffers) (name bytes : List ℕ) → DiscLength (length b.disc) → fileCount b.disc ≡ 0 → IsName name
     → let a = answer (other (store name bytes)) b in let fitting = Fitting b.disc (length bytes) in
     (fitting × (a.number ≡ pos 0)) ⊎ ((fitting → ⊥) × (a.number ≡ neg_ℤ (pos 6)))
 

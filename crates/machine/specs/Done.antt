@@ -2,13 +2,14 @@
 -- turns.
 use Rattle.std.specs.Prelude.{ℕ, ◌<◌, ◌≡◌, List, pos, length, get_or}
 use Rattle.buffer.specs.Buffer.{overwrite}
-use Rattle.place.specs.ShortestFit.{ShortestFit}
+use Rattle.store.specs.Room.{HasRoom, NoRoom, Placed}
+use Rattle.disc.specs.Offsets.{bytes_of, size_of}
 use Rattle.machine.specs.Answer.{Answer, Buffers, command, share, run, other, store, retrieve, erase, files}
 use Rattle.machine.specs.Answer.{freeSpace, list, answer, bootAnswer, formatAnswer}
 use Rattle.machine.specs.Area.{kernelOf}
 use Rattle.machine.specs.Changed.{Enters, Leaves, Starts}
 use Rattle.machine.specs.Ending.{Touched}
-use Rattle.machine.specs.Fields.{Free, HasId, Named, bytes_of, filesText, nextId, processesText, size_of}
+use Rattle.machine.specs.Fields.{HasId, Named, filesText, nextId, processesText}
 use Rattle.machine.specs.Limits.{areaLength, next_at}
 use Rattle.machine.specs.Operations.{Command, suspend, resume, kill}
 use Rattle.machine.specs.Refusals.{state_of}
@@ -22,7 +23,7 @@ StoreDone =
     (b : Buffers) (name bytes : List ℕ) (n : ℕ) → let a = answer (other (store name bytes)) b in
     a.number ≡ pos n
     → (n ≡ 0)
-    × ((start : ℕ) × ShortestFit (Free b.disc) (length bytes) start × Enters b.disc a.disc name bytes start)
+    × ((start : ℕ) × Placed b.disc (length bytes) start × Enters b.disc a.disc name bytes start)
 
 -- "Returns the length, its bytes written."
 abbrev pub RetrieveDone : Type 0
@@ -44,11 +45,11 @@ Lists text b a = (n : ℕ) → a.number ≡ pos n → (n ≡ length text) × (a.
 abbrev pub FilesDone : Type 0
 FilesDone = (b : Buffers) → Lists (filesText b.disc) b (answer (other files) b)
 
--- a run that long is free, no longer one is
+-- a file that long has room, no longer one has
 abbrev pub FreeSpaceDone : Type 0
 FreeSpaceDone =
     (b : Buffers) (n : ℕ) → (answer (other freeSpace) b).number ≡ pos n
-    → (0 < n → (start : ℕ) × Free b.disc n start) × ((m start : ℕ) → n < m → Free b.disc m start → ⊥)
+    → (0 < n → HasRoom b.disc n) × ((m : ℕ) → n < m → NoRoom b.disc m)
 
 -- ---- processes
 -- "Returns the ID."

@@ -4,10 +4,10 @@ use Rattle.std.specs.Prelude.{ℕ, ◌+◌, ◌*◌, ◌≤◌, ◌<◌, ◌≡�
 use Rattle.buffer.specs.Buffer.{part, word_at}
 use Rattle.buffer.specs.Lists.{flat, tab}
 use Rattle.decimal.specs.Decimal.{decimal}
-use Rattle.place.specs.Place.{run_from}
-use Rattle.disc.specs.Directory.{contents, fileCount}
-use Rattle.disc.specs.Layout.{countAt, dataStart, entrySize, maxName, nameSize}
+use Rattle.disc.specs.Directory.{fileCount}
+use Rattle.disc.specs.Layout.{maxName, nameSize}
 use Rattle.disc.specs.Name.{trimmed}
+use Rattle.disc.specs.Offsets.{entryStart, size_of, start_of}
 use Rattle.machine.specs.Limits.{next_at, recordSize, recordsAt, slotCount}
 use Rattle.machine.specs.State.{paused, running}
 
@@ -26,37 +26,15 @@ pub record IsName (name : List ℕ) : Type 0 where
 abbrev pub Spells : List ℕ → ℕ → List ℕ → Type 0
 Spells buffer at name = (j : ℕ) → j < nameSize → get_or buffer (at + j) 0 ≡ get_or name j 0
 
--- ---- the disc: "name 12, start 2, length 2"
-abbrev pub entryStart : ℕ → ℕ
-entryStart i = i * entrySize
-
-abbrev pub filesOn : List ℕ → ℕ
-filesOn disc = fileCount disc
-
-abbrev pub start_of : List ℕ → ℕ → ℕ
-start_of disc i = word_at disc (entryStart i + 12)
-
-abbrev pub size_of : List ℕ → ℕ → ℕ
-size_of disc i = word_at disc (entryStart i + 14)
-
--- what file i holds
-abbrev pub bytes_of : List ℕ → ℕ → List ℕ
-bytes_of disc i = contents disc (run_from (start_of disc i) (size_of disc i))
-
+-- ---- files
 -- file i has that name
 pub record Named (disc name : List ℕ) (i : ℕ) : Type 0 where
-  pub counted : i < filesOn disc
+  pub counted : i < fileCount disc
   pub good : IsName name
   pub spelled : Spells disc (entryStart i) name
 
 abbrev pub NoFile : (disc name : List ℕ) → Type 0
 NoFile disc name = (i : ℕ) → Named disc name i → ⊥
-
--- n bytes from start on are data bytes, and no file's
-pub record Free (disc : List ℕ) (n start : ℕ) : Type 0 where
-  pub low : dataStart ≤ start
-  pub high : start + n ≤ length disc
-  pub clear : (i : ℕ) → i < filesOn disc → (start + n ≤ start_of disc i) ⊎ (start_of disc i + size_of disc i ≤ start)
 
 -- ---- the work area: "name 12, ID 2, state 1, fault 1, [..] file start 2, file length 2"
 abbrev pub recordStart : ℕ → ℕ
@@ -103,7 +81,7 @@ abbrev pub fileText : List ℕ → ℕ → List ℕ
 fileText disc i = trimmed (part disc (entryStart i) nameSize) ++ (32 ∷ []) ++ decimal (size_of disc i) ++ (10 ∷ [])
 
 abbrev pub filesText : List ℕ → List ℕ
-filesText disc = flat (fileText disc) (tab (λ i. i) (filesOn disc))
+filesText disc = flat (fileText disc) (tab (λ i. i) (fileCount disc))
 
 -- "ID, space, 'r' or 'p', space, name, newline per live process in slot order"
 abbrev pub processText : List ℕ → ℕ → List ℕ

@@ -1,11 +1,12 @@
 -- What a call leaves alone, done or refused.
 use Rattle.std.specs.Prelude.{ℕ, ◌≤◌, ◌≡◌, true, List, pos, get_or}
+use Rattle.disc.specs.Offsets.{bytes_of, size_of, start_of}
 use Rattle.variable.specs.Table.{owned}
 use Rattle.machine.specs.Answer.{Answer, Buffers, Call, Other, turn, round, command, share, run, other, store}
 use Rattle.machine.specs.Answer.{retrieve, erase, files, freeSpace, list, answer, bootAnswer, formatAnswer}
 use Rattle.machine.specs.Area.{kernelOf}
 use Rattle.machine.specs.AtPc.{byteAhead, processIn}
-use Rattle.machine.specs.Fields.{Named, bytes_of, openSize, openStart, size_of, start_of}
+use Rattle.machine.specs.Fields.{Named, openSize, openStart}
 use Rattle.machine.specs.Refusals.{state_of}
 use Rattle.machine.specs.State.{isLive, processAt}
 use Rattle.machine.specs.Tests.{Unchanged}

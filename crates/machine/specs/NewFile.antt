@@ -3,9 +3,9 @@ use Rattle.std.specs.Prelude.{ℕ, ◌+◌, ◌≡◌, Bool, true, false, ◌||�
 use Rattle.buffer.specs.Lists.{all}
 use Rattle.buffer.specs.declared.Found.{Found}
 use Rattle.buffer.specs.declared.Found.TheVariants.{At, Nowhere}
+use Rattle.disc.specs.Directory.{fileCount}
 use Rattle.machine.specs.Answer.{Call, turn}
 use Rattle.machine.specs.Beyond.{advanced, fileRun}
-use Rattle.machine.specs.Fields.{filesOn}
 use Rattle.machine.specs.Observation.{place_in}
 use Rattle.machine.specs.Refusals.{Passes}
 use Rattle.machine.specs.State.{localOf, withFile, withLocal, withShare}
@@ -24,7 +24,7 @@ pub record Executes (i slot byte : ℕ) (e : Event) : Type 0 where
 -- an OPEN that leaves a file more on the disc
 pub record OpensNew (i slot : ℕ) (e : Event) : Type 0 where
   pub opens : Executes i slot 53 e
-  pub more : filesOn e.after.disc ≡ filesOn e.before.disc + 1
+  pub more : fileCount e.after.disc ≡ fileCount e.before.disc + 1
 
 -- ---- what may not come between: an instruction of the process, and a write into the file that it has open
 abbrev pub turnInterferes : Found → ℕ → Event → Bool

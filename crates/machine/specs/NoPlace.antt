@@ -5,9 +5,11 @@ use Rattle.float.specs.declared.whole.Size.TheVariants.{Is, Refused}
 use Rattle.place.specs.Place.{fits}
 use Rattle.place.specs.declared.Run.{Run}
 use Rattle.disc.specs.Layout.{maxFiles}
+use Rattle.disc.specs.Directory.{fileCount}
+use Rattle.store.specs.Room.{NoRoom}
 use Rattle.variable.specs.Assign.{entryLimit, highEnd, low_end, takenRuns}
 use Rattle.variable.specs.declared.Variables.{Variables}
-use Rattle.machine.specs.Fields.{Free, IsName, filesOn}
+use Rattle.machine.specs.Fields.{IsName}
 
 -- no start for n bytes among these runs between lo and hi
 abbrev pub NoneFits : List Run → ℕ → ℕ → ℕ → Type 0
@@ -21,5 +23,5 @@ Lacking v n = (entryLimit ≤ v.count) ⊎ NoneFits (takenRuns v) low_end highEn
 pub data NewFileRefused (disc name : List ℕ) (size : Size) : Type 0 where
   by_name : (IsName name → ⊥) → NewFileRefused disc name size
   by_size : size ≡ Refused → NewFileRefused disc name size
-  by-full : filesOn disc ≡ maxFiles → NewFileRefused disc name size
-  by-no-run : (n : ℕ) → size ≡ Is n → ((start : ℕ) → Free disc n start → ⊥) → NewFileRefused disc name size
+  by-full : fileCount disc ≡ maxFiles → NewFileRefused disc name size
+  by-no-run : (n : ℕ) → size ≡ Is n → NoRoom disc n → NewFileRefused disc name size

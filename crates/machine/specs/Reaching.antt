@@ -1,14 +1,15 @@
 -- The instructions that reach beyond their process, exactly: from the byte at PC and the stack, what is due is done,
 -- and which fault comes of what.
-use Rattle.std.specs.Prelude.{ℕ, ◌+◌, ◌/◌, ◌%◌, ◌≤◌, ◌<◌, ◌≡◌, true, false, List, [], ◌∷◌, ◌++◌, ◌⊎◌, pos, length, get_or}
+use Rattle.std.specs.Prelude.{ℕ, ◌+◌, ◌/◌, ◌%◌, ◌≤◌, ◌<◌, ◌≡◌, true, false, List, [], ◌∷◌, ◌++◌, ◌⊎◌, pos, length}
+use Rattle.std.specs.Prelude.{get_or}
 use Rattle.buffer.specs.Buffer.{part, zeros}
 use Rattle.float.specs.declared.whole.Size.TheVariants.{Is}
 use Rattle.number.specs.Compare.{equals}
 use Rattle.number.specs.Value.{number_of}
-use Rattle.place.specs.ShortestFit.{ShortestFit}
-use Rattle.disc.specs.Directory.{contents}
+use Rattle.disc.specs.Directory.{contents, fileCount, location}
 use Rattle.disc.specs.Layout.{maxFiles}
-use Rattle.store.specs.File.{writtenAt}
+use Rattle.disc.specs.Offsets.{size_of, start_of}
+use Rattle.store.specs.Room.{Placed}
 use Rattle.machine.specs.Answer.{Buffers}
 use Rattle.machine.specs.AtPc.{AtPc, NumberOnTop, Onward, SameDisc, StringOnTop, ValueOnTop, ahead, byteAhead}
 use Rattle.machine.specs.AtPc.{fileIn, pcIn, processIn, stackIn, stateAfter, turnAnswer}
@@ -16,8 +17,7 @@ use Rattle.machine.specs.Beyond.{fileRun, newFileSize}
 use Rattle.machine.specs.Changed.{Assigns, CannotStart, Enters, Starts}
 use Rattle.machine.specs.Demands.{EndedOnly}
 use Rattle.machine.specs.Faults.{FaultsBounded}
-use Rattle.machine.specs.Fields.{Free, IsName, Live, Lowest, Named, NoFile, filesOn, id_of, nextId, size_of}
-use Rattle.machine.specs.Fields.{start_of}
+use Rattle.machine.specs.Fields.{IsName, Live, Lowest, Named, NoFile, id_of, nextId}
 use Rattle.machine.specs.Limits.{stackSize}
 use Rattle.machine.specs.NoPlace.{NewFileRefused}
 use Rattle.machine.specs.Refusals.{state_of}
@@ -59,8 +59,8 @@ module _ (b : Buffers) (slot clock : ℕ) where
   -- goes at the start of the shortest free run that fits, the lowest of equals."
   abbrev pub Creates : List ℕ → List ℕ → ℕ → Type 0
   Creates rest text n =
-      IsName text × (filesOn b.disc < maxFiles)
-      × ((start : ℕ) × ShortestFit (Free b.disc) n start
+      IsName text × (fileCount b.disc < maxFiles)
+      × ((start : ℕ) × Placed b.disc n start
       × Onward b slot clock (pcIn b slot + 1) rest (record { start = start; len = n; offset = 0 })
       × Enters b.disc (turnAnswer b slot clock).disc text (zeros n) start)
 
@@ -83,12 +83,21 @@ module _ (b : Buffers) (slot clock : ℕ) where
       ⊎ ((0 < (fileIn b slot).len) × ((((fileIn b slot).len < (fileIn b slot).offset + n) × Faults 12)
       ⊎ (((fileIn b slot).offset + n ≤ (fileIn b slot).len) × done)))
 
+  -- these bytes lie at their places in the file, and every other byte of the disc stays
+  pub record Writes (bytes : List ℕ) (after : List ℕ) : Type 0 where
+    pub long : length after ≡ length b.disc
+    pub there : (i : ℕ) → i < length bytes
+        → get_or after (location b.disc (fileRun (fileIn b slot)) ((fileIn b slot).offset + i)) 0 ≡ get_or bytes i 0
+    pub others : (j : ℕ)
+        → ((i : ℕ) → i < length bytes → j ≡ location b.disc (fileRun (fileIn b slot)) ((fileIn b slot).offset + i) → ⊥)
+        → get_or after j 0 ≡ get_or b.disc j 0
+
   abbrev pub WriteExactly : Type 0
   WriteExactly =
       (rest : List ℕ) (kind : ℕ) (bytes : List ℕ) → AtPc b slot 55 → ValueOnTop (stackIn b slot) rest kind bytes
       → InFile (length bytes)
       (Onward b slot clock (pcIn b slot + 1) rest (ahead b slot (length bytes))
-      × ((turnAnswer b slot clock).disc ≡ writtenAt b.disc (fileRun (fileIn b slot)) (fileIn b slot).offset bytes))
+      × Writes bytes (turnAnswer b slot clock).disc)
 
   -- n bytes are read and these are pushed, if the stack can take them
   abbrev pub Receives : ℕ → List ℕ → Type 0

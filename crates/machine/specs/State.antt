@@ -1,5 +1,6 @@
 -- The kernel's state: processes and their states.
-use Rattle.std.specs.Prelude.{ℕ, ◌-◌, Bool, ◌&&◌, ◌||◌, not, List, [], ◌++◌, map, eqb, get_or, length, replicate, set, take}
+use Rattle.std.specs.Prelude.{ℕ, ◌-◌, Bool, ◌&&◌, ◌||◌, not, List, [], ◌++◌, map, eqb, get_or, length, replicate, set}
+use Rattle.std.specs.Prelude.{take}
 use Rattle.buffer.specs.Lists.{index, keep}
 use Rattle.buffer.specs.declared.Found.{Found}
 use Rattle.place.specs.Place.{no_run}

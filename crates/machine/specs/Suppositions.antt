@@ -1,6 +1,7 @@
 -- What demand 3 supposes of a process, event by event: it executes no file, FORK or WAITUNTILDONE instruction, no write
 -- lands in its program file, and no SET of its own lacks space.
-use Rattle.std.specs.Prelude.{ℕ, ◌≡◌, Bool, true, false, ◌&&◌, ◌||◌, not, List, map, eqb, leb, ℤ, pos, negsuc, get_or, length}
+use Rattle.std.specs.Prelude.{ℕ, ◌≡◌, Bool, true, false, ◌&&◌, ◌||◌, not, List, map, eqb, leb, ℤ, pos, negsuc, get_or}
+use Rattle.std.specs.Prelude.{length}
 use Rattle.buffer.specs.Lists.{all, any, keep, tab}
 use Rattle.buffer.specs.declared.Found.{Found}
 use Rattle.buffer.specs.declared.Found.TheVariants.{At, Nowhere}

@@ -1,13 +1,16 @@
 -- The tests of every call, in document 01's order: the first that fails refuses it by its number, and a call that none
 -- fails is done.
-use Rattle.std.specs.Prelude.{ℕ, ◌+◌, ◌≤◌, ◌<◌, ◌≡◌, true, List, ◌⊎◌, pos, neg_ℤ, length}
-use Rattle.disc.specs.Directory.{DiscLength, goodDisc}
-use Rattle.disc.specs.Layout.{dataStart, maxFiles}
+use Rattle.std.specs.Prelude.{ℕ, ◌≤◌, ◌<◌, ◌≡◌, true, List, ◌⊎◌, pos, neg_ℤ, length}
+use Rattle.disc.specs.Directory.{DiscLength, fileCount, goodDisc}
+use Rattle.disc.specs.Layout.{maxFiles}
+use Rattle.disc.specs.Offsets.{size_of}
+use Rattle.store.specs.File.{sizeLimit}
+use Rattle.store.specs.Room.{HasRoom}
 use Rattle.machine.specs.Answer.{Answer, Buffers, Call, Other, turn, round, command, share, run, other, store}
 use Rattle.machine.specs.Answer.{retrieve, erase, files, freeSpace, list, answer, bootAnswer, formatAnswer}
 use Rattle.machine.specs.Answer.{goodArea}
-use Rattle.machine.specs.Fields.{Ended, Free, HasId, IsName, Named, NoFile, Uses, filesOn, filesText, nextId}
-use Rattle.machine.specs.Fields.{processesText, size_of, stateByte}
+use Rattle.machine.specs.Fields.{Ended, HasId, IsName, Named, NoFile, Uses, filesText, nextId}
+use Rattle.machine.specs.Fields.{processesText, stateByte}
 use Rattle.machine.specs.Limits.{areaLength, idLimit, maxShare, roundRoom, slotCount, turnRoom}
 use Rattle.machine.specs.Operations.{Command, suspend, resume, kill}
 use Rattle.machine.specs.State.{paused, running}
@@ -53,10 +56,10 @@ abbrev pub otherTests : Other → Buffers → Tests
 otherTests (store name bytes) b =
     onDisc b
     (test 5 (IsName name)
-    (test 6 ((1 ≤ length bytes) × (dataStart + length bytes ≤ length b.disc))
-    (test 8 (filesOn b.disc < maxFiles)
+    (test 6 ((1 ≤ length bytes) × (length bytes ≤ sizeLimit b.disc))
+    (test 8 (fileCount b.disc < maxFiles)
     (test 7 (NoFile b.disc name)
-    (test 9 ((start : ℕ) × Free b.disc (length bytes) start)
+    (test 9 (HasRoom b.disc (length bytes))
     passed)))))
 otherTests (retrieve name) b =
     onDisc b

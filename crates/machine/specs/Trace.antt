@@ -1,5 +1,6 @@
 -- A run: any list of calls from any two buffers, and the events that it comes to.
-use Rattle.std.specs.Prelude.{ℕ, zero, suc, ◌+◌, ◌≡◌, Bool, List, [], ◌∷◌, ◌++◌, leb, ℤ, pos, negsuc, length, drop, replicate, take}
+use Rattle.std.specs.Prelude.{ℕ, zero, suc, ◌+◌, ◌≡◌, Bool, List, [], ◌∷◌, ◌++◌, leb, ℤ, pos, negsuc, length, drop}
+use Rattle.std.specs.Prelude.{replicate, take}
 use Rattle.buffer.specs.Buffer.{overwrite}
 use Rattle.buffer.specs.Lists.{consIf, flat}
 use Rattle.machine.specs.Answer.{Answer, Buffers, Call, turn, round, command, share, run, other, answer}

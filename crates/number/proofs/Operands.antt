@@ -1,6 +1,7 @@
 -- Whole operands as the machine reads them, over the width: `to_z w (of_z w x)` stands for x wherever a call or an operation takes it.
 -- Assumes nothing.
-use Rattle.std.proofs.Common.{◌≡◌, ℕ, suc, ◌-◌, ◌^◌, ◌<◌, Bool, true, false, T, eqb, leb, ℤ, pos, negsuc, sym, refl, ap, ◌∙◌, arith, pow_pos, to_z-of_z, SFits, to_z, of_z, eq-eqb, ne_eqb, eqb-true}
+use Rattle.std.proofs.Common.{◌≡◌, ℕ, suc, ◌-◌, ◌^◌, ◌<◌, Bool, true, false, T, eqb, leb, ℤ, pos, negsuc, sym, refl, ap, ◌∙◌, arith}
+use Rattle.std.proofs.Common.{pow_pos, to_z-of_z, SFits, to_z, of_z, eq-eqb, ne_eqb, eqb-true}
 use borrow.Author.Tests.{eqb-false}
 use mir.Syntax.{Width}
 use mir.Val.{bits, hbits}

@@ -1,5 +1,6 @@
 -- The sign of a whole number and its size, from the number and from its bits, over the width. Assumes nothing.
-use Rattle.std.proofs.Common.{◌≡◌, ℕ, ◌-◌, ◌^◌, ◌<◌, Bool, true, false, ℤ, pos, negsuc, neg_ℤ, nat_abs, sym, refl, ap, ◌∙◌, arith, to_z-of_z, SFits, to_z, of_z, ltb-true}
+use Rattle.std.proofs.Common.{◌≡◌, ℕ, ◌-◌, ◌^◌, ◌<◌, Bool, true, false, ℤ, pos, negsuc, neg_ℤ, nat_abs, sym, refl, ap, ◌∙◌, arith}
+use Rattle.std.proofs.Common.{to_z-of_z, SFits, to_z, of_z, ltb-true}
 use lib.Signed.{lt_z}
 use mir.Syntax.{Width}
 use mir.Val.{bits}

@@ -1,5 +1,6 @@
 -- A whole number as a size from 1 to max, by the two tests of it. Assumes nothing.
-use Rattle.std.proofs.Common.{◌≡◌, ℕ, zero, suc, ◌<◌, ◌≤◌, Bool, true, false, cond, T, ℤ, pos, negsuc, nat_abs, sym, refl, ap, ◌∙◌, lt_of_le_of_lt, arith, to_z-of_z, w16, w32, Fits, SFits, to_z, of_z, ltb-true, leb-true}
+use Rattle.std.proofs.Common.{◌≡◌, ℕ, zero, suc, ◌<◌, ◌≤◌, Bool, true, false, cond, T, ℤ, pos, negsuc, nat_abs, sym, refl, ap, ◌∙◌}
+use Rattle.std.proofs.Common.{lt_of_le_of_lt, arith, to_z-of_z, w16, w32, Fits, SFits, to_z, of_z, ltb-true, leb-true}
 use mathlib.Core.Path.{subst⁻¹}
 use lib.Signed.{lt_z, le_z, non_neg}
 use mir.Facts.{to_z_pos}

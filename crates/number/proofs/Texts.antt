@@ -1,5 +1,7 @@
 -- Texts laid one behind the other, and how long they are. Assumes nothing.
-use Rattle.std.proofs.Common.{◌≡◌, ℕ, suc, ◌+◌, ◌/◌, ◌≤◌, Bool, true, false, List, [], ◌∷◌, ◌++◌, length, drop, ℤ, pos, negsuc, nat_abs, sym, ap, ◌∙◌, ap₂, append_assoc, append-nil, add_assoc, arith, length-append, drop-drop, to_z-of_z, SFits, to_z, of_z, le-ltb}
+use Rattle.std.proofs.Common.{◌≡◌, ℕ, suc, ◌+◌, ◌/◌, ◌≤◌, Bool, true, false, List, [], ◌∷◌, ◌++◌, length, drop, ℤ, pos, negsuc, nat_abs}
+use Rattle.std.proofs.Common.{sym, ap, ◌∙◌, ap₂, append_assoc, append-nil, add_assoc, arith, length-append, drop-drop, to_z-of_z, SFits}
+use Rattle.std.proofs.Common.{to_z, of_z, le-ltb}
 use lib.Seq.{take-append_seam, drop-append-add}
 use lib.Signed.{lt_z}
 use mir.Syntax.{Width}

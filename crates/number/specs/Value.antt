@@ -36,7 +36,9 @@ unfoldable pub number_of : ℕ → List ℕ → Number
 number_of kind bytes =
     cond (kind == 1) (Char (to_z w8 (slice_index bytes 0)))
     (cond (kind == 2) (Int (to_z w16 (slice_index bytes 0 * 256 + slice_index bytes 1)))
-    (Float (from_bits binary32 (joined (slice_index bytes 0) (slice_index bytes 1) (slice_index bytes 2) (slice_index bytes 3)))))
+    (Float
+    (from_bits binary32
+    (joined (slice_index bytes 0) (slice_index bytes 1) (slice_index bytes 2) (slice_index bytes 3)))))
 
 -- Document 01: "NaN counts as not zero, −0 as zero."
 abbrev pub isZero : Number → Bool

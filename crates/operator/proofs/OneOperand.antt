@@ -84,7 +84,8 @@ module _ (w : Width) {max : ℕ} (small : max < 2 ^ hbits w) (r : Rounding) (x :
     narrows = subst⁻¹ (SFits w) (to_z-of_z f) fits
 
     pub narrowed : (k : ℤ → Number) → Value (k (to_z w (of_z w (to_z w32 (of_z w32 z))))) ≡ valueOr k (whole_of r max x)
-    narrowed k = ap (λ (y : ℤ). Value (k y)) (ap (λ (y : ℤ). to_z w (of_z w y)) (to_z-of_z f) ∙ to_z-of_z fits) ∙ ap (valueOr k) (sym ez ∙ eo)
+    narrowed k = ap (λ (y : ℤ). Value (k y)) (ap (λ (y : ℤ). to_z w (of_z w y)) (to_z-of_z f) ∙ to_z-of_z fits) ∙ ap (valueOr k) (sym ez
+        ∙ eo)
 
   pub beyond : o ≡ Beyond → (k : ℤ → Number) → OutOfRange ≡ valueOr k (whole_of r max x)
   beyond e k = ap (valueOr k) (sym e ∙ eo)

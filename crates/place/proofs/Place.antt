@@ -214,7 +214,8 @@ module _ (runs : List Run) (lo hi n : ℕ) where
         high = omega (arith, x.high);
         free =
             all_both (λ v. not (eqb (v.start + v.len) s)) (apart (run_from s n)) (apart (run_from (s - 1) (suc n))) runs
-            (λ v h k. is-apart (run_from (s - 1) (suc n)) v (wider s up v (eqb-false _ _ (not-true _ h)) (apart-is (run_from s n) v k))) ends
+            (λ v h k. is-apart (run_from (s - 1) (suc n)) v (wider s up v (eqb-false _ _ (not-true _ h)) (apart-is (run_from s n) v k)))
+            ends
             x.free;
       }))
       (begins-first runs lo hi n s (s - 1) (omega arith) b)

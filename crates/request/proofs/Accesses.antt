@@ -56,7 +56,7 @@ module _ (f : OpenFile) (n : ℕ) where
           → Ahead disc f n
       go true p b q e = absurd (let z : ◌≡◌ {A = ℕ} 0 1 = cc in omega arith)
       go false p false q e = absurd (let z : ◌≡◌ {A = ℕ} 0 1 = cc in omega arith)
-      go false p true q e = record { within = leb-true _ _ q; inside = l.inside (eqb-false _ _ p) }
+      go false p true q e = record { within = leb-true _ _ q; held = l.held (eqb-false _ _ p) }
 
 -- ---- the answer to an access: the fault, or the rest
 abbrev pub granted : Access → Answered → Answered
@@ -134,7 +134,7 @@ module _ {area : List ℕ} {slot : ℕ} {p : Process} {d : Step} (s : Stepping a
   unfolding readAt
   read_length =
       part_length (contents disc (fileRun p.file)) p.file.offset n
-      (omega (arith, contents-length disc (fileRun p.file) h.inside, h.within))
+      (omega (arith, contents-length disc (fileRun p.file), h.within))
 
   -- with a tail behind what is read
   abbrev pub readOnto : List ℕ → List ℕ
@@ -175,9 +175,9 @@ module _ {area : List ℕ} {slot : ℕ} {p : Process} {d : Step} (s : Stepping a
   abbrev text : List ℕ
   text = textIn disc f
 
-  pub text-short : f.start + f.len ≤ length disc → length text ≤ f.len
-  text-short h =
-      let n = contents-length disc (fileRun f) h in
+  pub text-short : length text ≤ f.len
+  text-short =
+      let n = contents-length disc (fileRun f) in
       omega (arith, trimmed-short (drop f.offset (contents disc (fileRun f))), length-drop f.offset (contents disc (fileRun f)))
 
   -- with its zero, as the bytes of the file
@@ -185,7 +185,7 @@ module _ {area : List ℕ} {slot : ℕ} {p : Process} {d : Step} (s : Stepping a
   unfolding readAt
   with-zero h =
       let rest = drop f.offset (contents disc (fileRun f)) in
-      text-with-zero rest (simp length-drop (omega (arith, contents-length disc (fileRun f) h.inside, h.within)))
+      text-with-zero rest (simp length-drop (omega (arith, contents-length disc (fileRun f), h.within)))
 
   pub text-received : {n : ℕ} → n ≡ length text + 1 → (f.len ≡ 0 → ⊥) → Ahead disc f n
       → answered (kernelOf area) slot disc (readsString (keeping (stack_of p) d))

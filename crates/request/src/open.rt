@@ -10,7 +10,6 @@ ghost use Rattle.disc.specs.Directory.{Readable};
 ghost use Rattle.store.specs.File.{admission};
 
 use buffer::Found;
-use disc::layout::DATA_START;
 use float::whole::Size;
 use machine::{OpenFile, Process};
 use number::Number;
@@ -63,7 +62,7 @@ fn open_new(disc: &mut [u8], area: &mut [u8], slot: usize, p: Process, d: Step, 
         (created (kernelOf area.old) slot disc.old (newFileSize disc.old size)
         (about d) (keeping (stack_of p) d)) }
 {
-    let max = disc.len() - DATA_START;
+    let max = store::file::size_limit(disc);
     match size_within(size, max as u16) {
         Size::Is(n) => create_file(disc, area, slot, p, d, n),
         Size::Refused => finish(area, slot, FILE_REFUSED),

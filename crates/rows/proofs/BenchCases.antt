@@ -3,6 +3,7 @@ use mathlib.Core.Path.{refl}
 use lib.Count.{count_trailing_zeros}
 use lib.Ieee.{of_bits, of_fields}
 use lib.IntN.{one, pow}
+use Rattle.buffer.specs.Scattered.{gathered, scattered}
 use Rattle.buffer.specs.Lists.{all, any, flat, index, keep, pairs, same, tab}
 use Rattle.decimal.specs.Decimal.{lastDigits}
 use Rattle.float.specs.Print.{printedOf}
@@ -19,10 +20,10 @@ use Rattle.number.specs.Text.{text_of}
 use Rattle.operator.specs.Unary.{unary}
 use Rattle.number.specs.Value.{number_of}
 use Rattle.place.specs.Place.{apart, begins, fits, freeFrom, greatest, least, place}
-use Rattle.disc.specs.Directory.{beside, contents, entry_at, fileCount, goodDisc, goodEntry, goodFiles, isDiscLength, lookup}
+use Rattle.disc.specs.Directory.{beside, contents, entry_at, fileCount, goodDisc, goodEntry, goodFiles, isDiscLength, lookup, location}
 use Rattle.disc.specs.Name.{goodField, goodName, trimmed}
 use Rattle.store.specs.Answer.{checked, storeAnswer}
-use Rattle.store.specs.File.{admission, entered, erased, place_of, writtenAt}
+use Rattle.store.specs.File.{admission, entered, erased, place_of, roomOn, sizeLimit, writtenAt}
 use Rattle.variable.specs.Assign.{assignedCells, added, assigned, placeFor, placing}
 use Rattle.variable.specs.Bytes.{variablesOf}
 use Rattle.variable.specs.Good.{goodVariables}
@@ -42,9 +43,11 @@ use Rattle.rows.specs.Bench.{Every, RowHolds, after, turns}
 use Rattle.rows.specs.Cases.{Bench, Delays, Misreadings, Scalings, cases, delays, misreadings, scalings, waits}
 
 rows-hold : Every RowHolds cases × Every RowHolds misreadings × Every RowHolds waits × Every RowHolds delays × Every RowHolds scalings
-unfolding contents fileCount turns after single exec instructionOf operatorOf lookupOperator includes operates settle pop wellFormed trimmed same unary binary
+unfolding contents gathered location scattered sizeLimit roomOn fileCount turns after single exec instructionOf operatorOf lookupOperator
+    includes operates settle pop wellFormed trimmed same unary binary
     constrained ordered mapped mapExact power pow one
-    whole wrapped wholeBits convertedFloat number_of text_of printedOf whole_of lastDigits of_bits of_fields count_trailing_zeros answer otherAnswer
+    whole wrapped wholeBits convertedFloat number_of text_of printedOf whole_of lastDigits of_bits of_fields count_trailing_zeros answer
+    otherAnswer
     formatAnswer
     storeAnswer checked isDiscLength lookup index entry_at tab flat goodDisc goodFiles goodEntry goodField goodName beside all pairs
     apart begins fits freeFrom greatest least place place_of admission entered erased writtenAt goodArea goodKernel goodHeader

@@ -1,6 +1,7 @@
 -- The rows of rounds with shares hold: by computing the definitions.
 use mathlib.Core.Path.{refl}
-use Rattle.disc.specs.Directory.{contents, fileCount}
+use Rattle.disc.specs.Directory.{contents, fileCount, location}
+use Rattle.buffer.specs.Scattered.{gathered}
 use Rattle.buffer.specs.Lists.{all, any, flat, index, keep, tab}
 use Rattle.decimal.specs.Decimal.{lastDigits}
 use Rattle.integer.specs.Modular.{wrapped}
@@ -27,7 +28,8 @@ use Rattle.rows.specs.Bench.{Every}
 use Rattle.rows.specs.ShareRows.{ShareRowHolds, Shares, loading, rounds, shareRows}
 
 rows-hold : Every ShareRowHolds shareRows
-unfolding contents fileCount loading rounds inOrder shareOfTurns shared slotOf turnIfRunning exec instructionOf operatorOf lookupOperator includes
+unfolding contents gathered location fileCount loading rounds inOrder shareOfTurns shared slotOf turnIfRunning exec instructionOf
+    operatorOf lookupOperator includes
     operates settle pop wellFormed unary binary whole wrapped number_of text_of lastDigits index tab flat all apart begins fits
     freeFrom greatest least place kernelOf variablesOf any keep ended turned owned freed assigned placeFor placing added
 rows-hold = ((refl, refl), ((refl, refl), ((refl, refl), ((refl, refl), ((refl, refl), tt)))))

@@ -1,5 +1,5 @@
 -- Why a file is admitted, and why it is not.
-use Prim.Native.Nat.{ℕ, ◌-◌, ◌≤◌, ◌<◌}
+use Prim.Native.Nat.{ℕ, ◌≤◌, ◌<◌}
 use mathlib.Core.Path.{◌≡◌, refl, subst, subst⁻¹}
 use mathlib.Core.Bool.{Bool, true, false}
 use mathlib.Core.List.{List}
@@ -11,18 +11,18 @@ use Rattle.buffer.specs.Buffer.{zeros}
 use Rattle.buffer.specs.declared.Found.{Found}
 use Rattle.buffer.specs.declared.Found.TheVariants.{At, Nowhere}
 use Rattle.buffer.proofs.Bools.{and_left}
-use Rattle.place.specs.Place.{fits}
-use Rattle.place.proofs.Place.{Fits, no-place-none-fits, place-fits}
-use Rattle.disc.specs.Directory.{fileCount, goodDisc, isDiscLength, lookup, taken}
-use Rattle.disc.specs.Layout.{dataStart, maxFiles}
+use Rattle.disc.specs.Directory.{fileCount, goodDisc, isDiscLength, lookup}
+use Rattle.disc.specs.Layout.{maxFiles}
 use Rattle.disc.specs.Name.{goodName}
 use Rattle.disc.proofs.Goodness.{good-disc-is}
-use Rattle.store.specs.File.{admission, denyIfFound, goodSize, place_of, startOr, unless}
+use Rattle.store.specs.File.{admission, denyIfFound, goodSize, place_of, sizeLimit, startOr, unless}
+use Rattle.store.specs.Room.{NoRoom, Placed}
 use Rattle.store.specs.declared.Admission.{Admission}
 use Rattle.store.specs.declared.Admission.TheVariants.{Start, Denied}
 use Rattle.store.specs.declared.Refusal.{Refusal}
 use Rattle.store.specs.declared.Refusal.TheVariants.{WrongLength, BadDisc, ShortOutput, BadName, BadSize, NameExists, DirectoryFull}
 use Rattle.store.specs.declared.Refusal.TheVariants.{NoRun, NoSuchFile}
+use Rattle.store.proofs.Rooms.{no-place-no-room, place-placed}
 
 -- admitted at start s
 pub record Admitted (disc name : List ℕ) (n s : ℕ) : Type 0 where
@@ -31,7 +31,10 @@ pub record Admitted (disc name : List ℕ) (n s : ℕ) : Type 0 where
   pub few : fileCount disc < maxFiles
   pub new : lookup disc name ≡ Nowhere
   pub found : place_of disc n ≡ At s
-  pub placed : Fits (taken disc) dataStart (length disc) n s
+
+-- at the place that is its due
+pub admitted-placed : {disc name : List ℕ} {n s : ℕ} → Admitted disc name n s → Placed disc n s
+admitted-placed {disc} {name} {n} {s} a = place-placed disc n s a.some a.found
 
 -- where n bytes are admitted, n zeros are
 pub zeros-admitted : {disc name : List ℕ} {n s : ℕ} → Admitted disc name n s → Admitted disc name (length (zeros n)) s
@@ -46,7 +49,7 @@ Denial disc name n BadName = goodName name ≡ false
 Denial disc name n BadSize = goodSize disc n ≡ false
 Denial disc name n DirectoryFull = maxFiles ≤ fileCount disc
 Denial disc name n NameExists = (i : ℕ) × (lookup disc name ≡ At i)
-Denial disc name n NoRun = (s : ℕ) → fits (taken disc) dataStart (length disc) n s ≡ false
+Denial disc name n NoRun = NoRoom disc n
 Denial disc name n ShortOutput = ⊥
 Denial disc name n NoSuchFile = ⊥
 
@@ -56,7 +59,7 @@ Verdict disc name n (Denied r) = Denial disc name n r
 
 module _ (disc name : List ℕ) (n : ℕ) where
   verdict : Verdict disc name n (admission disc name n)
-  unfolding admission place_of
+  unfolding admission
   verdict =
       go (goodName name) refl (goodSize disc n) refl (ltb (fileCount disc) maxFiles) refl (lookup disc name) refl (place_of disc n) refl
     where
@@ -68,15 +71,14 @@ module _ (disc name : List ℕ) (n : ℕ) where
       go true p false q c r f t g u = q
       go true p true q false r f t g u = ltb-false (fileCount disc) maxFiles r
       go true p true q true r (At i) t g u = (i, t)
-      go true p true q true r Nowhere t Nowhere u = no-place-none-fits (taken disc) dataStart (length disc) n u
+      go true p true q true r Nowhere t Nowhere u = no-place-no-room disc n u
       go true p true q true r Nowhere t (At s) u =
           record {
             good = p;
-            some = leb-true 1 n (and_left (leb 1 n) (leb n (length disc - dataStart)) q);
+            some = leb-true 1 n (and_left (leb 1 n) (leb n (sizeLimit disc)) q);
             few = ltb-true (fileCount disc) maxFiles r;
             new = t;
             found = u;
-            placed = place-fits (taken disc) dataStart (length disc) n s u;
           }
 
   pub admitted : (s : ℕ) → admission disc name n ≡ Start s → Admitted disc name n s

@@ -1,6 +1,6 @@
--- The calls as a whole: a refused one changes nothing, why store is refused, and what free space says.
+-- The calls as a whole: a refused number is below zero, why store is refused, and what free space says.
 use Prim.Native.Nat.{ℕ, ◌<◌}
-use mathlib.Core.Path.{◌≡◌, refl, ap, subst}
+use mathlib.Core.Path.{◌≡◌, refl, subst}
 use mathlib.Core.Bool.{true}
 use mathlib.Core.List.{List}
 use native.Mathlib.Omega.{arith}
@@ -8,17 +8,10 @@ use lib.Dec.{ltb→lt}
 use lib.IntN.{ℤ, pos}
 use lib.ListN.{length}
 use lib.Signed.{◌<ℤ◌}
-use Rattle.buffer.specs.declared.Found.{Found}
-use Rattle.buffer.specs.declared.Found.TheVariants.{At, Nowhere}
-use Rattle.buffer.proofs.Bools.{true-not-false}
-use Rattle.place.specs.Place.{is_at, longest}
-use Rattle.place.proofs.Place.{longest-fits, longest-most}
-use Rattle.disc.specs.Directory.{goodDisc, isDiscLength, taken}
-use Rattle.disc.specs.Layout.{dataStart}
-use Rattle.disc.proofs.Lengths.{disc-bounds}
-use Rattle.store.specs.Answer.{Reported, Updated, answerNumber, freeSpaceAnswer}
-use Rattle.store.specs.Answer.{storeAnswer, storeAt, updated}
-use Rattle.store.specs.File.{admission, place_of, stored}
+use Rattle.disc.specs.Directory.{goodDisc, isDiscLength}
+use Rattle.store.specs.Answer.{Updated, answerNumber, freeSpaceAnswer, storeAnswer, storeAt, updated}
+use Rattle.store.specs.File.{admission, roomOn, stored}
+use Rattle.store.specs.Room.{HasRoom, NoRoom}
 use Rattle.store.specs.declared.Admission.{Admission}
 use Rattle.store.specs.declared.Admission.TheVariants.{Start, Denied}
 use Rattle.store.specs.declared.Answer.TheVariants.{Done, Refused}
@@ -27,9 +20,9 @@ use Rattle.store.specs.declared.Refusal.TheVariants.{WrongLength, BadDisc, Short
 use Rattle.store.specs.declared.Refusal.TheVariants.{NoRun, NoSuchFile}
 use Rattle.store.proofs.Checks.{by-checks}
 use Rattle.store.proofs.Admissions.{Admitted, Denial, admitted, denied}
+use Rattle.store.proofs.Rooms.{room-on-has, room-on-most}
 
 -- ---- numbers
-
 -- "0 or more is done [..], −n is refusal n"
 pub done-not-below : (n : ℕ) → pos n <ℤ pos 0 → ⊥
 done-not-below n h = let l : n < 0 = ltb→lt n 0 h.lt in omega arith
@@ -63,39 +56,19 @@ store-cases disc name bytes P refused done =
     go (Denied r) e l g = refused r (denied disc name (length bytes) r e)
     go (Start s) e l g = done s l g (admitted disc name (length bytes) s e)
 
--- ---- Document 01: "−n is refusal n with both buffers and the output unchanged"
-
-abbrev Unwritten : List ℕ → Reported → Type 0
-Unwritten out u = u.number <ℤ pos 0 → u.out ≡ out
-
--- ---- each refusal of store only where it says so
-
 -- ---- free space
 module _ (disc : List ℕ) (n : ℕ) where
-  free-space-is : freeSpaceAnswer disc ≡ pos n → (isDiscLength (length disc) ≡ true) × (longest (taken disc) dataStart (length disc) ≡ n)
+  free-space-is : freeSpaceAnswer disc ≡ pos n → (isDiscLength (length disc) ≡ true) × (roomOn disc ≡ n)
   unfolding freeSpaceAnswer
   free-space-is =
-      by-checks disc (λ z. z ≡ pos n → (isDiscLength (length disc) ≡ true) × (longest (taken disc) dataStart (length disc) ≡ n)) _ _
+      by-checks disc (λ z. z ≡ pos n → (isDiscLength (length disc) ≡ true) × (roomOn disc ≡ n)) _ _
       (λ e h. absurd (refused-not-done WrongLength n h))
       (λ e h. absurd (refused-not-done BadDisc n h))
       (λ e f h. (e, cc))
 
-  -- a file of that length has a place
-  pub free-space-fits : freeSpaceAnswer disc ≡ pos n → 0 < n → (s : ℕ) × (place_of disc n ≡ At s)
-  unfolding place_of
-  free-space-fits e h = go (place_of disc n) refl
-    where
-      some : is_at (place_of disc n) ≡ true
-      some = subst (λ (k : ℕ). 0 < k → is_at (place_of disc k) ≡ true) (free-space-is e).1
-          (longest-fits (taken disc) dataStart (length disc)) h
+  -- a file of that length has room, no longer one has
+  pub free-space-has : freeSpaceAnswer disc ≡ pos n → 0 < n → HasRoom disc n
+  free-space-has e = subst (λ (k : ℕ). 0 < k → HasRoom disc k) (free-space-is e).1 (room-on-has disc)
 
-      go : (f : Found) → place_of disc n ≡ f → (s : ℕ) × (place_of disc n ≡ At s)
-      go (At s) q = (s, q)
-      go Nowhere q = absurd (true-not-false some (ap is_at q))
-
-  -- no longer one has
-  pub free-space-most : freeSpaceAnswer disc ≡ pos n → (m : ℕ) → n < m → place_of disc m ≡ Nowhere
-  unfolding place_of
-  free-space-most e m h =
-      let f = free-space-is e in
-      longest-most (taken disc) dataStart (length disc) (disc-bounds (length disc) f.0).low m (omega (arith, f.1))
+  pub free-space-most : freeSpaceAnswer disc ≡ pos n → (m : ℕ) → n < m → NoRoom disc m
+  free-space-most e m h = let f = free-space-is e in room-on-most disc f.0 m (omega (arith, f.1))

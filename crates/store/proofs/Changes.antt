@@ -3,22 +3,24 @@ use Prim.Native.Nat.{ℕ, suc, ◌+◌, ◌*◌, ◌-◌, ◌≤◌, ◌<◌}
 use mathlib.Core.Path.{◌≡◌, refl, sym, ap, ◌∙◌}
 use mathlib.Core.Bool.{Bool, true, false}
 use mathlib.Core.List.{List, [], ◌∷◌, ◌++◌}
-use mathlib.Core.Logic.{◌⊎◌, ⊎_elim}
+use mathlib.Core.Logic.{◌⊎◌, inr, ⊎_elim}
 use native.Mathlib.Omega.{arith}
 use lib.Dec.{ltb}
-use lib.ListN.{length, get_or, take, drop, replicate, length-append}
+use lib.ListN.{length, get_or, take, replicate, length-append}
 use borrow.Author.Tests.{ltb-false, ltb-true}
 use Rattle.buffer.specs.Buffer.{overwrite, part}
 use Rattle.buffer.specs.Lists.{tab, without}
-use Rattle.buffer.proofs.Buffer.{overwrite-drop, overwrite-length, overwrite-take}
+use Rattle.buffer.proofs.Buffer.{overwrite-length}
 use Rattle.buffer.proofs.Lists.{tab-more, tab-same}
 use Rattle.buffer.proofs.Parts.{byte-before, byte-behind, byte_inside, byte-of-part, part-before, part-inside, part_length}
 use Rattle.buffer.proofs.Parts.{part-of-append-left, part-of-append-right, part-of-part, same-part}
+use Rattle.buffer.proofs.Scattered.{scattered-before, scattered-byte, scattered-length, scattered-other}
 use Rattle.buffer.proofs.Tables.{tab-without}
 use Rattle.place.specs.declared.Run.{Run}
-use Rattle.disc.specs.Directory.{entry_at, entryBytes, fileCount, files}
+use Rattle.disc.specs.Directory.{Held, entry_at, entryBytes, fileCount, files, location}
 use Rattle.disc.specs.Layout.{countAt, dataStart, entrySize, maxFiles, nameSize}
 use Rattle.disc.proofs.Entries.{entry-bytes-length, entry-laid, same_count, same-entry, same-files}
+use Rattle.disc.proofs.Locations.{held-data, held-distinct}
 use Rattle.disc.proofs.Names.{padded-length}
 use Rattle.store.specs.File.{entered, erased, newEntry, writtenAt}
 
@@ -26,7 +28,6 @@ use Rattle.store.specs.File.{entered, erased, newEntry, writtenAt}
 record DirectoryChange (disc : List ℕ) (at : ℕ) (s : List ℕ) (count : ℕ) (after : List ℕ) : Type 0 where
   same_length : length after ≡ length disc
   new-count : fileCount after ≡ count
-  same-data : drop dataStart after ≡ drop dataStart disc
   parts : (i n : ℕ) → i + n ≤ countAt → part after i n ≡ part (overwrite disc at s) i n
   same_bytes : (i : ℕ) → (i < at) ⊎ (at + length s ≤ i) → (i ≡ countAt → ⊥) → get_or after i 0 ≡ get_or disc i 0
 
@@ -40,14 +41,13 @@ directory-change disc s at count h l =
     record {
       same_length = overwrite-length (overwrite disc at s) (count ∷ []) countAt room ∙ same;
       new-count = byte_inside (overwrite disc at s) (count ∷ []) countAt room 0 (omega arith);
-      same-data = overwrite-drop (overwrite disc at s) (count ∷ []) countAt room dataStart (omega arith)
-          ∙ overwrite-drop disc s at inside dataStart (omega arith);
       parts = λ i n k. part-before (overwrite disc at s) (count ∷ []) countAt room i n k;
       same_bytes = λ i o k. byte-but (overwrite disc at s) count i room k
           ∙ ⊎_elim (byte-before disc s at inside i) (byte-behind disc s at inside i) o;
     }
   where
-    byte-but : (d : List ℕ) (b i : ℕ) → countAt + 1 ≤ length d → (i ≡ countAt → ⊥) → get_or (overwrite d countAt (b ∷ [])) i 0 ≡ get_or d i 0
+    byte-but : (d : List ℕ) (b i : ℕ) → countAt + 1 ≤ length d → (i ≡ countAt → ⊥)
+        → get_or (overwrite d countAt (b ∷ [])) i 0 ≡ get_or d i 0
     byte-but d b i room k = go (ltb i countAt) refl
       where
         go : (t : Bool) → ltb i countAt ≡ t → get_or (overwrite d countAt (b ∷ [])) i 0 ≡ get_or d i 0
@@ -77,8 +77,8 @@ module _ {disc name : List ℕ} (n start : ℕ) (room : Room disc name) where
   pub entered-count : fileCount (entered disc name n start) ≡ fileCount disc + 1
   entered-count = entering.new-count
 
-  pub entered-data : drop dataStart (entered disc name n start) ≡ drop dataStart disc
-  entered-data = entering.same-data
+  pub entered-data : (j : ℕ) → dataStart ≤ j → get_or (entered disc name n start) j 0 ≡ get_or disc j 0
+  entered-data j h = entering.same_bytes j (inr (omega (arith, entry_length, room.few))) (λ e. omega arith)
 
   -- every byte but the new entry's sixteen and the count is as it was
   pub entered-byte : (i : ℕ) → (i < fileCount disc * entrySize) ⊎ (fileCount disc * entrySize + entrySize ≤ i) → (i ≡ countAt → ⊥)
@@ -133,8 +133,8 @@ module _ {disc : List ℕ} {i : ℕ} (file : Present disc i) where
   pub erased-count : fileCount (erased disc i) ≡ fileCount disc - 1
   erased-count = erasing.new-count
 
-  pub erased-data : drop dataStart (erased disc i) ≡ drop dataStart disc
-  erased-data = erasing.same-data
+  pub erased-data : (j : ℕ) → dataStart ≤ j → get_or (erased disc i) j 0 ≡ get_or disc j 0
+  erased-data j h = erasing.same_bytes j (inr (omega (arith, moved_length, file.few))) (λ e. omega arith)
 
   -- every byte but the count and those from the erased entry to the last is as it was
   pub erased-byte : (j : ℕ) → (j < i * entrySize) ⊎ (fileCount disc * entrySize ≤ j) → (j ≡ countAt → ⊥)
@@ -205,20 +205,21 @@ module _ {disc : List ℕ} {i : ℕ} (file : Present disc i) where
       ∙ ap (λ (m : ℕ). without i (tab (entry_at disc) m)) q
 
 -- ---- bytes are written inside a file
--- n bytes from an offset on lie in the run, and that among the data bytes
+-- n bytes from an offset on lie in a file of the disc
 pub record Inside (disc : List ℕ) (run : Run) (offset n : ℕ) : Type 0 where
-  pub low : dataStart ≤ run.start
-  pub high : run.start + run.len ≤ length disc
+  pub held : Held disc run
   pub fits : offset + n ≤ run.len
 
 module _ {disc : List ℕ} {run : Run} {offset : ℕ} (bytes : List ℕ) (inside : Inside disc run offset (length bytes)) where
   pub written-length : length (writtenAt disc run offset bytes) ≡ length disc
   unfolding writtenAt
-  written-length = overwrite-length disc bytes (run.start + offset) (omega arith)
+  written-length = scattered-length (location disc run) offset disc bytes
 
   pub written-directory : take dataStart (writtenAt disc run offset bytes) ≡ take dataStart disc
   unfolding writtenAt
-  written-directory = overwrite-take disc bytes (run.start + offset) (omega arith) dataStart (omega arith)
+  written-directory =
+      scattered-before (location disc run) offset disc bytes dataStart
+      (λ k h. held-data inside.held (offset + k) (omega (arith, inside.fits)))
 
   pub written_count : fileCount (writtenAt disc run offset bytes) ≡ fileCount disc
   written_count = same_count (writtenAt disc run offset bytes) disc written-directory
@@ -230,9 +231,14 @@ module _ {disc : List ℕ} {run : Run} {offset : ℕ} (bytes : List ℕ) (inside
   written_entry i h = same-entry (writtenAt disc run offset bytes) disc i i
       (same-part (writtenAt disc run offset bytes) disc dataStart (i * entrySize) entrySize written-directory (omega arith))
 
-  pub written_byte : (i : ℕ) → (i < run.start) ⊎ (run.start + run.len ≤ i) → get_or (writtenAt disc run offset bytes) i 0 ≡ get_or disc i 0
+  -- each byte lies at its place, and every other byte of the disc stays
+  pub written-there : (i : ℕ) → i < length bytes
+      → get_or (writtenAt disc run offset bytes) (location disc run (offset + i)) 0 ≡ get_or bytes i 0
   unfolding writtenAt
-  written_byte i o =
-      let h : run.start + offset + length bytes ≤ length disc = omega arith in
-      ⊎_elim (λ (k : i < run.start). byte-before disc bytes (run.start + offset) h i (omega arith))
-      (λ (k : run.start + run.len ≤ i). byte-behind disc bytes (run.start + offset) h i (omega arith)) o
+  written-there i h =
+      scattered-byte (location disc run) run.len offset disc bytes (held-distinct inside.held) inside.fits i h
+
+  pub written-other : (j : ℕ) → ((i : ℕ) → i < length bytes → j ≡ location disc run (offset + i) → ⊥)
+      → get_or (writtenAt disc run offset bytes) j 0 ≡ get_or disc j 0
+  unfolding writtenAt
+  written-other j o = scattered-other (location disc run) offset disc bytes j o

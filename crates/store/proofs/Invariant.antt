@@ -8,28 +8,38 @@ use lib.ListN.{length}
 use Rattle.buffer.proofs.Tables.{all_map, all-tab-at, all-tab-each}
 use Rattle.place.specs.Place.{apart, run_from}
 use Rattle.place.specs.declared.Run.{Run}
-use Rattle.place.proofs.Place.{apart-sym}
-use Rattle.disc.specs.Directory.{beside, entry_at, fileCount, files, goodDisc, runOf}
+use Rattle.place.proofs.Place.{Fits, apart-sym}
+use Rattle.disc.specs.Directory.{beside, entry_at, fileCount, files, goodDisc, runOf, taken}
+use Rattle.disc.specs.Layout.{dataStart}
 use Rattle.disc.proofs.Goodness.{Beside, GoodEntry, good-disc-is, good-entry-at, good-files-less, good-files-more, is-beside}
 use Rattle.disc.proofs.Goodness.{is-good-disc, is-good-entry}
+use Rattle.disc.proofs.Locations.{file-held}
 use Rattle.disc.proofs.Lookups.{lookup-none}
 use Rattle.disc.proofs.Names.{good-name-is, padded-good}
 use Rattle.store.specs.File.{entered, erased, newEntry, writtenAt}
 use Rattle.store.proofs.Admissions.{Admitted}
 use Rattle.store.proofs.Changes.{Inside, Present, Room, entered-count, entered-files, entered-length, erased-count, erased-files}
 use Rattle.store.proofs.Changes.{erased-length, written_count, written-files, written-length}
+use Rattle.store.proofs.Rooms.{found-fits}
 
 -- ---- what enters
 module _ {disc name : List ℕ} {n s : ℕ} (a : Admitted disc name n s) where
+  pub placed : Fits (taken disc) dataStart (length disc) n s
+  placed = found-fits disc n s a.found
+
+  -- place and length fit 16 bits
+  pub admitted-small : length disc ≤ 65535 → (s < 65536) × (n < 65536)
+  admitted-small h = omega (arith, placed.high)
+
   pub room : Room disc name
   room = record {
-    low = omega (arith, a.placed.low, a.placed.high);
+    low = omega (arith, placed.low, placed.high);
     few = a.few;
     short = omega (arith, (good-name-is name a.good).short);
   }
 
   pub new-entry-good : GoodEntry (length disc) (newEntry name n s)
-  new-entry-good = record { field = padded-good name a.good; some = a.some; low = a.placed.low; high = a.placed.high }
+  new-entry-good = record { field = padded-good name a.good; some = a.some; low = placed.low; high = placed.high }
 
   pub new-entry-beside : (i : ℕ) → i < fileCount disc → Beside (entry_at disc i) (newEntry name n s)
   new-entry-beside i h =
@@ -37,7 +47,7 @@ module _ {disc name : List ℕ} {n s : ℕ} (a : Admitted disc name n s) where
         differ = λ q. lookup-none a.new (record { good = a.good; inside = h; held = q });
         clear = apart-sym (run_from s n) (runOf (entry_at disc i))
             (all-tab-at (entry_at disc) (fileCount disc) (λ e. apart (run_from s n) (runOf e)) i h
-            (sym (all_map (apart (run_from s n)) runOf (files disc)) ∙ a.placed.free));
+            (sym (all_map (apart (run_from s n)) runOf (files disc)) ∙ placed.free));
       }
 
   pub entered-good : goodDisc disc ≡ true → goodDisc (entered disc name n s) ≡ true
@@ -71,14 +81,12 @@ module _ (disc : List ℕ) (good : goodDisc disc ≡ true) (i : ℕ) (h : i < fi
 
   -- ---- what is written, and read, in a file
   pub file-inside : (offset n : ℕ) → offset + n ≤ (entry_at disc i).len → Inside disc (runOf (entry_at disc i)) offset n
-  file-inside offset n k =
-      let e = good-entry-at disc good i h in
-      record { low = e.low; high = e.high; fits = k }
+  file-inside offset n k = record { held = file-held disc good i h; fits = k }
 
-pub written-good : {disc : List ℕ} {run : Run} {offset : ℕ} (bytes : List ℕ) → Inside disc run offset (length bytes) → goodDisc disc ≡ true
+pub written-good : {disc : List ℕ} {run : Run} {offset : ℕ} (bytes : List ℕ) → Inside disc run offset (length bytes)
     → goodDisc (writtenAt disc run offset bytes) ≡ true
-written-good {disc} {run} {offset} bytes inside good =
-    let g = good-disc-is disc good in
+written-good {disc} {run} {offset} bytes inside =
+    let g = good-disc-is disc inside.held.sound in
     is-good-disc (writtenAt disc run offset bytes)
     (record {
       few = omega (arith, written_count bytes inside, g.few);

@@ -31,9 +31,8 @@ module _ {disc name : List ℕ} {n s : ℕ} (good : goodDisc disc ≡ true) (a :
 
 -- ---- what is written
 pub written-lookup : {disc : List ℕ} {run : Run} {offset : ℕ} (bytes : List ℕ) → Inside disc run offset (length bytes)
-    → goodDisc disc ≡ true
     → (name : List ℕ) → lookup (writtenAt disc run offset bytes) name ≡ lookup disc name
 unfolding lookup
-written-lookup {disc} bytes inside good name =
+written-lookup {disc} bytes inside name =
     ap (λ (es : List Entry). nowhereUnless (goodName name) (index (named name) es))
-    (written-files bytes inside (good-disc-is disc good).few)
+    (written-files bytes inside (good-disc-is disc inside.held.sound).few)

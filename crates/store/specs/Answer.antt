@@ -5,12 +5,10 @@ use Rattle.buffer.specs.Lists.{flat}
 use Rattle.buffer.specs.declared.Found.{Found}
 use Rattle.buffer.specs.declared.Found.TheVariants.{At, Nowhere}
 use Rattle.decimal.specs.Decimal.{decimal}
-use Rattle.place.specs.Place.{longest}
-use Rattle.disc.specs.Directory.{contents, entry_at, files, goodDisc, isDiscLength, lookup, runOf, taken}
-use Rattle.disc.specs.Layout.{dataStart}
+use Rattle.disc.specs.Directory.{contents, entry_at, files, goodDisc, isDiscLength, lookup, runOf}
 use Rattle.disc.specs.Name.{trimmed}
 use Rattle.disc.specs.declared.Entry.{Entry}
-use Rattle.store.specs.File.{admission, stored, unless}
+use Rattle.store.specs.File.{admission, roomOn, stored, unless}
 use Rattle.store.specs.declared.Admission.{Admission}
 use Rattle.store.specs.declared.Admission.TheVariants.{Start, Denied}
 use Rattle.store.specs.declared.Answer.{Answer}
@@ -104,8 +102,6 @@ filesAnswer disc out =
     ifUsable (checked disc) (λ r. reported (Refused r) out)
     (textAnswer (flat fileLine (files disc)) out)
 
--- ---- free space: "the longest free run, however many files there are"
+-- ---- free space
 unfoldable pub freeSpaceAnswer : List ℕ → ℤ
-freeSpaceAnswer disc =
-    ifUsable (checked disc) (λ r. answerNumber (Refused r))
-    (answerNumber (Done (longest (taken disc) dataStart (length disc))))
+freeSpaceAnswer disc = ifUsable (checked disc) (λ r. answerNumber (Refused r)) (answerNumber (Done (roomOn disc)))

@@ -1,11 +1,13 @@
 -- What becomes of files: a new one enters, one goes, bytes are written and read inside one.
-use Rattle.std.specs.Prelude.{ℕ, ◌+◌, ◌*◌, ◌-◌, Bool, true, false, ◌&&◌, List, [], ◌∷◌, ◌++◌, leb, ltb, length, replicate}
+use Rattle.std.specs.Prelude.{ℕ, ◌+◌, ◌*◌, ◌-◌, Bool, true, false, ◌&&◌, List, [], ◌∷◌, ◌++◌, leb, ltb, length}
+use Rattle.std.specs.Prelude.{replicate}
 use Rattle.buffer.specs.Buffer.{overwrite, part}
+use Rattle.buffer.specs.Scattered.{scattered}
 use Rattle.buffer.specs.declared.Found.{Found}
 use Rattle.buffer.specs.declared.Found.TheVariants.{At, Nowhere}
-use Rattle.place.specs.Place.{place, run_from}
+use Rattle.place.specs.Place.{longest, place, run_from}
 use Rattle.place.specs.declared.Run.{Run}
-use Rattle.disc.specs.Directory.{contents, entryBytes, fileCount, lookup, taken}
+use Rattle.disc.specs.Directory.{contents, entryBytes, fileCount, location, lookup, taken}
 use Rattle.disc.specs.Layout.{countAt, dataStart, entrySize, maxFiles}
 use Rattle.disc.specs.Name.{goodName, padded}
 use Rattle.disc.specs.declared.Entry.{Entry}
@@ -18,14 +20,21 @@ abbrev pub unless : {A : Type 0} → Bool → A → A → A
 unless true refusal rest = rest
 unless false refusal rest = refusal
 
--- Document 01: "data length 0 or above 863" is refused, by Q-2 "863 or 3,935": what does not fit between 161 and the
--- disc's end
+-- the longest file that a disc can hold: what fits between 161 and its end, "863 or 3,935"
+unfoldable pub sizeLimit : List ℕ → ℕ
+sizeLimit disc = length disc - dataStart
+
+-- Document 01: "data length 0 or above 863" is refused
 abbrev pub goodSize : List ℕ → ℕ → Bool
-goodSize disc n = leb 1 n && leb n (length disc - dataStart)
+goodSize disc n = leb 1 n && leb n (sizeLimit disc)
 
 -- Document 02, Q-10: "at the start of the shortest free run that fits, the lowest of equals"
 unfoldable pub place_of : List ℕ → ℕ → Found
 place_of disc n = place (taken disc) dataStart (length disc) n
+
+-- Document 01, free space: "the longest free run, however many files there are"
+unfoldable pub roomOn : List ℕ → ℕ
+roomOn disc = longest (taken disc) dataStart (length disc)
 
 abbrev pub startOr : Found → Admission
 startOr (At s) = Start s
@@ -62,7 +71,7 @@ erased disc i =
 
 -- bytes written at an offset of a file, and n bytes read there
 unfoldable pub writtenAt : List ℕ → Run → ℕ → List ℕ → List ℕ
-writtenAt disc run offset bytes = overwrite disc (run.start + offset) bytes
+writtenAt disc run offset bytes = scattered (location disc run) offset disc bytes
 
 unfoldable pub readAt : List ℕ → Run → ℕ → ℕ → List ℕ
 readAt disc run offset n = part (contents disc run) offset n

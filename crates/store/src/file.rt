@@ -1,16 +1,35 @@
 // What becomes of files: a new one enters, one goes, bytes are written and read inside one.
 ghost use Rattle.std.specs.Prelude.{◌≡◌, ◌+◌, ◌<◌, ◌≤◌, drop, length};
 ghost use Rattle.buffer.specs.Buffer.{overwrite, part, zeros};
-ghost use Rattle.disc.specs.Directory.{Readable, contents, fileCount};
-ghost use Rattle.disc.specs.Layout.{dataStart, entrySize, maxFiles, nameSize};
+ghost use Rattle.disc.specs.Directory.{Held, Readable, contents, fileCount};
+ghost use Rattle.disc.specs.Layout.{entrySize};
 ghost use Rattle.disc.specs.Name.{trimmed};
-ghost use Rattle.store.specs.File.{admission, entered, erased, readAt, stored, writtenAt};
+ghost use Rattle.store.specs.File.{admission, entered, erased, readAt, roomOn, sizeLimit, stored, writtenAt};
+ghost use Rattle.store.specs.declared.Admission.TheVariants.{Start};
 
 use crate::{Admission, Refusal};
 use buffer::Found;
 use disc::Entry;
 use disc::layout::{COUNT_AT, DATA_START, ENTRY_SIZE, MAX_FILES};
 use place::Run;
+
+// The longest file that the disc can hold.
+pub fn size_limit(disc: &[u8]) -> usize
+    requires { Readable disc.now }
+    ensures { result ≡ sizeLimit disc.now }
+{
+    disc.len() - DATA_START
+}
+
+// Document 01, free space: "the longest free run, however many files there are".
+pub fn room_on(disc: &[u8]) -> usize
+    requires { Readable disc.now }
+    ensures { result ≡ roomOn disc.now }
+{
+    let count = disc::directory::file_count(disc);
+    let runs = disc::directory::taken_runs(disc);
+    place::longest_run(runs, count, DATA_START, disc.len())
+}
 
 // Whether a new file of n bytes is admitted under this name, and where it goes.
 pub fn admit(disc: &[u8], name: &[u8], n: usize) -> Admission
@@ -23,7 +42,7 @@ pub fn admit(disc: &[u8], name: &[u8], n: usize) -> Admission
     if n < 1 {
         return Admission::Denied(Refusal::BadSize);
     }
-    if disc.len() - DATA_START < n {
+    if size_limit(disc) < n {
         return Admission::Denied(Refusal::BadSize);
     }
     let count = disc::directory::file_count(disc);
@@ -40,10 +59,9 @@ pub fn admit(disc: &[u8], name: &[u8], n: usize) -> Admission
     }
 }
 
-// Enters a file of n bytes at start; its data bytes are for the caller to write.
+// Enters a file of n bytes that is admitted at start; its data bytes are for the caller to write.
 pub fn enter(disc: &mut [u8], name: &[u8], n: usize, start: usize)
-    requires readable { Readable disc.old }
-    requires disc_bound { (fileCount disc.old < maxFiles) × (length name.now ≤ nameSize) × (n < 65536) × (start < 65536) }
+    requires { Readable disc.old × (admission disc.old name.now n ≡ Start start) }
     ensures { disc.new ≡ entered disc.old name.now n start }
 {
     let count = disc::directory::file_count(disc);
@@ -57,11 +75,9 @@ pub fn enter(disc: &mut [u8], name: &[u8], n: usize, start: usize)
     disc[COUNT_AT] = (count + 1) as u8;
 }
 
-// Enters a file of n zeros at start.
+// Enters a file of n zeros that is admitted at start.
 pub fn create(disc: &mut [u8], name: &[u8], n: usize, start: usize)
-    requires readable { Readable disc.old }
-    requires disc_bound { (fileCount disc.old < maxFiles) × (length name.now ≤ nameSize) }
-    requires data_start_le_start { (dataStart ≤ start) × (start + n ≤ length disc.old) }
+    requires { Readable disc.old × (admission disc.old name.now n ≡ Start start) }
     ensures { disc.new ≡ stored disc.old name.now (zeros n) start }
 {
     enter(disc, name, n, start);
@@ -96,7 +112,7 @@ pub fn erase_entry(disc: &mut [u8], i: usize)
 
 // Writes the bytes at an offset of a file.
 pub fn write_at(disc: &mut [u8], run: Run, offset: usize, bytes: &[u8])
-    requires { (offset + length bytes.now ≤ run.len) × (run.start + run.len ≤ length disc.old) }
+    requires { Held disc.old run × (offset + length bytes.now ≤ run.len) }
     ensures { disc.new ≡ writtenAt disc.old run offset bytes.now }
 {
     let start = run.start as usize;
@@ -105,7 +121,7 @@ pub fn write_at(disc: &mut [u8], run: Run, offset: usize, bytes: &[u8])
 
 // Fills out with the bytes at an offset of a file.
 pub fn read_at(disc: &[u8], run: Run, offset: usize, out: &mut [u8])
-    requires { (offset + length out.old ≤ run.len) × (run.start + run.len ≤ length disc.now) }
+    requires { Held disc.now run × (offset + length out.old ≤ run.len) }
     ensures { out.new ≡ readAt disc.now run offset (length out.old) }
 {
     let start = run.start as usize;
@@ -114,7 +130,7 @@ pub fn read_at(disc: &[u8], run: Run, offset: usize, out: &mut [u8])
 
 // How many bytes of a file lie from an offset to the next zero, or to its end where there is none.
 pub fn text_ahead(disc: &[u8], run: Run, offset: usize) -> usize
-    requires { (offset ≤ run.len) × (run.start + run.len ≤ length disc.now) }
+    requires { Held disc.now run × (offset ≤ run.len) }
     ensures { result ≡ length (trimmed (drop offset (contents disc.now run))) }
 {
     let start = run.start as usize;

@@ -11,8 +11,7 @@ use borrow.Author.Tests.{le-leb}
 use Rattle.buffer.proofs.Bools.{and_both}
 use Rattle.buffer.proofs.Lists.{all_weaker}
 use Rattle.place.specs.declared.Run.{Run}
-use Rattle.disc.specs.Directory.{files}
-use Rattle.disc.proofs.Goodness.{good-entry-at}
+use Rattle.disc.specs.Directory.{Held, files}
 use Rattle.variable.specs.Good.{goodVariable}
 use Rattle.variable.specs.Limits.{valueSize}
 use Rattle.variable.specs.Table.{owned}
@@ -28,7 +27,7 @@ use Rattle.machine.specs.Turn.{effectAt, program_of}
 use Rattle.machine.specs.declared.Kernel.{Kernel}
 use Rattle.machine.specs.declared.Process.{Process}
 use Rattle.machine.proofs.Changes.Change.{GoodState}
-use Rattle.machine.proofs.Changes.Directories.{FileAt, live-record, open_at, program-at}
+use Rattle.machine.proofs.Changes.Directories.{live-record, open_at, program-at}
 use Rattle.machine.proofs.Changes.LiveRecords.{running-live, within-local}
 use Rattle.machine.proofs.Demands.GoodCalls.{passes-good}
 use Rattle.machine.proofs.Goodness.GoodRecords.{Closed, Opened}
@@ -51,11 +50,6 @@ held live e t =
     let s = good-size-bounds e.kind e.size g.size in
     let short : e.size ≤ valueSize = omega (arith, s.1) in
     and_both (le-leb _ _ g.inside) (le-leb _ _ short)
-
--- a file of the directory lies within the disc
-inside-disc : (disc : List ℕ) {k : Kernel} → GoodState k disc → (run : Run) → FileAt disc run → run.start + run.len ≤ length disc
-inside-disc disc good run f =
-    subst⁻¹ (λ (r : Run). r.start + r.len ≤ length disc) f.run_is (good-entry-at disc good.sound f.place f.inside).high
 
 -- what the code learns of the step that a process takes
 abbrev pub Steps : (disc area : List ℕ) (clock : ℕ) → Process → Step → Type 0
@@ -80,8 +74,8 @@ module _ (disc area : List ℕ) (passes : Passes disc area) where
     live : isLive p ≡ true
     live = running-live p running
 
-    program-inside : p.code.start + p.code.len ≤ length disc
-    program-inside = inside-disc disc good p.code (program-at good slot live)
+    program-held : Held disc p.code
+    program-held = record { sound = good.sound; file = program-at good slot live }
 
     sp_low : p.sp ≤ stackSize
     sp_low = (live-record good slot live).registers.sp
@@ -90,10 +84,10 @@ module _ (disc area : List ℕ) (passes : Passes disc area) where
     file-lies = ⊎_elim closed opened (live-record good slot live).file
       where
         closed : Closed p.file → Lies disc p.file
-        closed c = record { offset = omega (arith, c.offset); inside = λ some. absurd (some c.len) }
+        closed c = record { offset = omega (arith, c.offset); held = λ some. absurd (some c.len) }
 
         opened : Opened (files disc) p.file → Lies disc p.file
-        opened o = record { offset = o.offset; inside = λ some. inside-disc disc good _ (open_at o) }
+        opened o = record { offset = o.offset; held = λ some. record { sound = good.sound; file = open_at o } }
 
     module _ (clock : ℕ) (d : Step) (size : length d.bytes ≡ stackSize) (means : Steps disc area clock p d) where
       sound : Sound (program_of disc p) (localOf p) (effect_of (stack_of p) d)
@@ -147,12 +141,12 @@ module _ (disc area : List ℕ) (passes : Passes disc area) where
 
     -- of a process that was copied out
     module _ (q : Process) (copied : q ≡ p) where
-      pub may-step : (q.code.start + q.code.len ≤ length disc) × (q.sp ≤ stackSize) × (length area ≡ areaLength)
+      pub may-step : Held disc q.code × (q.sp ≤ stackSize) × (length area ≡ areaLength)
           × Readable (kernelOf area).variables
       may-step =
-          subst⁻¹ (λ (r : Process). (r.code.start + r.code.len ≤ length disc) × (r.sp ≤ stackSize) × (length area ≡ areaLength)
+          subst⁻¹ (λ (r : Process). Held disc r.code × (r.sp ≤ stackSize) × (length area ≡ areaLength)
           × Readable (kernelOf area).variables) copied
-          (program-inside, sp_low, area-size passes, variables-readable)
+          (program-held, sp_low, area-size passes, variables-readable)
 
       module _ (clock : ℕ) (d : Step) where
         pub carries : length d.bytes ≡ stackSize → Steps disc area clock q d → Carries disc area slot q d

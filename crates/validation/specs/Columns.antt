@@ -1,5 +1,6 @@
 -- How the tests of a good area read it: IDs by slot, files and variables by columns.
-use Rattle.std.specs.Prelude.{ℕ, ◌+◌, ◌*◌, ◌≤◌, ◌<◌, ◌≡◌, Bool, true, cond, ◌&&◌, ◌||◌, not, List, eqb, leb, ltb, get_or, replicate}
+use Rattle.std.specs.Prelude.{ℕ, ◌+◌, ◌*◌, ◌≤◌, ◌<◌, ◌≡◌, Bool, true, cond, ◌&&◌, ◌||◌, not, List, eqb, leb, ltb}
+use Rattle.std.specs.Prelude.{get_or, replicate}
 use Rattle.buffer.specs.Buffer.{fourAt, overwrite, word_at}
 use Rattle.buffer.specs.Lists.{tab}
 use Rattle.disc.specs.Directory.{Readable, fileCount, goodDisc}

@@ -8,7 +8,13 @@ use Rattle.variable.specs.declared.Variables.{Variables}
 
 abbrev pub variableOf : List ℕ → Variable
 variableOf b =
-    record { name = get_or b 0 0; kind = get_or b 1 0; address = get_or b 2 0; size = get_or b 3 0; owner = word_at b 4 }
+    record {
+      name = get_or b 0 0;
+      kind = get_or b 1 0;
+      address = get_or b 2 0;
+      size = get_or b 3 0;
+      owner = word_at b 4;
+    }
 
 abbrev pub variableBytes : Variable → List ℕ
 variableBytes e = e.name ∷ e.kind ∷ e.address ∷ e.size ∷ word_bytes e.owner

@@ -9,7 +9,7 @@ use Rattle.buffer.specs.Lists.{any}
 use Rattle.buffer.proofs.Bools.{and_both}
 use Rattle.buffer.proofs.Lists.{all-each, tab-at, tab-length}
 use Rattle.place.specs.declared.Run.{Run}
-use Rattle.disc.specs.Directory.{entry_at, fileCount, files, goodDisc, isDiscLength, runOf}
+use Rattle.disc.specs.Directory.{FileAt, entry_at, fileCount, files, goodDisc, isDiscLength}
 use Rattle.disc.specs.declared.Entry.{Entry}
 use Rattle.machine.specs.Beyond.{fileRun}
 use Rattle.machine.specs.GoodArea.{goodProcess, isOpenIn, isProgram}
@@ -52,11 +52,6 @@ pub live-record : {k : Kernel} {disc : List ℕ} → GoodState k disc → (s : �
     → GoodLive (files disc) k.next (processAt k s)
 live-record {k} {disc} g s h =
     good-live-of (files disc) k.next (processAt k s) (good-process-at (files disc) k g.area s (live_inside k s h)) h
-
-pub record FileAt (disc : List ℕ) (run : Run) : Type 0 where
-  pub place : ℕ
-  pub inside : place < fileCount disc
-  pub run_is : run ≡ runOf (entry_at disc place)
 
 pub program-at : {k : Kernel} {disc : List ℕ} → GoodState k disc → (s : ℕ) → isLive (processAt k s) ≡ true
     → FileAt disc (processAt k s).code

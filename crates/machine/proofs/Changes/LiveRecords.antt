@@ -1,21 +1,19 @@
 -- What a good state says of a live process: its program is as long as its record says, and its own state fits its record.
 use Prim.Native.Nat.{ℕ}
-use mathlib.Core.Path.{◌≡◌, sym, subst, subst⁻¹}
+use mathlib.Core.Path.{◌≡◌, sym, subst}
 use mathlib.Core.Bool.{true}
 use mathlib.Core.List.{List}
 use native.Mathlib.Omega.{arith}
 use lib.Dec.{eqb}
 use lib.ListN.{length}
-use Rattle.place.specs.declared.Run.{Run}
-use Rattle.disc.specs.Directory.{contents}
-use Rattle.store.proofs.Contents.{file-length}
+use Rattle.store.proofs.Contents.{contents-length}
 use Rattle.variable.proofs.Views.{take_bound}
 use Rattle.machine.specs.State.{isLive, isRunning, localOf, paused, processAt}
 use Rattle.machine.specs.Turn.{program_of}
 use Rattle.machine.specs.declared.Kernel.{Kernel}
 use Rattle.machine.specs.declared.Process.{Process}
 use Rattle.machine.proofs.Changes.Change.{GoodState}
-use Rattle.machine.proofs.Changes.Directories.{live-record, program-at}
+use Rattle.machine.proofs.Changes.Directories.{live-record}
 use Rattle.buffer.proofs.Disjunctions.{or-first}
 use Rattle.machine.proofs.Instructions.Sound.{Within}
 
@@ -25,9 +23,7 @@ running-live p h = or-first (eqb p.state paused) h
 module _ {k : Kernel} {disc : List ℕ} (good : GoodState k disc) (slot : ℕ) (live : isLive (processAt k slot) ≡ true) where
   -- a program is as long as its record says, since it is a file of a good disc
   pub program-length : length (program_of disc (processAt k slot)) ≡ (processAt k slot).code.len
-  program-length =
-      let f = program-at good slot live in
-      subst⁻¹ (λ (r : Run). length (contents disc r) ≡ r.len) f.run_is (file-length disc good.sound f.place f.inside)
+  program-length = contents-length disc (processAt k slot).code
 
   -- so the state it has lies within its program and its stack within its 32 bytes
   pub within-local : Within (length (program_of disc (processAt k slot))) (localOf (processAt k slot))

@@ -1,5 +1,5 @@
 -- What an empty disc of either length takes: the tests of *store*, one after another. What OPEN takes for a new file's size.
-use Prim.Native.Nat.{ℕ, zero, suc, ◌+◌, ◌*◌, ◌/◌, ◌≤◌, ◌<◌}
+use Prim.Native.Nat.{ℕ, zero, suc, ◌*◌, ◌/◌, ◌<◌}
 use mathlib.Core.Path.{◌≡◌, refl, ap, ◌∙◌}
 use mathlib.Core.Bool.{Bool, true, false}
 use mathlib.Core.List.{List}
@@ -12,17 +12,19 @@ use lib.ListN.{length}
 use borrow.Author.Tests.{leb-true, leb-false}
 use Rattle.buffer.specs.Lists.{all, pairs, tab}
 use Rattle.float.specs.Whole.{sized, size_of, whole_of, within}
-use Rattle.float.specs.declared.whole.Size.TheVariants.{Is, Refused}
-use Rattle.disc.specs.Directory.{DiscLength, goodDisc, goodFiles}
-use Rattle.disc.specs.Layout.{dataStart, maxFiles}
+use Rattle.disc.specs.Directory.{DiscLength, fileCount, goodDisc, goodFiles}
+use Rattle.disc.specs.Layout.{maxFiles}
+use Rattle.store.specs.File.{sizeLimit}
+use Rattle.store.specs.Room.{HasRoom}
+use Rattle.store.proofs.Rooms.{empty-has-room, size-limit-is}
 use Rattle.machine.specs.Answer.{Answer, Buffers, answer, other, store}
-use Rattle.machine.specs.DiscLengths.{EmptyDiscTakes, Fitting, OpenTakes, Taken, dataBytes}
-use Rattle.machine.specs.Fields.{Free, IsName, NoFile, filesOn}
+use Rattle.machine.specs.DiscLengths.{BothSizes, EmptyDiscTakes, Fitting, OpenTakes, Taken}
+use Rattle.machine.specs.Fields.{IsName, NoFile}
 use Rattle.machine.specs.Tests.{Decides, Tests, passed, test}
 use Rattle.machine.proofs.Demands.Refused.{call-decided}
 use Rattle.machine.proofs.Done.Files.{store-done}
 
-module _ (b : Buffers) (name bytes : List ℕ) (long : DiscLength (length b.disc)) (none : filesOn b.disc ≡ 0)
+module _ (b : Buffers) (name bytes : List ℕ) (long : DiscLength (length b.disc)) (none : fileCount b.disc ≡ 0)
     (good : IsName name) where
   abbrev a : Answer
   a = answer (other (store name bytes)) b
@@ -42,25 +44,18 @@ module _ (b : Buffers) (name bytes : List ℕ) (long : DiscLength (length b.disc
   no-file : NoFile b.disc name
   no-file i n = omega (arith, n.counted, none)
 
-  all-free : fits → Free b.disc (length bytes) dataStart
-  all-free f = record {
-    low = omega arith;
-    high = omega (arith, f.0, f.1);
-    clear = λ i h. absurd (omega (arith, h, none));
-  }
-
   -- ---- the tests of *store* from each on
   abbrev from_place : Tests
-  from_place = test 9 ((start : ℕ) × Free b.disc (length bytes) start) passed
+  from_place = test 9 (HasRoom b.disc (length bytes)) passed
 
   abbrev from-lookup : Tests
   from-lookup = test 7 (NoFile b.disc name) from_place
 
   abbrev from-count : Tests
-  from-count = test 8 (filesOn b.disc < maxFiles) from-lookup
+  from-count = test 8 (fileCount b.disc < maxFiles) from-lookup
 
   abbrev from-size : Tests
-  from-size = test 6 ((1 ≤ length bytes) × (dataStart + length bytes ≤ length b.disc)) from-count
+  from-size = test 6 fits from-count
 
   abbrev from-name : Tests
   from-name = test 5 (IsName name) from-size
@@ -72,28 +67,31 @@ module _ (b : Buffers) (name bytes : List ℕ) (long : DiscLength (length b.disc
       (past 1 (test 2 (goodDisc b.disc ≡ true) from-name) long (call-decided (other (store name bytes)) b).is))
 
   takes : Decides from-size b a → (fits × (a.number ≡ pos 0)) ⊎ ((fits → ⊥) × (a.number ≡ neg_ℤ (pos 6)))
-  takes (inr p) = inr (λ f. p.0 (f.0, omega (arith, f.0, f.1)), p.1)
+  takes (inr p) = inr (p.0, p.1)
   takes (inl p) =
-      let f : fits = (p.0.0, omega (arith, p.0.1)) in
-      let few : filesOn b.disc < maxFiles = omega (arith, none) in
-      let free : (start : ℕ) × Free b.disc (length bytes) start = (dataStart, all-free f) in
-      let d = past 9 passed free (past 7 from_place no-file (past 8 from-lookup few p.1)) in
+      let f : fits = p.0 in
+      let few : fileCount b.disc < maxFiles = omega (arith, none) in
+      let room : HasRoom b.disc (length bytes) = empty-has-room b.disc none (length bytes) f.0 f.1 in
+      let d = past 9 passed room (past 7 from_place no-file (past 8 from-lookup few p.1)) in
       inl (f, d.1 ∙ ap pos (store-done b name bytes d.0 d.1).0)
 
 pub empty-disc-takes : EmptyDiscTakes
 empty-disc-takes b name bytes long none good = takes b name bytes long none good (by_size b name bytes long none good)
 
 -- n as a size
-taken : (disc : List ℕ) (n : ℕ) → Taken disc n (sized (within (dataBytes (length disc)) (pos n)))
-taken disc n = go n (leb n (dataBytes (length disc))) refl
+taken : (disc : List ℕ) (n : ℕ) → Taken disc n (sized (within (sizeLimit disc) (pos n)))
+taken disc n = go n (leb n (sizeLimit disc)) refl
   where
-    go : (n : ℕ) (small : Bool) → leb n (dataBytes (length disc)) ≡ small
-        → Taken disc n (sized (within (dataBytes (length disc)) (pos n)))
+    go : (n : ℕ) (small : Bool) → leb n (sizeLimit disc) ≡ small
+        → Taken disc n (sized (within (sizeLimit disc) (pos n)))
     go zero true e = inr (λ f. omega (arith, f.0), rw e refl)
     go zero false e = inr (λ f. omega (arith, f.0), rw e refl)
     go (suc m) true e = inl ((omega arith, leb-true _ _ e), rw e refl)
-    go (suc m) false e = inr (λ f. omega (arith, f.1, leb-false (suc m) (dataBytes (length disc)) e), rw e refl)
+    go (suc m) false e = inr (λ f. omega (arith, f.1, leb-false (suc m) (sizeLimit disc) e), rw e refl)
 
 pub open-takes : OpenTakes
 unfolding size_of whole_of
 open-takes disc = (taken disc, λ m e. taken disc (m * up e / down e))
+
+pub both-sizes : BothSizes
+both-sizes disc = (λ e. omega (arith, size-limit-is disc), λ e. omega (arith, size-limit-is disc))

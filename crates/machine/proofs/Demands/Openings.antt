@@ -1,5 +1,5 @@
 -- OPEN: it goes on with some file, or its new file is refused, and then for one of document 01's four reasons.
-use Prim.Native.Nat.{ℕ, zero, suc, ◌-◌, ◌*◌, ◌/◌}
+use Prim.Native.Nat.{ℕ, zero, suc, ◌*◌, ◌/◌}
 use mathlib.Core.Path.{◌≡◌, refl, sym, subst}
 use mathlib.Core.Bool.{Bool, true, false, ◌&&◌, cond}
 use mathlib.Core.List.{List}
@@ -23,8 +23,7 @@ use Rattle.number.specs.declared.Number.{Number}
 use Rattle.number.specs.declared.Number.TheVariants.{Char, Int, Float}
 use Rattle.place.specs.Place.{run_from}
 use Rattle.disc.specs.Directory.{entry_at, goodDisc, isDiscLength, lookup}
-use Rattle.disc.specs.Layout.{dataStart}
-use Rattle.store.specs.File.{admission, goodSize, stored}
+use Rattle.store.specs.File.{admission, goodSize, sizeLimit, stored}
 use Rattle.store.specs.declared.Admission.{Admission}
 use Rattle.store.specs.declared.Admission.TheVariants.{Start, Denied}
 use Rattle.store.specs.declared.Refusal.{Refusal}
@@ -37,7 +36,6 @@ use Rattle.machine.specs.NoPlace.{NewFileRefused, by_name, by_size, by-full, by-
 use Rattle.machine.specs.State.{Local}
 use Rattle.machine.specs.declared.Kernel.{Kernel}
 use Rattle.machine.specs.declared.OpenFile.{OpenFile}
-use Rattle.machine.proofs.Fields.Files.{free-fits}
 use Rattle.machine.proofs.Fields.Names.{is-name-good}
 
 -- a size that is not refused is one of the disc's
@@ -76,14 +74,14 @@ module _ (disc name : List ℕ) (long : isDiscLength (length disc) ≡ true) (go
   denial-refuses n size e fit new DirectoryFull a d = by-full (denied-full disc name n good a)
   denial-refuses n size e fit new NameExists a d = absurd (let found : lookup disc name ≡ At d.0 = d.1 in
       let z : ◌≡◌ {A = ℕ} 0 1 = cc in omega arith)
-  denial-refuses n size e fit new NoRun a d = by-no-run n e λ start free. true-not-false (free-fits disc n start free) (d start)
+  denial-refuses n size e fit new NoRun a d = by-no-run n e d
   denial-refuses n size e fit new ShortOutput a d = absurd d
   denial-refuses n size e fit new NoSuchFile a d = absurd d
 
   pub new-file-refused : (size : Number) (n : ℕ) → newFileSize disc size ≡ Is n → lookup disc name ≡ Nowhere → (r : Refusal)
       → admission disc name n ≡ Denied r → NewFileRefused disc name (newFileSize disc size)
   new-file-refused size n e new r a =
-      denial-refuses n _ e (size-within (length disc - dataStart) n size e) new r a (denied disc name n r a)
+      denial-refuses n _ e (size-within (sizeLimit disc) n size e) new r a (denied disc name n r a)
 
   -- OPEN goes on with some file, or its new file is refused, which is fault 13
   pub open-cases : (k : Kernel) (slot : ℕ) (l : Local) (size : Number) (P : Answered → Type 0)

@@ -1,10 +1,9 @@
 -- The tests of every call decide it: the first that fails refuses it, and where none does it is done.
-use Prim.Native.Nat.{ℕ, ◌+◌, ◌-◌, ◌≤◌, ◌<◌}
+use Prim.Native.Nat.{ℕ, ◌≤◌, ◌<◌}
 use mathlib.Core.Path.{◌≡◌, refl, sym, ap, ◌∙◌, subst, subst⁻¹}
 use mathlib.Core.Bool.{Bool, true, false, ◌&&◌, not, cond}
 use mathlib.Core.List.{List}
 use mathlib.Core.Logic.{inl, inr}
-use native.Mathlib.Omega.{arith}
 use lib.Dec.{eqb, leb, ltb}
 use lib.IntN.{pos}
 use lib.ListN.{length}
@@ -13,13 +12,14 @@ use Rattle.buffer.specs.Lists.{flat}
 use Rattle.buffer.specs.declared.Found.{Found}
 use Rattle.buffer.specs.declared.Found.TheVariants.{At, Nowhere}
 use Rattle.buffer.proofs.Bools.{and_both, and_left, and_right, not-is-true, not-true-is-false, true-not-false}
-use Rattle.place.specs.Place.{longest}
-use Rattle.disc.specs.Directory.{DiscLength, entry_at, fileCount, files as entries, goodDisc, isDiscLength, lookup, taken}
-use Rattle.disc.specs.Layout.{dataStart, maxFiles}
+use Rattle.disc.specs.Directory.{DiscLength, entry_at, fileCount, files as entries, goodDisc, isDiscLength, lookup}
+use Rattle.disc.specs.Layout.{maxFiles}
 use Rattle.disc.proofs.Lengths.{disc-length-is, is-disc-length}
+use Rattle.disc.specs.Offsets.{size_of}
+use Rattle.disc.proofs.Offsets.{entry-size}
 use Rattle.store.specs.Answer.{checked, fileLine, filesAnswer, freeSpaceAnswer, ifUsable, reported, retrieveAnswer, retrieveAt, storeAnswer}
 use Rattle.store.specs.Answer.{storeAt}
-use Rattle.store.specs.File.{admission, denyIfFound, goodSize, place_of, startOr, unless}
+use Rattle.store.specs.File.{admission, denyIfFound, place_of, roomOn, sizeLimit, startOr, unless}
 use Rattle.store.specs.declared.Admission.{Admission}
 use Rattle.store.specs.declared.Admission.TheVariants.{Denied}
 use Rattle.store.specs.declared.Answer.TheVariants.{Refused}
@@ -27,12 +27,14 @@ use Rattle.store.specs.declared.Checked.{Checked}
 use Rattle.store.specs.declared.Checked.TheVariants.{Usable, Unusable}
 use Rattle.store.specs.declared.Refusal.{Refusal}
 use Rattle.store.specs.declared.Refusal.TheVariants.{WrongLength, BadDisc, ShortOutput, BadName, BadSize, DirectoryFull}
+use Rattle.store.specs.Room.{HasRoom}
+use Rattle.store.proofs.Rooms.{no-place-no-room, place-room}
 use Rattle.machine.specs.Answer.{Answer, Buffers, Other, store, retrieve, erase, files, freeSpace, list, Call, turn, round}
 use Rattle.machine.specs.Answer.{command, share, run, other}
 use Rattle.machine.specs.Answer.{answer, bootAnswer, commandAnswer, eraseAt, formatAnswer, goodArea, onDisc, onGood, onOutput}
 use Rattle.machine.specs.Answer.{otherAnswer, refused, run_at}
 use Rattle.machine.specs.Area.{isAreaLength, kernelOf}
-use Rattle.machine.specs.Fields.{Ended, Free, HasId, Named, NoFile, Uses, nextId, size_of, stateByte}
+use Rattle.machine.specs.Fields.{Ended, HasId, Named, NoFile, Uses, nextId, stateByte}
 use Rattle.machine.specs.Limits.{areaLength, idLimit, maxShare, roundRoom, slotCount, turnRoom}
 use Rattle.machine.specs.Operations.{Command, becomes, refused as declined, suspend, resume, kill, changed, commandAt, commanded}
 use Rattle.machine.specs.Operations.{inUse, listText, roundOf, shareAt, shared}
@@ -43,8 +45,7 @@ use Rattle.machine.specs.Tests.{Decides, Tests, passed, test, bootTests, command
 use Rattle.machine.specs.Tests.{onDisc as firstTwo, otherTests, someFile, tests}
 use Rattle.machine.specs.Turn.{turned}
 use Rattle.machine.specs.declared.Kernel.{Kernel}
-use Rattle.machine.proofs.Fields.Files.{entry-size, lookup-named, lookup-no-file, named-lookup, no-place-none-free}
-use Rattle.machine.proofs.Fields.Files.{placed-free}
+use Rattle.machine.proofs.Fields.Files.{lookup-named, lookup-no-file, named-lookup}
 use Rattle.machine.proofs.Fields.Listings.{files-text, list-text}
 use Rattle.machine.proofs.Fields.Names.{good-is-name, is-name-good}
 use Rattle.machine.proofs.Fields.Slots.{ended-slot-lowest, has-id-slot, in-use-is, is-in-use, next-is, no-ended-slot, slot-has-id}
@@ -158,21 +159,13 @@ module _ (b : Buffers) where
         }
 
   -- ---- operations on the disc alone
-  says-size : (n : ℕ) → Says (goodSize b.disc n) ((1 ≤ n) × (dataStart + n ≤ length b.disc))
-  says-size n = record {
-    so = λ t. let h = both.so t in (h.0, omega (arith, h.0, h.1));
-    back = λ h. both.back (h.0, omega (arith, h.0, h.1));
-  }
-    where
-      both : Says (goodSize b.disc n) ((1 ≤ n) × (n ≤ length b.disc - dataStart))
-      both = says_both (says-at-most 1 n) (says-at-most n (length b.disc - dataStart))
-
   store-decided : (name bytes : List ℕ) → Decided (otherTests (store name bytes) b) b (answer (other (store name bytes)) b)
   unfolding answer otherAnswer storeAnswer admission
   store-decided name bytes =
       on-disc (λ u. onDisc u b) _ _ refl refl λ fit.
       decided at (Denied BadName) _ refl (record { so = good-is-name name; back = is-name-good name }) λ good.
-      decided at (Denied BadSize) _ refl (says-size (length bytes)) λ size.
+      decided at (Denied BadSize) _ refl
+      (says_both (says-at-most 1 (length bytes)) (says-at-most (length bytes) (sizeLimit b.disc))) λ size.
       decided at (Denied DirectoryFull) _ refl
       (record { so = ltb-true (fileCount b.disc) maxFiles; back = lt-ltb (fileCount b.disc) maxFiles }) λ few.
       new fit (lookup b.disc name) refl (place_of b.disc (length bytes)) refl
@@ -182,15 +175,15 @@ module _ (b : Buffers) where
 
       new : Fit → (f : Found) → lookup b.disc name ≡ f → (g : Found) → place_of b.disc (length bytes) ≡ g
           → Decided
-          (test 7 (NoFile b.disc name) (test 9 ((start : ℕ) × Free b.disc (length bytes) start) passed)) b
+          (test 7 (NoFile b.disc name) (test 9 (HasRoom b.disc (length bytes)) passed)) b
           (at (denyIfFound f (startOr g)))
       new fit (At i) e g q = fails refl (λ h. h i (lookup-named b.disc name i e))
       new fit Nowhere e Nowhere q =
           holds_then (lookup-no-file b.disc fit.long fit.good name e)
-          (fails refl (λ h. no-place-none-free b.disc (length bytes) q h.0 h.1))
+          (fails refl (no-place-no-room b.disc (length bytes) q))
       new fit Nowhere e (At s) q =
           holds_then (lookup-no-file b.disc fit.long fit.good name e)
-          (holds_then (s, placed-free b.disc (length bytes) s q) (done 0 refl))
+          (holds_then (place-room b.disc (length bytes) s q) (done 0 refl))
 
   retrieve-decided : (name : List ℕ) → Decided (otherTests (retrieve name) b) b (answer (other (retrieve name)) b)
   unfolding answer otherAnswer retrieveAnswer
@@ -223,7 +216,7 @@ module _ (b : Buffers) where
   unfolding answer otherAnswer freeSpaceAnswer
   free-space-decided =
       on-disc (λ z. record { number = z; disc = b.disc; area = b.area; out = b.out }) _ _ refl refl
-      λ fit. done (longest (taken b.disc) dataStart (length b.disc)) refl
+      λ fit. done (roomOn b.disc) refl
 
   -- ---- operations on both buffers
   abbrev k : Kernel

@@ -1,7 +1,7 @@
 -- A turn as a call: what holds of the state that it steps to holds of the work area that it leaves.
 use Prim.Native.Nat.{ℕ, ◌≤◌, ◌<◌}
 use mathlib.Core.Path.{◌≡◌, sym, ap, subst, subst⁻¹, ◌∙◌}
-use mathlib.Core.Bool.{Bool, true, ◌&&◌}
+use mathlib.Core.Bool.{◌&&◌}
 use mathlib.Core.Logic.{◌⊎◌}
 use lib.Dec.{leb, ltb}
 use lib.IntN.{pos}

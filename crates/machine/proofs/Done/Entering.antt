@@ -6,17 +6,17 @@ use mathlib.Core.List.{List}
 use mathlib.Core.Logic.{inl, inr}
 use native.Mathlib.Omega.{arith}
 use lib.ListN.{length, get_or, get_or-replicate}
-use Rattle.disc.specs.Directory.{goodDisc}
+use Rattle.disc.specs.Directory.{fileCount, goodDisc}
 use Rattle.disc.specs.Layout.{entrySize}
 use Rattle.disc.specs.declared.Entry.{Entry}
+use Rattle.disc.specs.Offsets.{entryStart}
+use Rattle.disc.proofs.Offsets.{entry-name, entry-size, entry-start}
 use Rattle.store.specs.File.{erased, stored}
 use Rattle.store.proofs.Admissions.{Admitted}
 use Rattle.store.proofs.Changes.{Present, erased-byte, erased-count, erased-moved, erased-vacated}
 use Rattle.store.proofs.Effects.{stored-byte, stored-count, stored-data, stored-new}
 use Rattle.store.proofs.Invariant.{room}
 use Rattle.machine.specs.Changed.{Enters, Leaves}
-use Rattle.machine.specs.Fields.{entryStart, filesOn}
-use Rattle.machine.proofs.Fields.Files.{entry-name, entry-size, entry-start}
 use Rattle.machine.proofs.Fields.Names.{padded-spells}
 use Rattle.machine.proofs.Fields.Parts.{is-part}
 
@@ -28,10 +28,10 @@ stored-enters {disc} {name} {s} bytes good a =
     let new = stored-new bytes good a in
     record {
       count = stored-count bytes good a;
-      spelled = padded-spells name (room a).short after (entryStart (filesOn disc))
-          (sym (entry-name after (filesOn disc)) ∙ ap (λ (e : Entry). e.name) new);
-      starts = sym (entry-start after (filesOn disc)) ∙ ap (λ (e : Entry). e.start) new;
-      sized = sym (entry-size after (filesOn disc)) ∙ ap (λ (e : Entry). e.len) new;
+      spelled = padded-spells name (room a).short after (entryStart (fileCount disc))
+          (sym (entry-name after (fileCount disc)) ∙ ap (λ (e : Entry). e.name) new);
+      starts = sym (entry-start after (fileCount disc)) ∙ ap (λ (e : Entry). e.start) new;
+      sized = sym (entry-size after (fileCount disc)) ∙ ap (λ (e : Entry). e.len) new;
       holds = stored-data bytes good a;
       rest = stored-byte bytes good a;
     }
@@ -49,7 +49,7 @@ erased-leaves {disc} {i} file =
     }
   where
     last : ℕ
-    last = entryStart (filesOn disc - 1)
+    last = entryStart (fileCount disc - 1)
 
     vacated : (j : ℕ) → last ≤ j → j < last + entrySize → get_or (erased disc i) j 0 ≡ 0
     vacated j low h =

@@ -10,25 +10,28 @@ use Rattle.buffer.specs.Buffer.{overwrite}
 use Rattle.buffer.specs.Lists.{flat}
 use Rattle.buffer.specs.declared.Found.{Found}
 use Rattle.buffer.specs.declared.Found.TheVariants.{At, Nowhere}
-use Rattle.place.specs.ShortestFit.{ShortestFit}
 use Rattle.disc.specs.Directory.{contents, entry_at, files as entries, lookup, runOf}
 use Rattle.disc.specs.declared.Entry.{Entry}
 use Rattle.disc.proofs.Lookups.{lookup-at}
+use Rattle.disc.specs.Offsets.{bytes_of, size_of}
+use Rattle.disc.proofs.Offsets.{bytes-of, entry-size}
 use Rattle.store.specs.Answer.{Reported, fileLine, filesAnswer, reported, retrieveAnswer, retrieveAt}
 use Rattle.store.specs.File.{unless}
 use Rattle.store.specs.declared.Answer.TheVariants.{Done, Refused}
 use Rattle.store.specs.declared.Refusal.TheVariants.{ShortOutput}
-use Rattle.store.proofs.Calls.{free-space-fits, free-space-most, refused-not-done, store-cases}
+use Rattle.store.proofs.Admissions.{admitted-placed}
+use Rattle.store.proofs.Calls.{free-space-has, free-space-most, refused-not-done, store-cases}
 use Rattle.store.proofs.Checks.{by-checks}
 use Rattle.store.proofs.Invariant.{present}
+use Rattle.store.specs.Room.{Placed}
 use Rattle.machine.specs.Answer.{Answer, answer, eraseAt, otherAnswer}
 use Rattle.machine.specs.Changed.{Enters, Leaves}
 use Rattle.machine.specs.Done.{EraseDone, FilesDone, FreeSpaceDone, RetrieveDone, StoreDone}
-use Rattle.machine.specs.Fields.{Free, Named, bytes_of, size_of}
+use Rattle.machine.specs.Fields.{Named}
 use Rattle.machine.specs.Operations.{inUse}
 use Rattle.machine.specs.Refusals.{Passes, state_of}
 use Rattle.machine.proofs.Done.Entering.{erased-leaves, stored-enters}
-use Rattle.machine.proofs.Fields.Files.{bytes-of, entry-size, lookup-named, no-place-none-free, placed-free, placed-shortest}
+use Rattle.machine.proofs.Fields.Files.{lookup-named}
 use Rattle.machine.proofs.Fields.Listings.{files-text}
 use Rattle.machine.proofs.Operations.Tests.{below-not-done, done-test, done-tests}
 
@@ -37,11 +40,11 @@ unfolding answer otherAnswer
 store-done b name bytes n =
     store-cases b.disc name bytes
     (λ u. u.number ≡ pos n → (n ≡ 0)
-    × ((start : ℕ) × ShortestFit (Free b.disc) (length bytes) start × Enters b.disc u.disc name bytes start))
+    × ((start : ℕ) × Placed b.disc (length bytes) start × Enters b.disc u.disc name bytes start))
     (λ r d h. absurd (refused-not-done r n h))
     (λ s l g a h.
     let zero : n ≡ 0 = cc in
-    (zero, (s, placed-shortest b.disc (length bytes) s a.some a.found, stored-enters bytes g a)))
+    (zero, (s, admitted-placed a, stored-enters bytes g a)))
 
 -- ---- what is written into the output
 written : (fit : Bool) (m n : ℕ) (out after : List ℕ)
@@ -100,7 +103,4 @@ erase-done b name n = done-tests Erased b n _ λ passes. found passes (lookup b.
 
 pub free-space-done : FreeSpaceDone
 unfolding answer otherAnswer
-free-space-done b n e = (
-  (λ some. let s = free-space-fits b.disc n e some in (s.0, placed-free b.disc n s.0 s.1)),
-  λ m start longer. no-place-none-free b.disc m (free-space-most b.disc n e m longer) start,
-)
+free-space-done b n e = (free-space-has b.disc n e, free-space-most b.disc n e)

@@ -3,6 +3,7 @@ use Prim.Native.Nat.{ℕ, ◌+◌}
 use mathlib.Core.Path.{◌≡◌, ap, ◌∙◌}
 use mathlib.Core.List.{List}
 use Rattle.disc.specs.declared.Entry.{Entry}
+use Rattle.disc.proofs.Offsets.{entry-name, entry-size, entry-start}
 use Rattle.machine.specs.Area.{kernelOf}
 use Rattle.machine.specs.Changed.{Starts}
 use Rattle.machine.specs.Fields.{nextId}
@@ -10,7 +11,7 @@ use Rattle.machine.specs.Refusals.{Passes}
 use Rattle.machine.specs.Start.{startedProcess, starting, starts}
 use Rattle.machine.specs.State.{processAt}
 use Rattle.machine.specs.declared.Kernel.{Kernel}
-use Rattle.machine.proofs.Fields.Files.{entry-name, entry-size, entry-start, lookup-named}
+use Rattle.machine.proofs.Fields.Files.{lookup-named}
 use Rattle.machine.proofs.Fields.Slots.{ended-slot-lowest}
 use Rattle.machine.proofs.Kept.Begins.{starting-begins}
 

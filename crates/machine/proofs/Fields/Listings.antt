@@ -8,6 +8,7 @@ use native.Mathlib.Omega.{arith}
 use Rattle.buffer.specs.Lists.{consIf, flat, keep, tab}
 use Rattle.buffer.proofs.Lists.{flat-snoc}
 use Rattle.disc.specs.Directory.{entry_at, fileCount, files}
+use Rattle.disc.proofs.Offsets.{entry-name, entry-size}
 use Rattle.store.specs.Answer.{fileLine}
 use Rattle.machine.specs.Area.{kernelOf}
 use Rattle.machine.specs.Fields.{fileText, filesText, processText, processesText}
@@ -15,7 +16,6 @@ use Rattle.machine.specs.Limits.{slotCount}
 use Rattle.machine.specs.Operations.{listText, processLine}
 use Rattle.machine.specs.State.{isLive, processAt}
 use Rattle.machine.specs.declared.Process.{Process}
-use Rattle.machine.proofs.Fields.Files.{entry-name, entry-size}
 use Rattle.machine.proofs.Fields.Slots.{id-is, name-is, slots-table, state-is}
 
 -- ---- texts of tables

@@ -1,15 +1,14 @@
--- Parts of buffers, byte by byte: two parts of the same bytes are the same, and a field of a part is a field of the buffer.
+-- Parts of buffers, byte by byte: two parts of the same bytes are the same.
 use Prim.Native.Nat.{ℕ, suc, ◌+◌, ◌≤◌, ◌<◌}
 use mathlib.Core.Path.{◌≡◌, refl, sym, ap, ◌∙◌}
 use mathlib.Core.Bool.{Bool, true, false}
 use mathlib.Core.List.{List}
-use native.Mathlib.Nat.{add_assoc}
 use native.Mathlib.Omega.{arith}
 use lib.Dec.{ltb}
-use lib.ListN.{length, get_or, drop, get_or-eq_default}
-use lib.Seq.{ext_get_or, take-take}
+use lib.ListN.{length, get_or, get_or-eq_default}
+use lib.Seq.{ext_get_or}
 use borrow.Author.Tests.{ltb-false, ltb-true}
-use Rattle.buffer.specs.Buffer.{part, word_at}
+use Rattle.buffer.specs.Buffer.{part}
 use Rattle.buffer.proofs.Parts.{part-byte, part_length}
 
 -- a byte that is not 0 is one of the list
@@ -38,11 +37,3 @@ module _ (k l : List ℕ) (a b n : ℕ) where
 
   pub same_bytes : part k a n ≡ part l b n → (j : ℕ) → j < n → get_or k (a + j) 0 ≡ get_or l (b + j) 0
   same_bytes e j h = is-part k (part l b n) a n e j h ∙ part-byte l b n j h
-
--- a two-byte field of a part
-pub part-word : (l : List ℕ) (at n i : ℕ) → i + 1 < n → word_at (part l at n) i ≡ word_at l (at + i)
-part-word l at n i h = rw (part-byte l at n i (omega arith), part-byte l at n (i + 1) h, add_assoc)
-
--- the first bytes of a part
-pub part-first : (l : List ℕ) (at m n : ℕ) → m ≤ n → part (part l at n) 0 m ≡ part l at m
-part-first l at m n h = take-take m n (drop at l) h

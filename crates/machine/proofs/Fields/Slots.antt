@@ -15,16 +15,18 @@ use Rattle.buffer.proofs.Bools.{and_both, and_left, and_right, not-is-true, true
 use Rattle.buffer.proofs.Disjunctions.{any-is, or_cases, or-first, or-second}
 use Rattle.buffer.proofs.Kept.{any_at}
 use Rattle.buffer.proofs.Lists.{tab-at, tab-length, tab-same}
-use Rattle.buffer.proofs.Parts.{part-byte}
+use Rattle.buffer.proofs.Parts.{part-byte, part-first, part-word}
 use Rattle.buffer.proofs.Tables.{index_at, index-none}
-use Rattle.disc.specs.Directory.{entry_at, files}
+use Rattle.disc.specs.Directory.{entry_at, fileCount, files}
 use Rattle.disc.specs.Layout.{nameSize}
 use Rattle.disc.specs.declared.Entry.{Entry}
 use Rattle.disc.proofs.Lengths.{readable}
 use Rattle.disc.proofs.Goodness.{one-of-name}
+use Rattle.disc.specs.Offsets.{entryStart, size_of, start_of}
+use Rattle.disc.proofs.Offsets.{entry-name, entry-size, entry-start}
 use Rattle.machine.specs.Area.{kernelOf, processOf}
-use Rattle.machine.specs.Fields.{Ended, HasId, Live, Lowest, Uses, entryStart, filesOn, id_of, nextId, openSize, openStart}
-use Rattle.machine.specs.Fields.{recordStart, size_of, start_of, stateByte}
+use Rattle.machine.specs.Fields.{Ended, HasId, Live, Lowest, Uses, id_of, nextId, openSize, openStart}
+use Rattle.machine.specs.Fields.{recordStart, stateByte}
 use Rattle.machine.specs.GoodArea.{isOpenIn, isProgram}
 use Rattle.machine.specs.Limits.{areaLength, recordSize, slotCount}
 use Rattle.machine.specs.Operations.{inUse, uses}
@@ -35,8 +37,7 @@ use Rattle.machine.proofs.Changes.Change.{GoodState}
 use Rattle.machine.proofs.Changes.Directories.{listed-is, live-record}
 use Rattle.machine.proofs.Changes.Slots.{live_inside, slot_at, slot_is, slot-none}
 use Rattle.machine.proofs.Demands.GoodCalls.{area-length, passes-good}
-use Rattle.machine.proofs.Fields.Files.{entry-name, entry-size, entry-start}
-use Rattle.machine.proofs.Fields.Parts.{part-first, part-word, parts_same, same_bytes}
+use Rattle.machine.proofs.Fields.Parts.{parts_same, same_bytes}
 use Rattle.machine.proofs.Goodness.GoodLaws.{good-process-at}
 use Rattle.machine.proofs.Goodness.GoodRecords.{good-process-is, is-open-in, open-in-is, program-is}
 
@@ -141,7 +142,7 @@ module _ {disc area : List ℕ} (passes : Passes disc area) where
   slot-no-id id e i h = slot-none (kernelOf area) id e i (is_live area i h.live) (id-is area i h.live.slot ∙ h.same)
 
   -- ---- the files that a process uses
-  module _ (file i : ℕ) (counted : file < filesOn disc) where
+  module _ (file i : ℕ) (counted : file < fileCount disc) where
     abbrev e : Entry
     e = entry_at disc file
 
@@ -205,13 +206,13 @@ module _ {disc area : List ℕ} (passes : Passes disc area) where
               len = open-size-is area i low ∙ s.1 ∙ sym (entry-size disc file);
             })
 
-  pub in-use-is : (file : ℕ) → file < filesOn disc → inUse (kernelOf area) (entry_at disc file) ≡ true → (i : ℕ) × Uses disc area file i
+  pub in-use-is : (file : ℕ) → file < fileCount disc → inUse (kernelOf area) (entry_at disc file) ≡ true → (i : ℕ) × Uses disc area file i
   unfolding inUse
   in-use-is file counted t =
       let f = any-is (uses (entry_at disc file)) noProcess (kernelOf area).processes t in
       (f.place, uses-is file f.place counted f.holds)
 
-  pub is-in-use : (file i : ℕ) → file < filesOn disc → Uses disc area file i → inUse (kernelOf area) (entry_at disc file) ≡ true
+  pub is-in-use : (file i : ℕ) → file < fileCount disc → Uses disc area file i → inUse (kernelOf area) (entry_at disc file) ≡ true
   unfolding inUse
   is-in-use file i counted u =
       any_at (uses (entry_at disc file)) (kernelOf area).processes i noProcess (omega (arith, u.live.slot, slots_length area))

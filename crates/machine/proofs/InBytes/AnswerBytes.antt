@@ -36,11 +36,12 @@ use Rattle.machine.specs.declared.Process.{Process}
 use Rattle.machine.proofs.Changes.Change.{GoodState}
 use Rattle.machine.proofs.Changes.LiveRecords.{program-length, running-live, within-local}
 use Rattle.machine.proofs.Goodness.GoodLaws.{good-kernel-is}
-use Rattle.machine.proofs.InBytes.ByteDiscs.{contents-bytes, entry-at, new-entry, read-bytes, stored_bytes, written-bytes}
-use Rattle.machine.proofs.Bytes.ByteLists.{Bytes, IsByte, append-bytes, drop-bytes, one_byte, trimmed-bytes, zeros-bytes}
+use Rattle.store.proofs.ByteDiscs.{ByteEntry, contents-bytes, entry-at, new-entry, read-bytes, stored_bytes, written-bytes}
+use Rattle.buffer.proofs.ByteLists.{Bytes, IsByte, append-bytes, drop-bytes, one_byte, zeros-bytes}
+use Rattle.machine.proofs.Bytes.ByteTexts.{trimmed-bytes}
 use Rattle.machine.proofs.InBytes.ByteStates.{ByteFile, ByteKernel, ByteProcess, process-at}
-use Rattle.machine.proofs.InBytes.ByteSteps.{ByteEntry, ByteLocal, started-bytes, with-file, with-local, with-process}
-use Rattle.machine.proofs.Bytes.Each.{Each}
+use Rattle.machine.proofs.InBytes.ByteSteps.{ByteLocal, started-bytes, with-file, with-local, with-process}
+use Rattle.buffer.proofs.Each.{Each}
 use Rattle.machine.proofs.InBytes.EffectBytes.{AsksBytes}
 use Rattle.machine.proofs.InBytes.Stacks.{push-bytes, push-string-bytes}
 use Rattle.machine.proofs.Instructions.Sound.{Asked, Within}

@@ -18,9 +18,9 @@ use Rattle.machine.specs.State.{noProcess, processAt}
 use Rattle.machine.specs.declared.Kernel.{Kernel}
 use Rattle.machine.specs.declared.OpenFile.{OpenFile}
 use Rattle.machine.specs.declared.Process.{Process}
-use Rattle.machine.proofs.Bytes.ByteLists.{Bytes, IsByte, IsWord, append-bytes, byte_at, one_byte, part_bytes, take-bytes, word-at}
-use Rattle.machine.proofs.Bytes.ByteLists.{word-bytes}
-use Rattle.machine.proofs.Bytes.Each.{Each, each_at, each-flat, each-tab}
+use Rattle.buffer.proofs.ByteLists.{Bytes, IsByte, IsWord, append-bytes, byte_at, one_byte, part_bytes, take-bytes, word-at}
+use Rattle.buffer.proofs.ByteLists.{word-bytes}
+use Rattle.buffer.proofs.Each.{Each, each_at, each-flat, each-tab}
 
 pub record ByteRun (r : Run) : Type 0 where
   pub start : IsWord r.start

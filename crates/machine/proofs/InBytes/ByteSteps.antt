@@ -21,9 +21,10 @@ use Rattle.machine.specs.State.{withVariables}
 use Rattle.machine.specs.declared.Kernel.{Kernel}
 use Rattle.machine.specs.declared.OpenFile.{OpenFile}
 use Rattle.machine.specs.declared.Process.{Process}
-use Rattle.machine.proofs.Bytes.ByteLists.{Bytes, IsByte, IsWord, filled-bytes, overwrite-bytes, part_bytes, take-bytes, zeros-bytes}
+use Rattle.store.proofs.ByteDiscs.{ByteEntry}
+use Rattle.buffer.proofs.ByteLists.{Bytes, IsByte, IsWord, filled-bytes, overwrite-bytes, part_bytes, take-bytes, zeros-bytes}
 use Rattle.machine.proofs.InBytes.ByteStates.{ByteFile, ByteKernel, ByteProcess, ByteVariable, ByteVariables, process-at}
-use Rattle.machine.proofs.Bytes.Each.{Each, each_append, each-drop, each_keep, each_map, each-replicate, each_set, each_take}
+use Rattle.buffer.proofs.Each.{Each, each_append, each-drop, each_keep, each_map, each-replicate, each_set, each_take}
 use Rattle.machine.proofs.InBytes.EffectBytes.{ByteCell}
 
 -- ---- one process
@@ -112,11 +113,6 @@ ended-process p h fault b = record {
   share = omega arith;
   stack = zeros-bytes stackSize;
 }
-
-pub record ByteEntry (e : Entry) : Type 0 where
-  pub name : Bytes e.name
-  pub start : IsWord e.start
-  pub len : IsWord e.len
 
 started-process : (e : Entry) → ByteEntry e → (id : ℕ) → IsWord id → ByteProcess (startedProcess e id)
 started-process e h id b = record {

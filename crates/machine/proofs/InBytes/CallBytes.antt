@@ -39,12 +39,14 @@ use Rattle.machine.specs.declared.Process.{Process}
 use Rattle.machine.proofs.Changes.Change.{GoodState}
 use Rattle.machine.proofs.Demands.GoodCalls.{passes-good}
 use Rattle.machine.proofs.InBytes.AnswerBytes.{starting-bytes}
-use Rattle.machine.proofs.InBytes.ByteDiscs.{contents-bytes, entry-at, erased-bytes, stored_bytes}
-use Rattle.machine.proofs.Bytes.ByteLists.{Bytes, IsByte, append-bytes, are-bytes, bytes-of, decimal-bytes, one_byte}
-use Rattle.machine.proofs.Bytes.ByteLists.{overwrite-bytes, trimmed-bytes, zeros-bytes}
+use Rattle.store.proofs.ByteDiscs.{ByteEntry, contents-bytes, entry-at, erased-bytes, stored_bytes}
+use Rattle.buffer.proofs.ByteLists.{Bytes, IsByte, append-bytes, are-bytes, bytes-of, one_byte}
+use Rattle.machine.proofs.Bytes.ByteTexts.{decimal-bytes}
+use Rattle.buffer.proofs.ByteLists.{overwrite-bytes, zeros-bytes}
+use Rattle.machine.proofs.Bytes.ByteTexts.{trimmed-bytes}
 use Rattle.machine.proofs.InBytes.ByteStates.{ByteKernel, ByteProcess, kernel-bytes, kernel-of, process-at}
-use Rattle.machine.proofs.InBytes.ByteSteps.{ByteEntry, ended-bytes, with-process, with-share, with-state}
-use Rattle.machine.proofs.Bytes.Each.{Each, each-flat, each_keep, each_set, each-tab}
+use Rattle.machine.proofs.InBytes.ByteSteps.{ended-bytes, with-process, with-share, with-state}
+use Rattle.buffer.proofs.Each.{Each, each-flat, each_keep, each_set, each-tab}
 use Rattle.machine.proofs.InBytes.TurnBytes.{round-bytes, turned-bytes}
 use Rattle.machine.proofs.Operations.Tests.{on-tests, tried}
 

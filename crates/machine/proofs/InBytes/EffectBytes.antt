@@ -31,8 +31,8 @@ use Rattle.machine.specs.Effect.{forks, awaits, unlessFaults, land, settle, with
 use Rattle.machine.specs.Effect.{operates}
 use Rattle.machine.specs.Limits.{stackSize}
 use Rattle.machine.specs.Stack.{Item, Popped, popped, cannot, pop, push}
-use Rattle.machine.proofs.Bytes.ByteLists.{Bytes, IsByte}
-use Rattle.machine.proofs.Bytes.Each.{Each, each_at}
+use Rattle.buffer.proofs.ByteLists.{Bytes, IsByte}
+use Rattle.buffer.proofs.Each.{Each, each_at}
 use Rattle.machine.proofs.InBytes.NumberBytes.{number_fits, value-bytes}
 use Rattle.machine.proofs.InBytes.Outcomes.{Answers, binary-answers, unary-answers}
 use Rattle.machine.proofs.InBytes.Scaling.{constrained-fits, map-answers, power-answers}

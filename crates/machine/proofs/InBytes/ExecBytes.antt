@@ -29,9 +29,9 @@ use Rattle.machine.specs.declared.instruction.Instruction.TheVariants.{Loop, End
 use Rattle.machine.specs.declared.instruction.Reach.{Reach}
 use Rattle.machine.specs.declared.instruction.Reach.TheVariants.{OpenFile, CloseFile, WriteFile, ReadNumber, ReadString, Fork}
 use Rattle.machine.specs.declared.instruction.Reach.TheVariants.{WaitUntilDone}
-use Rattle.machine.proofs.Bytes.ByteLists.{Bytes, append-bytes, byte_at, drop-bytes, one_byte, part_bytes, take-bytes}
-use Rattle.machine.proofs.Bytes.ByteLists.{trimmed-bytes}
-use Rattle.machine.proofs.Bytes.Each.{Each}
+use Rattle.buffer.proofs.ByteLists.{Bytes, append-bytes, byte_at, drop-bytes, one_byte, part_bytes, take-bytes}
+use Rattle.machine.proofs.Bytes.ByteTexts.{trimmed-bytes}
+use Rattle.buffer.proofs.Each.{Each}
 use Rattle.machine.proofs.InBytes.EffectBytes.{ByteCell, GivesBytes, either-gives, number-gives, operates-gives, popped-gives}
 use Rattle.machine.proofs.InBytes.EffectBytes.{settle-gives, unless-gives, variable-gives}
 use Rattle.machine.proofs.InBytes.Stacks.{newline-bytes, printed-bytes, push-bytes, push-item-bytes, push-string-bytes}

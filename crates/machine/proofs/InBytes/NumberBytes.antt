@@ -21,8 +21,9 @@ use Rattle.number.specs.Value.{number_of, valueBytes}
 use Rattle.number.specs.declared.Number.{Number}
 use Rattle.number.specs.declared.Number.TheVariants.{Char, Int, Float}
 use Rattle.number.proofs.Encoding.{Fits}
-use Rattle.machine.proofs.Bytes.ByteLists.{Bytes, append-bytes, byte_at, decimal-bytes, one_byte}
-use Rattle.machine.proofs.Bytes.Each.{Each}
+use Rattle.buffer.proofs.ByteLists.{Bytes, append-bytes, byte_at, one_byte}
+use Rattle.machine.proofs.Bytes.ByteTexts.{decimal-bytes}
+use Rattle.buffer.proofs.Each.{Each}
 
 pub value-bytes : (a : Number) → Fits a → Bytes (valueBytes a)
 unfolding Each

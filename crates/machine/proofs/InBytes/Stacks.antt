@@ -15,8 +15,9 @@ use Rattle.machine.specs.Effect.{newline, number, printed}
 use Rattle.machine.specs.Limits.{stackSize}
 use Rattle.machine.specs.Stack.{Item, Popped, popped, cannot, pop, popNumber, popString, push, pushItem, pushString, stringKind}
 use Rattle.machine.specs.Stack.{unlessFault, wellFormed}
-use Rattle.machine.proofs.Bytes.ByteLists.{Bytes, IsByte, append-bytes, byte_at, one_byte, part_bytes, take-bytes, trimmed-bytes}
-use Rattle.machine.proofs.Bytes.Each.{Each}
+use Rattle.buffer.proofs.ByteLists.{Bytes, IsByte, append-bytes, byte_at, one_byte, part_bytes, take-bytes}
+use Rattle.machine.proofs.Bytes.ByteTexts.{trimmed-bytes}
+use Rattle.buffer.proofs.Each.{Each}
 use Rattle.machine.proofs.InBytes.NumberBytes.{number_fits, text-bytes}
 
 -- ---- popping

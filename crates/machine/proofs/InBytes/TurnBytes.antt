@@ -23,12 +23,12 @@ use Rattle.machine.proofs.Changes.Change.{GoodState}
 use Rattle.machine.proofs.Changes.LiveRecords.{running-live, within-local}
 use Rattle.machine.proofs.Demands.GoodCalls.{KeepsGood, share-of-turns-good, turn-if-running-good}
 use Rattle.machine.proofs.InBytes.AnswerBytes.{ByteAnswered, answer-bytes, local-bytes}
-use Rattle.machine.proofs.InBytes.ByteDiscs.{contents-bytes}
-use Rattle.machine.proofs.Bytes.ByteLists.{Bytes, IsByte, append-bytes, filled-bytes, take-bytes}
+use Rattle.store.proofs.ByteDiscs.{contents-bytes}
+use Rattle.buffer.proofs.ByteLists.{Bytes, IsByte, append-bytes, filled-bytes, take-bytes}
 use Rattle.machine.proofs.InBytes.ByteStates.{ByteKernel, ByteProcess, ByteVariables, process-at}
 use Rattle.machine.proofs.InBytes.ByteSteps.{ByteLocal, assigned-bytes, ended-bytes, owned-bytes, with-local, with-process}
 use Rattle.machine.proofs.InBytes.ByteSteps.{with-variables}
-use Rattle.machine.proofs.Bytes.Each.{Each}
+use Rattle.buffer.proofs.Each.{Each}
 use Rattle.machine.proofs.InBytes.EffectBytes.{GivesBytes}
 use Rattle.machine.proofs.InBytes.ExecBytes.{exec-gives}
 use Rattle.machine.proofs.Instructions.Executing.{exec-sound}

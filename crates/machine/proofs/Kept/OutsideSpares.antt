@@ -35,7 +35,7 @@ module _ {k : Kernel} {disc : List ℕ} (g : GoodState k disc) {name : List ℕ}
       kinds (stores title bytes at a e f) = same f ∙ stored-contents bytes g.sound a place x.file.inside
       kinds (erases i m u e f) =
           same f
-          ∙ erased-other-file disc i place g.sound m x.file.inside
+          ∙ erased-other-file disc g.sound place x.file.inside i m
           (λ q. true-not-false (used-is-in-use k (entry_at disc i) x.user
           (subst⁻¹ (λ (n : ℕ). uses (entry_at disc n) (processAt k x.user) ≡ true) q x.used)) u)
       kinds (begins slot d t e f) = same f

@@ -5,7 +5,7 @@ use mathlib.Core.Bool.{true}
 use mathlib.Core.List.{List}
 use lib.ListN.{length}
 use Rattle.place.specs.declared.Run.{Run}
-use Rattle.disc.specs.Directory.{contents, entry_at, isDiscLength, runOf}
+use Rattle.disc.specs.Directory.{FileAt, contents, entry_at, isDiscLength, runOf}
 use Rattle.disc.specs.declared.Entry.{Entry}
 use Rattle.disc.proofs.Goodness.{good-disc-is}
 use Rattle.store.proofs.Changes.{Inside, written-files, written-length}
@@ -18,7 +18,7 @@ use Rattle.machine.specs.State.{processAt, withProcess}
 use Rattle.machine.specs.declared.Kernel.{Kernel}
 use Rattle.machine.specs.declared.Process.{Process}
 use Rattle.machine.proofs.Changes.Change.{GoesOn, GoodState, Writes}
-use Rattle.machine.proofs.Changes.Directories.{FileAt, open_at}
+use Rattle.machine.proofs.Changes.Directories.{open_at}
 
 module _ {w : ℕ} {k : Kernel} {disc : List ℕ} {j : Kernel} {after : List ℕ} (g : GoodState k disc) (x : Writes w k disc j after) where
   abbrev run : Run
@@ -43,7 +43,7 @@ module _ {w : ℕ} {k : Kernel} {disc : List ℕ} {j : Kernel} {after : List ℕ
       subst⁻¹ (λ (d : List ℕ). contents d read ≡ contents disc read) x.disc-after
       (subst⁻¹ (λ (r : Run). contents (writtenAt disc r offset x.bytes) read ≡ contents disc read) file.run_is
       (subst⁻¹ (λ (r : Run). contents (writtenAt disc (runOf (entry_at disc file.place)) offset x.bytes) r ≡ contents disc r) other.run_is
-      (written-other-file disc file.place other.place offset x.bytes g.sound file.inside other.inside apart
+      (written-other-file disc g.sound other.place other.inside file.place offset x.bytes file.inside apart
       (subst (λ (r : Run). offset + length x.bytes ≤ r.len) file.run_is x.inside))))
     where
       apart : file.place ≡ other.place → ⊥
@@ -61,7 +61,7 @@ writes-good moved w k disc j after g x =
     (record {
       sized = m.sized;
       long = ap isDiscLength (written-length x.bytes (write-inside g x)) ∙ g.long;
-      sound = written-good x.bytes (write-inside g x) g.sound;
+      sound = written-good x.bytes (write-inside g x);
       area = subst⁻¹ (λ (es : List Entry). goodKernel es (withProcess k w x.process) ≡ true)
           (written-files x.bytes (write-inside g x) (good-disc-is disc g.sound).few) m.area;
     }))

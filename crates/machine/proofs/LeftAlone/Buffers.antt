@@ -19,7 +19,7 @@ use Rattle.store.specs.File.{unless}
 use Rattle.store.specs.declared.Answer.TheVariants.{Done, Refused}
 use Rattle.store.specs.declared.Refusal.TheVariants.{ShortOutput}
 use Rattle.store.proofs.Checks.{by-checks}
-use Rattle.store.proofs.Contents.{contents-short}
+use Rattle.store.proofs.Contents.{contents-length}
 use Rattle.machine.specs.Answer.{Answer, Buffers, Other, store, retrieve, erase, files, freeSpace, list, Call, turn, round}
 use Rattle.machine.specs.Answer.{command, share, run, other, answer, bootAnswer, commandAnswer, eraseAt, formatAnswer, onGood}
 use Rattle.machine.specs.Answer.{otherAnswer, refused, run_at}
@@ -79,7 +79,7 @@ module _ (b : Buffers) where
       found Nowhere = still _
       found (At i) =
           let e = entry_at b.disc i in
-          reports (leb e.len (length b.out)) e.len (contents b.disc (runOf e)) (contents-short b.disc (runOf e))
+          reports (leb e.len (length b.out)) e.len (contents b.disc (runOf e)) (omega (arith, contents-length b.disc (runOf e)))
 
   files-behind : Reports (filesAnswer b.disc b.out)
   unfolding filesAnswer

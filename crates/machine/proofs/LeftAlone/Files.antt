@@ -1,6 +1,6 @@
 -- A file that a call neither erases nor writes into keeps its name, its place and its bytes.
 use Prim.Native.Nat.{ℕ, ◌+◌, ◌≤◌, ◌<◌}
-use mathlib.Core.Path.{◌≡◌, refl, sym, ap, ◌∙◌, subst, subst⁻¹, subst₂}
+use mathlib.Core.Path.{◌≡◌, refl, sym, ap, ◌∙◌, subst, subst⁻¹}
 use mathlib.Core.Bool.{true, false, ◌&&◌, not}
 use mathlib.Core.List.{List}
 use native.Mathlib.Nat.{add-zero}
@@ -12,24 +12,26 @@ use Rattle.buffer.specs.declared.Found.{Found}
 use Rattle.buffer.specs.declared.Found.TheVariants.{At, Nowhere}
 use Rattle.buffer.proofs.Bools.{and_left, and_right, true-not-false}
 use Rattle.place.specs.declared.Run.{Run}
-use Rattle.disc.specs.Directory.{contents, entry_at, fileCount, goodDisc, isDiscLength, lookup, runOf}
+use Rattle.disc.specs.Directory.{FileAt, contents, entry_at, fileCount, goodDisc, isDiscLength, lookup, runOf}
 use Rattle.disc.specs.declared.Entry.{Entry}
 use Rattle.disc.proofs.Lengths.{readable}
-use Rattle.disc.proofs.Goodness.{good-disc-is, good-entry-at}
+use Rattle.disc.proofs.Goodness.{good-disc-is}
 use Rattle.disc.proofs.Lookups.{Located, located-once, lookup-at}
+use Rattle.disc.specs.Offsets.{bytes_of, size_of, start_of}
+use Rattle.disc.proofs.Offsets.{bytes-of, entry-size, entry-start}
 use Rattle.store.specs.File.{erased, stored, writtenAt}
 use Rattle.store.proofs.Admissions.{Admitted}
 use Rattle.store.proofs.Calls.{store-cases}
 use Rattle.store.proofs.Changes.{Inside, written_count, written_entry}
 use Rattle.store.proofs.Contents.{erased-other-file, written-other-file}
 use Rattle.store.proofs.Effects.{stored-contents}
-use Rattle.store.proofs.Invariant.{file-inside, present}
+use Rattle.store.proofs.Invariant.{file-inside}
 use Rattle.machine.specs.Answer.{Answer, Buffers, Other, store, retrieve, erase, files, freeSpace, list, Call, turn, round}
 use Rattle.machine.specs.Answer.{command, share, run, other, answer, eraseAt, otherAnswer}
 use Rattle.machine.specs.Area.{kernelOf}
-use Rattle.machine.specs.AtPc.{byteAhead, processIn}
+use Rattle.machine.specs.AtPc.{byteAhead}
 use Rattle.machine.specs.Beyond.{fileRun}
-use Rattle.machine.specs.Fields.{Named, bytes_of, size_of, start_of}
+use Rattle.machine.specs.Fields.{Named}
 use Rattle.machine.specs.LeftAlone.{MayChange}
 use Rattle.machine.specs.Limits.{slotCount, turnRoom}
 use Rattle.machine.specs.Operations.{inUse}
@@ -38,9 +40,9 @@ use Rattle.machine.specs.State.{isRunning, processAt}
 use Rattle.machine.specs.declared.Kernel.{Kernel}
 use Rattle.machine.proofs.Changes.Change.{Change, GoodState, Outside, Writes, acts, begins, erases, erasing, nothing, stores}
 use Rattle.machine.proofs.Changes.Change.{writes}
-use Rattle.machine.proofs.Changes.Directories.{Again, FileAt, open_at}
+use Rattle.machine.proofs.Changes.Directories.{Again, open_at}
 use Rattle.machine.proofs.Demands.GoodCalls.{passes-good, turn-is-change}
-use Rattle.machine.proofs.Fields.Files.{bytes-of, entry-size, entry-start, located-named, named-located}
+use Rattle.machine.proofs.Fields.Files.{located-named, named-located}
 use Rattle.machine.proofs.Fields.Slots.{open-size-is, open-start-is}
 use Rattle.machine.proofs.Kept.OutsideKept.{erased-again, stored-again}
 use Rattle.machine.proofs.LeftAlone.Buffers.{call-leaves}
@@ -64,7 +66,8 @@ module _ {disc name : List ℕ} {i : ℕ} (n : Named disc name i) where
     here : Located disc name i
     here = named-located (readable disc long good) n
 
-    again-remains : (after : List ℕ) → Again disc after i → contents after (runOf (entry_at disc i)) ≡ contents disc (runOf (entry_at disc i))
+    again-remains : (after : List ℕ) → Again disc after i
+        → contents after (runOf (entry_at disc i)) ≡ contents disc (runOf (entry_at disc i))
         → Remains disc after name i
     again-remains after a held = (
       a.place,
@@ -86,7 +89,7 @@ module _ {disc name : List ℕ} {i : ℕ} (n : Named disc name i) where
         again-remains (erased disc m)
         (erased-again i here.inside m good l.inside
         (λ q. differ (located-once l (subst (λ (x : ℕ). Located disc name x) q here))))
-        (erased-other-file disc m i good l.inside here.inside
+        (erased-other-file disc good i here.inside m l.inside
         (λ q. differ (located-once l (subst (λ (x : ℕ). Located disc name x) (sym q) here))))
 
     -- bytes are written in another file
@@ -100,7 +103,7 @@ module _ {disc name : List ℕ} {i : ℕ} (n : Named disc name i) where
           inside = omega (arith, written_count bytes inside, here.inside);
           same = written_entry bytes inside i (omega (arith, here.inside, (good-disc-is disc good).few));
         })
-        (written-other-file disc m i offset bytes good h here.inside differ fits)
+        (written-other-file disc good i here.inside m offset bytes h differ fits)
 
 -- ---- a turn
 module _ (b : Buffers) (name : List ℕ) (i : ℕ) (n : Named b.disc name i) where

@@ -59,7 +59,8 @@ module _ {k : Kernel} {disc : List ℕ} (good : GoodState k disc) (slot : ℕ) (
   goes-on-local l within = goes_on disc l p.file within (live-record good slot live).file
 
   module _ (name : List ℕ) where
-    pub moves-local : (l : Local) → Within (length (program_of disc p)) l → Change name slot k disc (withProcess k slot (withLocal p l)) disc
+    pub moves-local : (l : Local) → Within (length (program_of disc p)) l
+        → Change name slot k disc (withProcess k slot (withLocal p l)) disc
     moves-local l within = acts k (nothing refl refl) refl (moves (withLocal p l) (goes-on-local l within) refl)
 
     pub ends-here : (fault : ℕ) → Change name slot k disc (ended k slot fault) disc

@@ -3,30 +3,28 @@ use Prim.Native.Nat.{ℕ, zero, suc, ◌+◌, ◌-◌, ◌≤◌, ◌<◌}
 use mathlib.Core.Path.{◌≡◌, refl, sym, ap, subst, subst⁻¹, ◌∙◌}
 use mathlib.Core.Bool.{Bool, true, false}
 use mathlib.Core.List.{List, [], ◌∷◌, ◌++◌, append_assoc}
-use mathlib.Core.Logic.{◌⊎◌, inl, inr}
+use mathlib.Core.Logic.{◌⊎◌, inl, inr, ⊎_elim}
 use native.Mathlib.Nat.{le_of_suc-le-suc, not-suc-le-zero}
 use native.Mathlib.Omega.{arith}
 use lib.Dec.{eqb, leb}
 use lib.ListN.{drop, get_or, length, length-append, length-drop}
 use lib.Seq.{get_or-drop}
 use borrow.Author.Tests.{eqb-false, leb-false}
-use Rattle.buffer.specs.Buffer.{part}
-use Rattle.buffer.proofs.Parts.{part-byte, part-of-part}
-use Rattle.place.specs.declared.Run.{Run}
-use Rattle.disc.specs.Directory.{contents, files}
+use Rattle.disc.specs.Directory.{Held, contents, files}
 use Rattle.disc.specs.Name.{trimmed, unlessZero}
 use Rattle.disc.proofs.Names.{text-ends, text-with-zero}
 use Rattle.store.specs.File.{readAt, writtenAt}
-use Rattle.store.proofs.Contents.{file-length}
+use Rattle.store.proofs.Changes.{Inside, written-length, written-other, written-there}
+use Rattle.store.proofs.Contents.{contents-length}
 use Rattle.machine.specs.Answer.{Buffers}
-use Rattle.machine.specs.AtPc.{Onward, SameDisc, processIn, stackIn}
+use Rattle.machine.specs.AtPc.{Onward, SameDisc, ValueOnTop, processIn, stackIn}
 use Rattle.machine.specs.Beyond.{advanced, answered, continues, fileRun, pushed, received, unlessBreaks}
 use Rattle.machine.specs.Effect.{Request, asks, reads, readsString, writes}
 use Rattle.machine.specs.Fields.{Lowest}
 use Rattle.machine.specs.Instruction.{instructionOf}
 use Rattle.machine.specs.Limits.{stackSize}
 use Rattle.machine.specs.AtPc.{ahead}
-use Rattle.machine.specs.Reaching.{Faults, InFile, ReadExactly, ReadStringExactly, Receives, WriteExactly, read}
+use Rattle.machine.specs.Reaching.{Faults, InFile, ReadExactly, ReadStringExactly, Receives, WriteExactly, Writes, read}
 use Rattle.machine.specs.Refusals.{MayTurn, state_of}
 use Rattle.machine.specs.Stack.{pushString}
 use Rattle.machine.specs.State.{Local}
@@ -53,6 +51,13 @@ text-no-zero (c ∷ l) i h e = go (eqb c 0) refl (text-no-zero l) i h e
     go false q more zero h e = eqb-false c 0 q e
     go false q more (suc i) h e = more i (le_of_suc-le-suc h) e
 
+-- no value is without bytes
+value-some : (stack rest : List ℕ) (kind : ℕ) (bytes : List ℕ) → ValueOnTop stack rest kind bytes → 0 < length bytes
+value-some stack rest kind bytes (inl n) =
+    ⊎_elim (λ (e : kind ≡ 1). omega (arith, n.size))
+    (⊎_elim (λ (e : kind ≡ 2). omega (arith, n.size)) (λ (e : kind ≡ 4). omega (arith, n.size))) n.typed
+value-some stack rest kind bytes (inr s) = omega (arith, ap length s.whole, length-append s.text (0 ∷ []))
+
 module _ (b : Buffers) (slot clock : ℕ) where
   abbrev k : Kernel
   k = state_of b
@@ -63,12 +68,36 @@ module _ (b : Buffers) (slot clock : ℕ) where
   abbrev f : OpenFile
   f = (processIn b slot).file
 
+  -- an open file is one of the disc's
+  open-held : MayTurn b slot → (f.len ≡ 0 → ⊥) → Held b.disc (fileRun f)
+  open-held may some = go (live-record good slot (live b slot may)).file
+    where
+      good : GoodState k b.disc
+      good = passes-good b.disc b.area may.passes
+
+      go : GoodFile (files b.disc) f → Held b.disc (fileRun f)
+      go (inl c) = absurd (some c.len)
+      go (inr o) = record { sound = good.sound; file = open_at o }
+
+  written : MayTurn b slot → (bytes : List ℕ) → 0 < length bytes → f.offset + length bytes ≤ f.len
+      → Writes b slot clock bytes (writtenAt b.disc (fileRun f) f.offset bytes)
+  written may bytes some fits =
+      let inside : Inside b.disc (fileRun f) f.offset (length bytes) =
+      record { held = open-held may (λ z. omega arith); fits = fits } in
+      record {
+        long = written-length bytes inside;
+        there = written-there bytes inside;
+        others = written-other bytes inside;
+      }
+
   pub write-exactly : WriteExactly b slot clock
   unfolding answered
   write-exactly rest kind bytes a top =
       let does = write-found b slot clock rest kind bytes a top in
       in-file b slot clock a.may (writes bytes (at b slot pc rest)) does (length bytes) _ _ refl
-      (λ fits e. continued b slot clock a.may (writes bytes (at b slot pc rest)) does pc rest (advanced f (length bytes)) _ e)
+      (λ fits e.
+      let c = continued b slot clock a.may (writes bytes (at b slot pc rest)) does pc rest (advanced f (length bytes)) _ e in
+      (c.0, subst⁻¹ (Writes b slot clock bytes) c.1 (written a.may bytes (value-some (stackIn b slot) rest kind bytes top) fits)))
 
   -- n bytes further, with this stack if it can be that long
   receives : MayTurn b slot → (r : Request) → Does b slot clock (asks r) → (stack value : List ℕ) (n : ℕ) → stack ≡ stackIn b slot ++ value
@@ -105,20 +134,6 @@ module _ (b : Buffers) (slot clock : ℕ) where
   abbrev text : List ℕ
   text = trimmed bytesAhead
 
-  -- an open file is one of the disc's, so its bytes lie on the disc
-  open-length : MayTurn b slot → (f.len ≡ 0 → ⊥) → length (contents b.disc (fileRun f)) ≡ f.len
-  open-length may some = go (live-record good slot (live b slot may)).file
-    where
-      good : GoodState k b.disc
-      good = passes-good b.disc b.area may.passes
-
-      go : GoodFile (files b.disc) f → length (contents b.disc (fileRun f)) ≡ f.len
-      go (inl c) = absurd (some c.len)
-      go (inr o) =
-          let p = open_at o in
-          subst⁻¹ (λ (r : Run). length (contents b.disc r) ≡ r.len) p.run_is
-          (file-length b.disc good.sound p.place p.inside)
-
   byte-ahead : (j : ℕ) → get_or bytesAhead j 0 ≡ get_or (contents b.disc (fileRun f)) (f.offset + j) 0
   byte-ahead j = get_or-drop f.offset (contents b.disc (fileRun f)) j 0
 
@@ -126,10 +141,10 @@ module _ (b : Buffers) (slot clock : ℕ) where
   no_zero j low e = text-no-zero bytesAhead j low (byte-ahead j ∙ e)
 
   -- the text and its zero
-  text-read : MayTurn b slot → f.offset + (length text + 1) ≤ f.len → text ++ (0 ∷ []) ≡ read b slot clock (length text + 1)
-  text-read may fits =
+  text-read : f.offset + (length text + 1) ≤ f.len → text ++ (0 ∷ []) ≡ read b slot clock (length text + 1)
+  text-read fits =
       let long : length bytesAhead ≡ f.len - f.offset =
-      length-drop f.offset (contents b.disc (fileRun f)) ∙ ap (λ (n : ℕ). n - f.offset) (open-length may (λ z. omega arith)) in
+      length-drop f.offset (contents b.disc (fileRun f)) ∙ ap (λ (n : ℕ). n - f.offset) (contents-length b.disc (fileRun f)) in
       sym (text-with-zero bytesAhead (omega arith))
 
   pub read-string-exactly : ReadStringExactly b slot clock
@@ -150,7 +165,7 @@ module _ (b : Buffers) (slot clock : ℕ) where
       pushes : f.offset + (length text + 1) ≤ f.len → pushString (stackIn b slot) (text ++ (0 ∷ [])) ≡ stackIn b slot ++ value
       pushes fits =
           append_assoc (stackIn b slot) (text ++ (0 ∷ [])) (length (text ++ (0 ∷ [])) ∷ 3 ∷ [])
-          ∙ (λ z. stackIn b slot ++ (text-read a.may fits z ++ (length-append text (0 ∷ []) z ∷ 3 ∷ [])))
+          ∙ (λ z. stackIn b slot ++ (text-read fits z ++ (length-append text (0 ∷ []) z ∷ 3 ∷ [])))
 
       go : InFile b slot clock (length text + 1) (Receives b slot clock (length text + 1) value)
           → ((f.len ≡ 0) × Faults b slot clock 11)

@@ -5,7 +5,6 @@ use mathlib.Core.List.{List}
 use native.Mathlib.Omega.{arith}
 use lib.ListN.{length, get_or}
 use borrow.Author.Tests.{le-leb, lt-ltb}
-use Rattle.buffer.proofs.Parts.{part-byte}
 use Rattle.operator.specs.Instruction.{lookup, operatorOf}
 use Rattle.number.specs.Value.{number_of}
 use Rattle.variable.specs.Table.{Cell, owned}

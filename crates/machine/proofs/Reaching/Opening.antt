@@ -13,10 +13,12 @@ use Rattle.number.specs.declared.Number.{Number}
 use Rattle.place.specs.Place.{run_from}
 use Rattle.place.specs.declared.Run.{Run}
 use Rattle.disc.specs.Directory.{entry_at, lookup, runOf}
+use Rattle.disc.specs.Offsets.{size_of, start_of}
+use Rattle.disc.proofs.Offsets.{entry-size, entry-start}
 use Rattle.store.specs.File.{admission, stored}
 use Rattle.store.specs.declared.Admission.{Admission}
 use Rattle.store.specs.declared.Admission.TheVariants.{Start, Denied}
-use Rattle.store.proofs.Admissions.{admitted, zeros-admitted}
+use Rattle.store.proofs.Admissions.{admitted, admitted-placed, zeros-admitted}
 use Rattle.machine.specs.Answer.{Buffers}
 use Rattle.machine.specs.AtPc.{processIn, stackIn}
 use Rattle.machine.specs.Beyond.{answered, continues, created, createdAt, newFileSize, opened, openedAt}
@@ -25,7 +27,7 @@ use Rattle.machine.specs.Effect.{Request, asks, closes, opens}
 use Rattle.machine.specs.NoPlace.{NewFileRefused, by_size}
 use Rattle.machine.specs.AtPc.{fileIn}
 use Rattle.machine.specs.Reaching.{CloseExactly, Creates, Faults, OpenExactly, Opens}
-use Rattle.machine.specs.Fields.{NoFile, size_of, start_of}
+use Rattle.machine.specs.Fields.{NoFile}
 use Rattle.machine.specs.Refusals.{state_of}
 use Rattle.machine.specs.State.{Local, withLocal, withProcess}
 use Rattle.machine.specs.declared.Kernel.{Kernel}
@@ -35,7 +37,7 @@ use Rattle.machine.proofs.Changes.Replaced.{put-at}
 use Rattle.machine.proofs.Demands.GoodCalls.{passes-good}
 use Rattle.machine.proofs.Demands.Openings.{new-file-refused}
 use Rattle.machine.proofs.Done.Entering.{stored-enters}
-use Rattle.machine.proofs.Fields.Files.{entry-size, entry-start, lookup-named, lookup-no-file, placed-shortest}
+use Rattle.machine.proofs.Fields.Files.{lookup-named, lookup-no-file}
 use Rattle.machine.proofs.Fields.Names.{good-is-name}
 use Rattle.machine.proofs.Reaching.Finding.{Does, at, close-found, open-found}
 use Rattle.machine.proofs.Reaching.Going.{broken-by, carried_on, continued, live}
@@ -88,7 +90,7 @@ module _ (b : Buffers) (slot clock : ℕ) where
           let on = continued b slot clock a.may r does pc rest (opened (run_from s n)) (stored b.disc text (zeros n) s) h in
           let enters = subst⁻¹ (λ (after : List ℕ). Enters b.disc after text (zeros n) s) on.1
           (stored-enters (zeros n) good.sound (zeros-admitted d)) in
-          let placed = placed-shortest b.disc n s d.some d.found in
+          let placed = admitted-placed d in
           inr (n, fit, (good-is-name text d.good, d.few, (s, placed, on.0, enters)))
 
       sized : lookup b.disc text ≡ Nowhere → (s : Size) → newFileSize b.disc size ≡ s

@@ -1,10 +1,7 @@
 -- The loop: the first i bytes are copied.
 use Prim.Native.Nat.{◌≤◌, ◌-◌}
-use mathlib.Core.Path.{◌≡◌, refl, sym, ◌∙◌}
-use native.Mathlib.Omega.{arith}
-use lib.ListN.{length, take, drop, length-set}
-use lib.Seq.{take_all}
-use Rattle.buffer.proofs.Buffer.{copy-next}
+use mathlib.Core.Path.{◌≡◌}
+use lib.ListN.{length, take, drop}
 use Rattle.buffer.proofs.bytes.copy_part.Given as goal
 
 -- The loop: the first i bytes are copied.

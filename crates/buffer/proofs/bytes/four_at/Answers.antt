@@ -1,6 +1,5 @@
 -- The two words, as `fourAt` has them.
 use Rattle.buffer.specs.Buffer.{fourAt}
-use borrow.Author.Rules.{rules}
 use Rattle.buffer.proofs.bytes.four_at.Goals as goal
 
 -- The two words, as `fourAt` has them.

@@ -1,10 +1,8 @@
 -- The loop: the first i bytes are laid over.
 use Prim.Native.Nat.{◌≤◌, ◌-◌}
-use mathlib.Core.Path.{◌≡◌, refl}
-use native.Mathlib.Omega.{arith}
-use lib.ListN.{length, length-set}
-use lib.Seq.{paste, paste-zero}
-use Rattle.buffer.proofs.Buffer.{overwrite-next, overwrite-end}
+use mathlib.Core.Path.{◌≡◌}
+use lib.ListN.{length}
+use lib.Seq.{paste}
 use Rattle.buffer.proofs.bytes.overwrite_at.Given as goal
 
 -- The loop: the first i bytes are laid over.

@@ -1,11 +1,7 @@
 -- The loop: the first i bytes are the same.
 use Prim.Native.Nat.{ℕ, ◌≤◌, ◌<◌, ◌-◌}
-use mathlib.Core.Path.{◌≡◌, sym, ap}
-use native.Mathlib.Omega.{arith}
-use borrow.Author.Count.{below_more}
+use mathlib.Core.Path.{◌≡◌}
 use lib.ListN.{length, get_or}
-use lib.Seq.{ext_get_or}
-use Rattle.buffer.proofs.Lists.{same_refl, same-differ}
 use Rattle.buffer.proofs.bytes.same_bytes.Given as goal
 
 -- The loop: the first i bytes are the same.

@@ -1,8 +1,8 @@
-use Prim.Native.Nat.{◌+◌, ◌≤◌, ◌-◌}
+use Prim.Native.Nat.{◌+◌}
 use mathlib.Core.Path.{◌≡◌, refl, sym, ap, ◌∙◌}
 use native.Mathlib.Omega.{arith}
 use lib.ListN.{length, set, get_or-replicate, length-replicate, length-set}
-use lib.Seq.{paste, paste-zero}
+use lib.Seq.{paste-zero}
 use Rattle.buffer.specs.Buffer.{zeros}
 use Rattle.buffer.proofs.Buffer.{overwrite-next, overwrite-end}
 use Rattle.buffer.proofs.bytes.zero_at.Goals as goal

@@ -1,11 +1,9 @@
 -- The loop: the first i bytes are zero.
-use Prim.Native.Nat.{◌+◌, ◌≤◌, ◌-◌}
-use mathlib.Core.Path.{◌≡◌, refl, sym, ap, ◌∙◌}
-use native.Mathlib.Omega.{arith}
-use lib.ListN.{length, set, get_or-replicate, length-replicate, length-set}
-use lib.Seq.{paste, paste-zero}
+use Prim.Native.Nat.{◌≤◌, ◌-◌}
+use mathlib.Core.Path.{◌≡◌}
+use lib.ListN.{length}
+use lib.Seq.{paste}
 use Rattle.buffer.specs.Buffer.{zeros}
-use Rattle.buffer.proofs.Buffer.{overwrite-next, overwrite-end}
 use Rattle.buffer.proofs.bytes.zero_at.Given as goal
 
 -- The loop: the first i bytes are zero.

@@ -15,7 +15,7 @@ use Rattle.disc_operation.proofs.operations.line_length.Goals as goal
 short : (c : goal.After-decimal_length) → c.text_length.result + c.decimal_length.result ≤ nameSize + maxDigits
 short c =
     let sizes : length c.args.entry.name ≡ nameSize =
-        search rules in
+    search rules in
     omega (arith, sizes, c.text_length.ensures.0, digits-few maxDigits c.args.entry.len)
 
 pub overflow_add-result : goal.overflow_add-result

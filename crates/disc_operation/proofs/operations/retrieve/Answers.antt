@@ -1,20 +1,24 @@
 -- `operations::retrieve` meets its contract: behind the tests of the disc, the file found is copied, if the output has room.
-use Prim.Native.Nat.{ℕ, ◌+◌, ◌-◌, ◌<◌}
-use mathlib.Core.Path.{◌≡◌, sym, ap, subst, ◌∙◌}
-use mathlib.Core.List.{List}
-use lib.ListN.{length, length-drop, length-take}
-use Rattle.buffer.specs.Buffer.{overwrite, part}
+use Prim.Native.Nat.{ℕ, ◌≤◌, ◌<◌}
+use mathlib.Core.Path.{◌≡◌, sym, ap, subst⁻¹, ◌∙◌}
+use mathlib.Core.List.{List, ◌++◌}
+use native.Mathlib.Nat.{zero-add}
+use native.Mathlib.Omega.{arith}
+use lib.ListN.{drop, length, take}
+use lib.Seq.{length-take-le}
+use Rattle.buffer.specs.Buffer.{overwrite}
 use Rattle.buffer.specs.declared.Found.{Found}
 use Rattle.buffer.specs.declared.Found.TheVariants.{At}
-use Rattle.disc.specs.Directory.{contents, entry_at, fileCount, lookup}
+use Rattle.disc.specs.Directory.{Held, contents, entry_at, fileCount, lookup, runOf}
 use Rattle.disc.specs.declared.Entry.{Entry}
-use Rattle.disc.proofs.Goodness.{GoodEntry, good-entry-at}
+use Rattle.disc.proofs.Locations.{file-held}
 use Rattle.disc.proofs.Lookups.{lookup-at}
 use Rattle.store.specs.Answer.{checked, retrieveAnswer, retrieveAt, retrieveFile}
+use Rattle.store.specs.File.{readAt}
 use Rattle.store.specs.declared.Checked.TheVariants.{Usable}
+use Rattle.store.proofs.Contents.{contents-length, read_all}
 use Rattle.disc_operation.proofs.Checks.{usable}
 use Rattle.disc_operation.proofs.Outputs.{file-done, file-short}
-use native.Mathlib.Omega.{arith}
 use Rattle.disc_operation.proofs.operations.retrieve.Goals as goal
 
 -- a disc that has passed the tests, and the place that the search has found in it
@@ -23,14 +27,23 @@ module _ (disc name : List ℕ) (passed : checked disc ≡ Usable) {found : Foun
   inside : i < fileCount disc
   inside = (lookup-at disc name i (sym sought ∙ at)).inside
 
-  file : {e : Entry} → e ≡ entry_at disc i → GoodEntry (length disc) e
-  file x = subst (GoodEntry (length disc)) (sym x) (good-entry-at disc (usable disc passed).sound i inside)
+  file : {e : Entry} → e ≡ entry_at disc i → Held disc (runOf e)
+  file x = subst⁻¹ (λ (e : Entry). Held disc (runOf e)) x (file-held disc (usable disc passed).sound i inside)
 
   chosen : (out : List ℕ) {e : Entry} → e ≡ entry_at disc i → retrieveFile e disc out ≡ retrieveAnswer disc name out
   unfolding retrieveAnswer
   chosen out x =
       rw passed
       (ap (λ (e : Entry). retrieveFile e disc out) x ∙ ap (λ (f : Found). retrieveAt f disc out) (sym at ∙ sought))
+
+-- read whole into as many bytes as the file has
+read-whole : (disc : List ℕ) (e : Entry) (out got : List ℕ) → e.len ≤ length out
+    → got ≡ readAt disc (runOf e) 0 (length (take e.len out)) → got ++ drop e.len out ≡ overwrite out 0 (contents disc (runOf e))
+read-whole disc e out got room read =
+    let file = contents disc (runOf e) in
+    let long : length file ≡ e.len = contents-length disc (runOf e) in
+    let whole : got ≡ file = read ∙ ap (readAt disc (runOf e) 0) (length-take-le e.len out room) ∙ read_all disc (runOf e) in
+    rw (whole, zero-add, long)
 
 pub returns-in-Unusable : goal.returns-in-Unusable
 unfolding retrieveAnswer
@@ -57,25 +70,20 @@ returns-then-out-len c =
     file-short c.entry_at-entry.result a.disc.now a.out.now c.if-out-len.true
     ∙ chosen a.disc.now a.name.now (sym c.check.ensures ∙ c.in_default.is) c.find.ensures c.in-At.is a.out.now c.entry_at-entry.ensures
 
-pub slice_bounds-overwrite_at-end : goal.slice_bounds-overwrite_at-end
-slice_bounds-overwrite_at-end c =
-    let passed = sym c.check.ensures ∙ c.in_default.is in
-    let f = file c.args.disc.now c.args.name.now passed c.find.ensures c.in-At.is c.entry_at-entry.ensures in
-    omega (arith, f.high)
+pub slice_bounds-read_at-end-in-At : goal.slice_bounds-read_at-end-in-At
+slice_bounds-read_at-end-in-At c = sym (length-take-le c.entry_at-entry.result.len c.args.out.now c.if-out-len.false)
 
-pub overwrite_at-requires : goal.overwrite_at-requires
-overwrite_at-requires c =
-    let passed = sym c.check.ensures ∙ c.in_default.is in
-    let f = file c.args.disc.now c.args.name.now passed c.find.ensures c.in-At.is c.entry_at-entry.ensures in
-    let h = f.high in
-    simp (length-take, length-drop) (omega arith)
+pub read_at-requires : goal.read_at-requires
+read_at-requires c =
+    let a = c.args in (
+      file a.disc.now a.name.now (sym c.check.ensures ∙ c.in_default.is) c.find.ensures c.in-At.is c.entry_at-entry.ensures,
+      omega (arith, length-take-le c.entry_at-entry.result.len a.out.now c.if-out-len.false),
+    )
 
 pub returns-else-out-len : goal.returns-else-out-len
-unfolding contents
 returns-else-out-len c =
     let a = c.args in
     let e = c.entry_at-entry.result in
-    let z : e.start + e.len - e.start ≡ e.len = omega arith in
     file-done e a.disc.now a.out.now _ c.if-out-len.false
-    (c.overwrite_at.ensures ∙ ap (λ (n : ℕ). overwrite a.out.now 0 (part a.disc.now e.start n)) z)
+    (read-whole a.disc.now e a.out.now c.read_at.new.out c.if-out-len.false c.read_at.ensures)
     ∙ chosen a.disc.now a.name.now (sym c.check.ensures ∙ c.in_default.is) c.find.ensures c.in-At.is a.out.now c.entry_at-entry.ensures

@@ -1,31 +1,23 @@
 -- `operations::store` meets its contract: behind the tests of the disc and of the file, it is entered and written.
-use Prim.Native.Nat.{ℕ, ◌+◌, ◌<◌}
-use mathlib.Core.Path.{◌≡◌, sym, ap, ◌∙◌}
+use Prim.Native.Nat.{ℕ}
+use mathlib.Core.Path.{◌≡◌, sym, ap, subst⁻¹, ◌∙◌}
 use mathlib.Core.List.{List}
+use native.Mathlib.Omega.{arith}
 use lib.ListN.{length}
-use Rattle.disc.proofs.Names.{good-name-is}
+use Rattle.place.specs.Place.{run_from}
+use Rattle.disc.specs.Directory.{Held}
 use Rattle.store.specs.Answer.{checked, storeAnswer, storeAt, updated}
 use Rattle.store.specs.File.{admission, stored}
 use Rattle.store.specs.declared.Admission.{Admission}
-use Rattle.store.specs.declared.Admission.TheVariants.{Start}
 use Rattle.store.specs.declared.Answer.TheVariants.{Done}
 use Rattle.store.specs.declared.Checked.TheVariants.{Usable}
-use Rattle.store.proofs.Admissions.{Admitted, admitted}
+use Rattle.store.proofs.Admissions.{admitted}
+use Rattle.store.proofs.Effects.{inside}
+use Rattle.store.proofs.Invariant.{admitted-small}
 use Rattle.disc_operation.proofs.Checks.{usable}
-use native.Mathlib.Omega.{arith}
 use Rattle.disc_operation.proofs.operations.store.Goals as goal
 
--- the admission of a start says what it needs, and place and length fit 16 bits
 module _ (disc name bytes : List ℕ) where
-  let-in : {m : Admission} {start : ℕ} → m ≡ admission disc name (length bytes) → m ≡ Start start
-      → Admitted disc name (length bytes) start
-  let-in {m} {start} x e = admitted disc name (length bytes) start (sym x ∙ e)
-
-  short : checked disc ≡ Usable → {start : ℕ} → Admitted disc name (length bytes) start → start + length bytes < 65536
-  short passed a =
-      let fit = usable disc passed in
-      omega (arith, a.placed.high, fit.ready.high)
-
   -- what is left of the definition behind the tests
   rest : checked disc ≡ Usable → {m n : Admission} → m ≡ admission disc name (length bytes) → m ≡ n
       → storeAt n disc name bytes ≡ storeAnswer disc name bytes
@@ -46,35 +38,35 @@ returns-in-Denied c =
 
 pub enter-requires : goal.enter-requires
 enter-requires c =
-    let d = c.args in
-    let passed = sym c.check.ensures ∙ c.in_default.is in
-    let a = let-in d.disc.now d.name.now d.«data».now c.admit.ensures c.in-Start.is in
-    let s = short d.disc.now d.name.now d.«data».now passed a in record {
-      readable = (usable d.disc.now passed).ready;
-      disc_bound = (a.few, omega (arith, (good-name-is _ a.good).short), omega arith, omega arith);
-    }
+    ((usable c.args.disc.now (sym c.check.ensures ∙ c.in_default.is)).ready, sym c.admit.ensures ∙ c.in-Start.is)
 
 pub overflow_cast-run : goal.overflow_cast-run
 overflow_cast-run c =
-    let d = c.args in
-    let a = let-in d.disc.now d.name.now d.«data».now c.admit.ensures c.in-Start.is in
-    omega (arith, short d.disc.now d.name.now d.«data».now (sym c.check.ensures ∙ c.in_default.is) a)
+    let a = c.args in
+    let e = admitted a.disc.now a.name.now (length a.«data».now) c.in-Start.start (sym c.admit.ensures ∙ c.in-Start.is) in
+    omega (arith, (admitted-small e (usable a.disc.now (sym c.check.ensures ∙ c.in_default.is)).ready.high).0)
 
 pub overflow_cast-run-in-Start : goal.overflow_cast-run-in-Start
 overflow_cast-run-in-Start c =
-    let d = c.args in
-    let a = let-in d.disc.now d.name.now d.«data».now c.admit.ensures c.in-Start.is in
-    omega (arith, short d.disc.now d.name.now d.«data».now (sym c.check.ensures ∙ c.in_default.is) a)
+    let a = c.args in
+    let e = admitted a.disc.now a.name.now (length a.«data».now) c.in-Start.start (sym c.admit.ensures ∙ c.in-Start.is) in
+    omega (arith, (admitted-small e (usable a.disc.now (sym c.check.ensures ∙ c.in_default.is)).ready.high).1)
 
+-- the file is one of the disc's once it has entered
 pub write_at-requires : goal.write_at-requires
 write_at-requires c =
-    let a = let-in c.args.disc.now c.args.name.now c.args.«data».now c.admit.ensures c.in-Start.is in
-    (omega arith, omega (arith, a.placed.high))
+    let a = c.args in
+    let e = admitted a.disc.now a.name.now (length a.«data».now) c.in-Start.start (sym c.admit.ensures ∙ c.in-Start.is) in
+    let fit = usable a.disc.now (sym c.check.ensures ∙ c.in_default.is) in (
+      subst⁻¹ (λ (l : List ℕ). Held l (run_from c.in-Start.start (length a.«data».now))) c.enter.ensures
+          (inside a.«data».now fit.sound e).held,
+      omega arith,
+    )
 
 pub returns-in-Start : goal.returns-in-Start
 returns-in-Start c =
     let a = c.args in
     let left : c.write_at.new.disc ≡ stored a.disc.now a.name.now a.«data».now c.in-Start.start =
-        rw (← c.enter.ensures) c.write_at.ensures in
+    rw (← c.enter.ensures) c.write_at.ensures in
     ap (updated (Done 0)) left
     ∙ rest a.disc.now a.name.now a.«data».now (sym c.check.ensures ∙ c.in_default.is) c.admit.ensures c.in-Start.is

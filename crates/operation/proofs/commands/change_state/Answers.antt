@@ -31,7 +31,7 @@ process_at-p-requires c =
 pub returns-then-p-state : goal.returns-then-p-state
 returns-then-p-state c out =
     let same : (processAt (kernelOf c.args.area.now) c.in-At.slot).state ≡ c.args.state =
-        ap (λ (p : Process). p.state) (sym c.process_at-p.ensures) ∙ c.if-p-state.true in
+    ap (λ (p : Process). p.state) (sym c.process_at-p.ensures) ∙ c.if-p-state.true in
     rw (sym c.in-At.ensures, eq-eqb _ _ same)
 
 pub put_back-requires : goal.put_back-requires
@@ -43,7 +43,7 @@ pub returns-else-p-state : goal.returns-else-p-state
 returns-else-p-state c out =
     let a = c.args in
     let read : (processAt (kernelOf a.area.now) c.in-At.slot).state ≡ c.process_at-p.result.state =
-        ap (λ (p : Process). p.state) (sym c.process_at-p.ensures) in
+    ap (λ (p : Process). p.state) (sym c.process_at-p.ensures) in
     rw (sym c.in-At.ensures, ne_eqb _ _ (λ e. c.if-p-state.false (sym read ∙ e)))
     (ap (λ (l : List ℕ). answered (Done 0) a.disc.now l out)
     (c.put_back.ensures

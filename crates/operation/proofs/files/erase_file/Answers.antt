@@ -34,7 +34,7 @@ pub returns-then-is_in_use : goal.returns-then-is_in_use
 returns-then-is_in_use c out =
     let k = kernelOf c.args.area.now in
     let tested : inUse k (entry_at c.args.disc.now c.in-At.i) ≡ c.is_in_use.result =
-        ap (inUse k) (sym c.entry_at.ensures) ∙ sym c.is_in_use.ensures in
+    ap (inUse k) (sym c.entry_at.ensures) ∙ sym c.is_in_use.ensures in
     rw (sym c.in-At.ensures, tested ∙ c.if-is_in_use.true)
 
 pub erase_entry-requires : goal.erase_entry-requires
@@ -45,6 +45,6 @@ pub returns-else-is_in_use : goal.returns-else-is_in_use
 returns-else-is_in_use c out =
     let k = kernelOf c.args.area.now in
     let tested : inUse k (entry_at c.args.disc.now c.in-At.i) ≡ c.is_in_use.result =
-        ap (inUse k) (sym c.entry_at.ensures) ∙ sym c.is_in_use.ensures in
+    ap (inUse k) (sym c.entry_at.ensures) ∙ sym c.is_in_use.ensures in
     rw (sym c.in-At.ensures, tested ∙ c.if-is_in_use.false)
     (ap (λ (l : List ℕ). answered (Done 0) l c.args.area.now out) c.erase_entry.ensures)

@@ -30,7 +30,7 @@ returns-in-Starts c out =
     let a = c.args in
     let k = kernelOf a.area.now in
     let begun : c.start.new.area ≡ kernelBytes (started k c.in-Starts.slot (entry_at a.disc.now c.in-Starts.i)) =
-        c.start.ensures ∙ (λ i. kernelBytes (started k c.in-Starts.slot (c.entry_at.ensures i))) in
+    c.start.ensures ∙ (λ i. kernelBytes (started k c.in-Starts.slot (c.entry_at.ensures i))) in
     (λ i. answered (Done (c.next_id-next.ensures i)) a.disc.now (begun i) out)
     ∙ ap (λ (s : StartOf). run_at s k (lent a.disc.now a.area.now out)) c.in-Starts.ensures.0
 

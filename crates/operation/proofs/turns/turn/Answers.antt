@@ -45,21 +45,24 @@ returns-then-not-is_running c =
     (sym c.is_running.ensures ∙ c.if-not-is_running.true))
 
 pub turn_slot-requires : goal.turn_slot-requires
-turn_slot-requires c =
-    (first-passed _ _ c.check.ensures c.in_default.is, c.if-at-ge-SLOT_COUNT.false, c.if-out-lt-TURN_ROOM.false,
-    sym c.is_running.ensures ∙ c.if-not-is_running.false)
+turn_slot-requires c = (
+  first-passed _ _ c.check.ensures c.in_default.is,
+  c.if-at-ge-SLOT_COUNT.false,
+  c.if-out-lt-TURN_ROOM.false,
+  sym c.is_running.ensures ∙ c.if-not-is_running.false,
+)
 
 pub overflow_cast-result : goal.overflow_cast-result
 overflow_cast-result c =
     let a = c.args in
     let size = ap (λ (l : TurnLeft). l.count) c.turn_slot.ensures in
     let may : MayTurn (lent a.disc.now a.area.now a.out.now) a.slot =
-        record {
-          passes = first-passed _ _ c.check.ensures c.in_default.is;
-          room = le-leb turnRoom (length a.out.now) c.if-out-lt-TURN_ROOM.false;
-          low = lt-ltb a.slot slotCount c.if-at-ge-SLOT_COUNT.false;
-          running = sym c.is_running.ensures ∙ c.if-not-is_running.false;
-        } in
+    record {
+      passes = first-passed _ _ c.check.ensures c.in_default.is;
+      room = le-leb turnRoom (length a.out.now) c.if-out-lt-TURN_ROOM.false;
+      low = lt-ltb a.slot slotCount c.if-at-ge-SLOT_COUNT.false;
+      running = sym c.is_running.ensures ∙ c.if-not-is_running.false;
+    } in
     omega (arith, prints-little (lent a.disc.now a.area.now a.out.now) a.slot a.clock may)
 
 pub returns : goal.returns

@@ -2,7 +2,7 @@
 use Rattle.std.proofs.Common.{◌≤◌, ◌≡◌, length, sym, arith, rules}
 use lib.Seq.{length-take-le}
 use Rattle.buffer.proofs.Parts.{part_length, part-to}
-use Rattle.disc.specs.Directory.{contents}
+use Rattle.disc.proofs.Locations.{contents-part, held-inside}
 use Rattle.machine.specs.Limits.{stackSize}
 use Rattle.stack.specs.Steps.{maxCode}
 use Rattle.process.proofs.fetch.next_step.Goals as goal
@@ -12,27 +12,28 @@ slice_bounds-stack-end c =
     let size : length c.args.p.stack ≡ stackSize = search rules in
     omega arith
 
+pub slice_bounds-execute-end : goal.slice_bounds-execute-end
+slice_bounds-execute-end c = omega (arith, held-inside c.requires.0)
+
 pub slice_bounds-execute-end-2 : goal.slice_bounds-execute-end-2
 slice_bounds-execute-end-2 c =
     let size : length c.args.p.stack ≡ stackSize = search rules in
     sym (length-take-le c.args.p.sp c.args.p.stack (omega arith))
 
 pub execute-requires : goal.execute-requires
-unfolding contents
 execute-requires c =
     let p = c.args.p in
     let disc = c.args.disc.now in
     let size : length p.stack ≡ stackSize = search rules in
     let short : p.code.len ≤ maxCode = search rules in
     let below = length-take-le p.sp p.stack (omega arith) in (
-      rw (part-to disc p.code.start p.code.len) (omega (arith, part_length disc p.code.start p.code.len c.requires.0)),
+      rw (part-to disc p.code.start p.code.len) (omega (arith, part_length disc p.code.start p.code.len (held-inside c.requires.0))),
       omega arith,
       c.requires.2,
       c.requires.3,
     )
 
 pub returns : goal.returns
-unfolding contents
 returns c =
     let a = c.args in
-    rw (part-to a.disc.now a.p.code.start a.p.code.len) at c.execute.ensures
+    rw (part-to a.disc.now a.p.code.start a.p.code.len, ← contents-part c.requires.0) at c.execute.ensures

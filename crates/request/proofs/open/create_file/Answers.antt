@@ -7,33 +7,26 @@ use Rattle.machine.specs.Area.{kernelOf}
 use Rattle.machine.specs.Beyond.{Answered, createdAt}
 use Rattle.process.specs.Stepping.{left, stack_of}
 use Rattle.stack.specs.Steps.{about, keeping}
-use Rattle.disc.proofs.Names.{good-name-is}
 use Rattle.store.specs.declared.Admission.{Admission}
 use Rattle.store.proofs.Admissions.{admitted}
+use Rattle.store.proofs.Invariant.{admitted-small}
 use Rattle.request.proofs.Answering.{answers, breaks-off}
 use Rattle.request.proofs.open.create_file.Goals as goal
 
 pub create-requires : goal.create-requires
-create-requires c =
-    let a = c.args in
-    let h = admitted a.disc.now (about a.d) a.n c.in-Start.start (sym c.in-Start.ensures) in
-    record {
-      readable = c.requires.1;
-      disc_bound = (h.few, omega (arith, (good-name-is (about a.d) h.good).short));
-      data_start_le_start = (h.placed.low, h.placed.high);
-    }
+create-requires c = (c.requires.1, sym c.in-Start.ensures)
 
 pub overflow_cast-start : goal.overflow_cast-start
 overflow_cast-start c =
     let a = c.args in
     let h = admitted a.disc.now (about a.d) a.n c.in-Start.start (sym c.in-Start.ensures) in
-    omega (arith, h.placed.high, c.requires.1.high)
+    omega (arith, (admitted-small h c.requires.1.high).0)
 
 pub returns-in-Start : goal.returns-in-Start
 returns-in-Start c =
     let a = c.args in
     let answer : Admission → Answered =
-        λ x. createdAt (kernelOf a.area.now) a.slot a.disc.now x (about a.d) a.n (keeping (stack_of a.p) a.d) in
+    λ x. createdAt (kernelOf a.area.now) a.slot a.disc.now x (about a.d) a.n (keeping (stack_of a.p) a.d) in
     answers c.requires.0 a.disc.now
     (ap (λ (l : List ℕ). left l c.open_run.new.area) c.create.ensures ∙ c.open_run.ensures a.disc.now _)
     (ap answer c.in-Start.ensures)
@@ -42,5 +35,5 @@ pub returns-in-Denied : goal.returns-in-Denied
 returns-in-Denied c =
     let a = c.args in
     let answer : Admission → Answered =
-        λ x. createdAt (kernelOf a.area.now) a.slot a.disc.now x (about a.d) a.n (keeping (stack_of a.p) a.d) in
+    λ x. createdAt (kernelOf a.area.now) a.slot a.disc.now x (about a.d) a.n (keeping (stack_of a.p) a.d) in
     breaks-off c.requires.0 a.disc.now (ap answer (sym c.in-Denied.ensures)) c.finish.ensures

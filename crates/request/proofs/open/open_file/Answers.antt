@@ -33,5 +33,5 @@ unfolding answered
 returns-in-Nowhere c =
     let a = c.args in
     let answer : Found → Answered =
-        λ f. openedAt (kernelOf a.area.now) a.slot a.disc.now f (about a.d) a.size (keeping (stack_of a.p) a.d) in
+    λ f. openedAt (kernelOf a.area.now) a.slot a.disc.now f (about a.d) a.size (keeping (stack_of a.p) a.d) in
     answers c.requires.0 a.disc.now c.open_new.ensures (ap answer c.in-Nowhere.ensures)

@@ -1,5 +1,5 @@
 -- `file::admit` meets its contract: its tests are those of `admission`, in their order.
-use Prim.Native.Nat.{ℕ, ◌-◌, ◌<◌, ◌≤◌}
+use Prim.Native.Nat.{ℕ, ◌<◌, ◌≤◌}
 use mathlib.Core.Path.{◌≡◌, sym, ap, ◌∙◌}
 use mathlib.Core.Bool.{true}
 use mathlib.Core.List.{List}
@@ -14,10 +14,10 @@ use Rattle.disc.specs.Directory.{fileCount, lookup, taken}
 use Rattle.disc.specs.Layout.{dataStart, maxFiles}
 use Rattle.disc.specs.Name.{goodName}
 use Rattle.disc.proofs.Entries.{taken-first}
-use Rattle.store.specs.File.{admission, denyIfFound, place_of, startOr}
+use Rattle.store.specs.File.{admission, denyIfFound, place_of, sizeLimit, startOr}
 use Rattle.store.proofs.file.admit.Goals as goal
 
-module _ (d name : List ℕ) (n count : ℕ) (good : goodName name ≡ true) (some : 1 ≤ n) (fits : n ≤ length d - dataStart)
+module _ (d name : List ℕ) (n count : ℕ) (good : goodName name ≡ true) (some : 1 ≤ n) (fits : n ≤ sizeLimit d)
     (few : count < maxFiles) (counted : count ≡ fileCount d) where
   -- what is left of the definition behind the first tests
   rest : (f : Found) → f ≡ lookup d name → admission d name n ≡ denyIfFound f (startOr (place_of d n))
@@ -40,10 +40,14 @@ pub returns-then-n-lt1 : goal.returns-then-n-lt1
 unfolding admission
 returns-then-n-lt1 c = rw (sym c.is_good_name.ensures ∙ c.if-not-is_good_name.false, lt-leb _ _ c.if-n-lt1.true)
 
-pub returns-then-disc-n : goal.returns-then-disc-n
+pub returns-then-size_limit-n : goal.returns-then-size_limit-n
 unfolding admission
-returns-then-disc-n c =
-    rw (sym c.is_good_name.ensures ∙ c.if-not-is_good_name.false, le-leb _ _ c.if-n-lt1.false, lt-leb _ _ c.if-disc-n.true)
+returns-then-size_limit-n c =
+    rw (
+      sym c.is_good_name.ensures ∙ c.if-not-is_good_name.false,
+      le-leb _ _ c.if-n-lt1.false,
+      lt-leb _ _ (rw c.size_limit.ensures at c.if-size_limit-n.true),
+    )
 
 pub returns-then-count-ge-MAX_FILES : goal.returns-then-count-ge-MAX_FILES
 unfolding admission
@@ -51,24 +55,27 @@ returns-then-count-ge-MAX_FILES c =
     rw (
       sym c.is_good_name.ensures ∙ c.if-not-is_good_name.false,
       le-leb _ _ c.if-n-lt1.false,
-      le-leb _ _ c.if-disc-n.false,
+      le-leb _ _ (rw c.size_limit.ensures at c.if-size_limit-n.false),
       le-ltb (fileCount c.args.disc.now) maxFiles (omega arith),
     )
 
 pub returns-in-At : goal.returns-in-At
 returns-in-At c =
     sym (rest c.args.disc.now c.args.name.now c.args.n c.file_count-count.result
-    (sym c.is_good_name.ensures ∙ c.if-not-is_good_name.false) c.if-n-lt1.false c.if-disc-n.false c.if-count-ge-MAX_FILES.false
+    (sym c.is_good_name.ensures ∙ c.if-not-is_good_name.false) c.if-n-lt1.false (rw c.size_limit.ensures at c.if-size_limit-n.false)
+    c.if-count-ge-MAX_FILES.false
     c.file_count-count.ensures _ c.in-At.ensures)
 
 pub returns-in-At-find_place : goal.returns-in-At-find_place
 returns-in-At-find_place c =
     sym (last c.args.disc.now c.args.name.now c.args.n c.file_count-count.result
-    (sym c.is_good_name.ensures ∙ c.if-not-is_good_name.false) c.if-n-lt1.false c.if-disc-n.false c.if-count-ge-MAX_FILES.false
+    (sym c.is_good_name.ensures ∙ c.if-not-is_good_name.false) c.if-n-lt1.false (rw c.size_limit.ensures at c.if-size_limit-n.false)
+    c.if-count-ge-MAX_FILES.false
     c.file_count-count.ensures c.in_default.ensures c.taken_runs-runs.result c.taken_runs-runs.ensures _ c.in-At-find_place.ensures)
 
 pub returns-in-Nowhere : goal.returns-in-Nowhere
 returns-in-Nowhere c =
     sym (last c.args.disc.now c.args.name.now c.args.n c.file_count-count.result
-    (sym c.is_good_name.ensures ∙ c.if-not-is_good_name.false) c.if-n-lt1.false c.if-disc-n.false c.if-count-ge-MAX_FILES.false
+    (sym c.is_good_name.ensures ∙ c.if-not-is_good_name.false) c.if-n-lt1.false (rw c.size_limit.ensures at c.if-size_limit-n.false)
+    c.if-count-ge-MAX_FILES.false
     c.file_count-count.ensures c.in_default.ensures c.taken_runs-runs.result c.taken_runs-runs.ensures _ c.in-Nowhere.ensures)

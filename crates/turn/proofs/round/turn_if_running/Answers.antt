@@ -31,7 +31,7 @@ unfolding turnIfRunning
 returns c =
     let a = c.args in
     let idle : isRunning (processAt (kernelOf a.area.now) a.slot) ≡ false =
-        sym (ap isRunning c.process_at-p.ensures) ∙ ne_eqb _ _ c.if-p-eq-RUNNING.false in
+    sym (ap isRunning c.process_at-p.ensures) ∙ ne_eqb _ _ c.if-p-eq-RUNNING.false in
     let bytes : AreBytes a.area.now = λ i. search rules in
     let whole : Whole a.area.now = kernel-encode-decode a.area.now bytes (area-size c.requires.0) in
     rw idle (λ t. turnLeft 0 a.disc.now (sym whole t) (sym (paste-zero a.out.now 0 []) t))

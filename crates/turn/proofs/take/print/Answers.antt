@@ -18,9 +18,10 @@ pub returns-in-Print : goal.returns-in-Print
 returns-in-Print c =
     let d = c.args.d in
     let size : length d.bytes ≡ stackSize = search rules in
-    let text : printedBy d ≡ about d = ap (λ a. printed a (about d)) c.in-Print.is in
-    (sym (ap length text ∙ length-take-le d.len d.bytes (omega (arith, c.requires.0))),
-    c.overwrite_at.ensures ∙ ap (overwrite c.args.out.now 0) (sym text))
+    let text : printedBy d ≡ about d = ap (λ a. printed a (about d)) c.in-Print.is in (
+      sym (ap length text ∙ length-take-le d.len d.bytes (omega (arith, c.requires.0))),
+      c.overwrite_at.ensures ∙ ap (overwrite c.args.out.now 0) (sym text),
+    )
 
 prints-nothing : (a : Action) (bytes : List ℕ) → (a ≡ Print → ⊥) → printed a bytes ≡ []
 prints-nothing Push bytes h = refl

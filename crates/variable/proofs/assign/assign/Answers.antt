@@ -67,14 +67,14 @@ pub overflow_cast-e : goal.overflow_cast-e
 overflow_cast-e c =
     let a = c.args in
     let r = room a.variables.now c.requires.0 c.requires.1 a.name a.owner a.kind a.bytes.now c.runs_beside-taken.ensures
-        c.place_for.ensures c.in-Address.is in
+    c.place_for.ensures c.in-Address.is in
     omega (arith, r.1, c.requires.2)
 
 pub add-requires : goal.add-requires
 add-requires c =
     let a = c.args in
     let r = room-freed a.variables.now c.requires.0 c.requires.1 a.name a.owner a.kind a.bytes.now c.runs_beside-taken.ensures
-        c.place_for.ensures c.in-Address.is c.free.ensures in
+    c.place_for.ensures c.in-Address.is c.free.ensures in
     (search rules, r.0, r.1)
 
 pub returns-in-Address : goal.returns-in-Address

@@ -18,10 +18,10 @@ returns-then-not-is_new c =
 
 pub loop-i-preserved : goal.loop-i-preserved
 loop-i-preserved c = (
-      omega arith,
-      pairs-take-next differs c.args.ids.now c.loop-i.i 0 (omega arith) c.loop-i.invariant.1
-          (sym c.is_new.ensures ∙ c.if-not-is_new.false),
-    )
+  omega arith,
+  pairs-take-next differs c.args.ids.now c.loop-i.i 0 (omega arith) c.loop-i.invariant.1
+      (sym c.is_new.ensures ∙ c.if-not-is_new.false),
+)
 
 pub returns : goal.returns
 returns c =

@@ -37,8 +37,8 @@ returns-then-is_clash_at c =
     let l = c.loop-d in
     let known : Bytes a.area.now = λ k. omega (arith, c.type_inv.area k) in
     let said = tested a.area.now known a.count l.d c.requires.1 l.invariant.0 c.loop-d-test.true
-        c.fill_bytes.new.column c.fill_ends.new.column c.no_names-names.result c.fill_bytes-2.new.column a.owners.now
-        c.fill_bytes.ensures c.fill_ends.ensures c.no_names-names.ensures c.fill_bytes-2.ensures c.requires.2 c.is_clash_at.ensures in
+    c.fill_bytes.new.column c.fill_ends.new.column c.no_names-names.result c.fill_bytes-2.new.column a.owners.now
+    c.fill_bytes.ensures c.fill_ends.ensures c.no_names-names.ensures c.fill_bytes-2.ensures c.requires.2 c.is_clash_at.ensures in
     sym (clash-stops a.area.now a.count c.requires.1 known l.d l.invariant.0 c.loop-d-test.true (sym said ∙ c.if-is_clash_at.true))
 
 pub loop-d-preserved : goal.loop-d-preserved
@@ -47,8 +47,8 @@ loop-d-preserved c =
     let l = c.loop-d in
     let known : Bytes a.area.now = λ k. omega (arith, c.type_inv.area k) in
     let said = tested a.area.now known a.count l.d c.requires.1 l.invariant.0 c.loop-d-test.true
-        c.fill_bytes.new.column c.fill_ends.new.column c.no_names-names.result c.fill_bytes-2.new.column a.owners.now
-        c.fill_bytes.ensures c.fill_ends.ensures c.no_names-names.ensures c.fill_bytes-2.ensures c.requires.2 c.is_clash_at.ensures in
+    c.fill_bytes.new.column c.fill_ends.new.column c.no_names-names.result c.fill_bytes-2.new.column a.owners.now
+    c.fill_bytes.ensures c.fill_ends.ensures c.no_names-names.ensures c.fill_bytes-2.ensures c.requires.2 c.is_clash_at.ensures in
     (omega arith, clash-next a.area.now a.count l.d l.invariant.1 (sym said ∙ c.if-is_clash_at.false))
 
 pub returns : goal.returns

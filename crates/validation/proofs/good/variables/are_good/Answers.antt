@@ -29,7 +29,7 @@ pub returns-then-not-are_owned : goal.returns-then-not-are_owned
 returns-then-not-are_owned c =
     let a = c.args in
     let owned = column-owners (keep isId a.ids.now) a.area.now c.are_owned.result c.fill_words.new.column c.fill_words.ensures
-        c.are_owned.ensures in
+    c.are_owned.ensures in
     rw (
       in_parts (keep isId a.ids.now) a.area.now c.if-count-gt-MAX_VARIABLES.false,
       sym c.are_sized.ensures ∙ c.if-not-are_sized.false,
@@ -40,7 +40,7 @@ pub returns : goal.returns
 returns c =
     let a = c.args in
     let owned = column-owners (keep isId a.ids.now) a.area.now c.are_owned.result c.fill_words.new.column c.fill_words.ensures
-        c.are_owned.ensures in
+    c.are_owned.ensures in
     rw (
       in_parts (keep isId a.ids.now) a.area.now c.if-count-gt-MAX_VARIABLES.false,
       sym c.are_sized.ensures ∙ c.if-not-are_sized.false,

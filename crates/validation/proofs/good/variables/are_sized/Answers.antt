@@ -24,12 +24,11 @@ tested c =
     cc (part-byte a at entrySize 1 (omega arith), part-byte a at entrySize 2 (omega arith), part-byte a at entrySize 3 (omega arith))
 
 pub loop-i-preserved : goal.loop-i-preserved
-loop-i-preserved c =
-    (
-      omega arith,
-      ap₂ (λ (x y : Bool). x && y) c.loop-i.invariant.1 (tested c)
-          ∙ sym (all-tab-more sized (variableIn c.args.area.now) c.loop-i.i),
-    )
+loop-i-preserved c = (
+  omega arith,
+  ap₂ (λ (x y : Bool). x && y) c.loop-i.invariant.1 (tested c)
+      ∙ sym (all-tab-more sized (variableIn c.args.area.now) c.loop-i.i),
+)
 
 pub returns : goal.returns
 returns c =

@@ -9,8 +9,12 @@ use lib.ListN.{length, replicate}
 use borrow.Author.Tests.{leb-true}
 use Rattle.buffer.specs.Buffer.{overwrite, part, word_bytes}
 use Rattle.buffer.proofs.Bools.{and_right}
+use Rattle.buffer.proofs.ByteLists.{Bytes, IsByte, IsWord, append-bytes, byte_at, filled-bytes, gathered-bytes, one_byte, overwrite-bytes}
+use Rattle.buffer.proofs.ByteLists.{part_bytes, scattered-bytes, take-bytes, word-at, word-bytes}
+use Rattle.buffer.proofs.Each.{all-each}
+use Rattle.place.specs.Place.{run_from}
 use Rattle.place.specs.declared.Run.{Run}
-use Rattle.disc.specs.Directory.{contents, entry_at, entryBytes, fileCount, isDiscLength}
+use Rattle.disc.specs.Directory.{contents, entry_at, entryBytes, fileCount, isDiscLength, location}
 use Rattle.disc.specs.Layout.{countAt, entrySize, nameSize}
 use Rattle.disc.specs.Name.{goodName, isNameByte, padded}
 use Rattle.disc.specs.declared.Entry.{Entry}
@@ -18,10 +22,13 @@ use Rattle.disc.proofs.Lengths.{disc-bounds}
 use Rattle.disc.proofs.Names.{good-name-is}
 use Rattle.store.specs.File.{entered, erased, newEntry, readAt, stored, writtenAt}
 use Rattle.store.proofs.Admissions.{Admitted}
-use Rattle.machine.proofs.Bytes.ByteLists.{Bytes, IsByte, append-bytes, byte_at, filled-bytes, one_byte, overwrite-bytes, part_bytes}
-use Rattle.machine.proofs.Bytes.ByteLists.{take-bytes, word-at, word-bytes}
-use Rattle.machine.proofs.InBytes.ByteSteps.{ByteEntry}
-use Rattle.machine.proofs.Bytes.Each.{all-each}
+use Rattle.store.proofs.Invariant.{admitted-small}
+
+-- an entry whose name is bytes, and whose fields fit two
+pub record ByteEntry (e : Entry) : Type 0 where
+  pub name : Bytes e.name
+  pub start : IsWord e.start
+  pub len : IsWord e.len
 
 -- Document 01: "A name is 1 to 11 bytes of 33 to 126, zero-filled."
 padded-bytes : (name : List ℕ) → goodName name ≡ true → Bytes (padded name)
@@ -48,7 +55,7 @@ module _ (disc : List ℕ) (h : Bytes disc) where
 
   pub contents-bytes : (run : Run) → Bytes (contents disc run)
   unfolding contents
-  contents-bytes run = part_bytes disc run.start run.len h
+  contents-bytes run = gathered-bytes (location disc run) disc run.len h
 
   pub read-bytes : (run : Run) (offset n : ℕ) → Bytes (readAt disc run offset n)
   unfolding readAt
@@ -56,14 +63,12 @@ module _ (disc : List ℕ) (h : Bytes disc) where
 
   pub written-bytes : (run : Run) (offset : ℕ) (bytes : List ℕ) → Bytes bytes → Bytes (writtenAt disc run offset bytes)
   unfolding writtenAt
-  written-bytes run offset bytes b = overwrite-bytes disc (run.start + offset) bytes h b
+  written-bytes run offset bytes b = scattered-bytes (location disc run) offset disc bytes h b
 
   pub new-entry : (name : List ℕ) (n s : ℕ) → isDiscLength (length disc) ≡ true → Admitted disc name n s → ByteEntry (newEntry name n s)
-  new-entry name n s long a = record {
-    name = padded-bytes name a.good;
-    start = omega (arith, a.placed.high, (disc-bounds (length disc) long).high);
-    len = omega (arith, a.placed.high, (disc-bounds (length disc) long).high);
-  }
+  new-entry name n s long a =
+      let small = admitted-small a (disc-bounds (length disc) long).high in
+      record { name = padded-bytes name a.good; start = small.0; len = small.1 }
 
   entered-bytes : (name : List ℕ) (n s : ℕ) → isDiscLength (length disc) ≡ true → Admitted disc name n s
       → Bytes (entered disc name n s)
@@ -73,12 +78,6 @@ module _ (disc : List ℕ) (h : Bytes disc) where
       (overwrite-bytes disc (fileCount disc * entrySize) (entryBytes (newEntry name n s)) h
       (entry-bytes (newEntry name n s) (new-entry name n s long a)))
       (one_byte (fileCount disc + 1) (omega (arith, a.few)))
-
-  pub stored_bytes : (name bytes : List ℕ) (s : ℕ) → isDiscLength (length disc) ≡ true → Admitted disc name (length bytes) s → Bytes bytes
-      → Bytes (stored disc name bytes s)
-  unfolding writtenAt
-  stored_bytes name bytes s long a b =
-      overwrite-bytes (entered disc name (length bytes) s) (s + 0) bytes (entered-bytes name (length bytes) s long a) b
 
   pub erased-bytes : (i : ℕ) → Bytes (erased disc i)
   unfolding erased fileCount
@@ -90,3 +89,9 @@ module _ (disc : List ℕ) (h : Bytes disc) where
     where
       later : List ℕ
       later = part disc (i * entrySize + entrySize) ((fileCount disc - 1 - i) * entrySize)
+
+pub stored_bytes : (disc : List ℕ) → Bytes disc → (name bytes : List ℕ) (s : ℕ) → isDiscLength (length disc) ≡ true
+    → Admitted disc name (length bytes) s → Bytes bytes → Bytes (stored disc name bytes s)
+stored_bytes disc h name bytes s long a b =
+    written-bytes (entered disc name (length bytes) s) (entered-bytes disc h name (length bytes) s long a) (run_from s (length bytes)) 0
+    bytes b

@@ -1,15 +1,11 @@
 -- Lists of bytes, and which lists made from them are bytes.
-use Prim.Native.Nat.{ℕ, suc, zero, ◌+◌, ◌/◌, ◌%◌, ◌<◌}
-use mathlib.Core.Bool.{Bool, true, false}
+use Prim.Native.Nat.{ℕ, suc, ◌+◌, ◌<◌}
 use mathlib.Core.List.{List, [], ◌∷◌, ◌++◌}
 use native.Mathlib.Omega.{arith}
-use lib.Dec.{eqb, leb}
-use lib.ListN.{drop, get_or, length, replicate, take}
+use lib.ListN.{drop, get_or, length, replicate, set, take}
 use Rattle.buffer.specs.Buffer.{overwrite, part, word_at, word_bytes}
-use Rattle.decimal.specs.Decimal.{decimal, ifMore, lastDigits, maxDigits}
-use Rattle.disc.specs.Name.{trimmed, unlessZero}
-use Rattle.machine.specs.Area.{AreBytes}
-use Rattle.machine.proofs.Bytes.Each.{Each, at_each, each_append, each_at, each-drop, each-replicate, each_take}
+use Rattle.buffer.specs.Scattered.{gathered, scattered}
+use Rattle.buffer.proofs.Each.{Each, at_each, each_append, each_at, each-drop, each-replicate, each_set, each-tab, each_take}
 
 abbrev pub IsByte : ℕ → Type 0
 IsByte b = b < 256
@@ -20,10 +16,10 @@ IsWord w = w < 65536
 abbrev pub Bytes : List ℕ → Type 0
 Bytes l = Each IsByte l
 
-pub bytes-of : (l : List ℕ) → AreBytes l → Bytes l
+pub bytes-of : (l : List ℕ) → ((i : ℕ) → IsByte (get_or l i 0)) → Bytes l
 bytes-of l h = at_each IsByte l 0 h
 
-pub are-bytes : (l : List ℕ) → Bytes l → AreBytes l
+pub are-bytes : (l : List ℕ) → Bytes l → (i : ℕ) → IsByte (get_or l i 0)
 are-bytes l h i = each_at IsByte l i 0 h (omega arith)
 
 pub append-bytes : (l m : List ℕ) → Bytes l → Bytes m → Bytes (l ++ m)
@@ -57,6 +53,19 @@ one_byte b h = (h, tt)
 pub byte_at : (l : List ℕ) (i : ℕ) → Bytes l → IsByte (get_or l i 0)
 byte_at l i h = are-bytes l h i
 
+pub set-bytes : (l : List ℕ) (i b : ℕ) → Bytes l → IsByte b → Bytes (set l i b)
+set-bytes = each_set IsByte
+
+-- at places that a function gives
+pub gathered-bytes : (at : ℕ → ℕ) (l : List ℕ) (n : ℕ) → Bytes l → Bytes (gathered at l n)
+unfolding gathered
+gathered-bytes at l n h = each-tab IsByte (λ i. get_or l (at i) 0) n (λ i. byte_at l (at i) h)
+
+pub scattered-bytes : (at : ℕ → ℕ) (i : ℕ) (l xs : List ℕ) → Bytes l → Bytes xs → Bytes (scattered at i l xs)
+unfolding Each scattered
+scattered-bytes at i l [] h k = h
+scattered-bytes at i l (x ∷ xs) h k = scattered-bytes at (suc i) (set l (at i) x) xs (set-bytes l (at i) x h k.0) k.1
+
 -- ---- two-byte fields
 pub word-at : (l : List ℕ) (i : ℕ) → Bytes l → IsWord (word_at l i)
 word-at l i h = omega (arith, byte_at l i h, byte_at l (i + 1) h)
@@ -64,27 +73,3 @@ word-at l i h = omega (arith, byte_at l i h, byte_at l (i + 1) h)
 pub word-bytes : (w : ℕ) → IsWord w → Bytes (word_bytes w)
 unfolding Each
 word-bytes w h = (omega arith, (omega arith, tt))
-
--- ---- texts
-pub trimmed-bytes : (l : List ℕ) → Bytes l → Bytes (trimmed l)
-unfolding Each trimmed
-trimmed-bytes [] h = tt
-trimmed-bytes (b ∷ l) h = go (eqb b 0) (trimmed-bytes l h.1)
-  where
-    go : (z : Bool) → Bytes (trimmed l) → Bytes (unlessZero z b (trimmed l))
-    go true k = tt
-    go false k = (h.0, k)
-
-digits-bytes : (f n : ℕ) → Bytes (lastDigits f n)
-unfolding Each lastDigits
-digits-bytes zero n = tt
-digits-bytes (suc f) n =
-    append-bytes (ifMore (leb 10 n) (lastDigits f (n / 10))) ((48 + n % 10) ∷ []) (go (leb 10 n) (digits-bytes f (n / 10)))
-    (omega arith, tt)
-  where
-    go : (more : Bool) → Bytes (lastDigits f (n / 10)) → Bytes (ifMore more (lastDigits f (n / 10)))
-    go true k = k
-    go false k = tt
-
-pub decimal-bytes : (n : ℕ) → Bytes (decimal n)
-decimal-bytes n = digits-bytes maxDigits n

@@ -1,0 +1,20 @@
+-- What the directory says, read off at its offsets: "name 12, start 2, length 2". The demands speak of files in these
+-- words; no answer is made of them.
+use Rattle.std.specs.Prelude.{ℕ, ◌+◌, ◌*◌, List}
+use Rattle.buffer.specs.Buffer.{word_at}
+use Rattle.place.specs.Place.{run_from}
+use Rattle.disc.specs.Directory.{contents}
+use Rattle.disc.specs.Layout.{entrySize}
+
+abbrev pub entryStart : ℕ → ℕ
+entryStart i = i * entrySize
+
+abbrev pub start_of : List ℕ → ℕ → ℕ
+start_of disc i = word_at disc (entryStart i + 12)
+
+abbrev pub size_of : List ℕ → ℕ → ℕ
+size_of disc i = word_at disc (entryStart i + 14)
+
+-- what file i holds
+abbrev pub bytes_of : List ℕ → ℕ → List ℕ
+bytes_of disc i = contents disc (run_from (start_of disc i) (size_of disc i))

@@ -1,0 +1,24 @@
+-- Where a new file can go, and where it goes. The demands speak of places on the disc in these words; no answer is made
+-- of them.
+use Rattle.std.specs.Prelude.{ℕ, ◌+◌, ◌≤◌, ◌<◌, List, ◌⊎◌, length}
+use Rattle.place.specs.ShortestFit.{ShortestFit}
+use Rattle.disc.specs.Directory.{fileCount}
+use Rattle.disc.specs.Layout.{dataStart}
+use Rattle.disc.specs.Offsets.{size_of, start_of}
+
+-- n bytes from start on are data bytes, and no file's
+pub record Free (disc : List ℕ) (n start : ℕ) : Type 0 where
+  pub low : dataStart ≤ start
+  pub high : start + n ≤ length disc
+  pub clear : (i : ℕ) → i < fileCount disc → (start + n ≤ start_of disc i) ⊎ (start_of disc i + size_of disc i ≤ start)
+
+-- Document 01, store: "9 no free run long enough"
+unfoldable pub HasRoom : List ℕ → ℕ → Type 0
+HasRoom disc n = (start : ℕ) × Free disc n start
+
+abbrev pub NoRoom : List ℕ → ℕ → Type 0
+NoRoom disc n = HasRoom disc n → ⊥
+
+-- Document 02, Q-10: "at the start of the shortest free run that fits, the lowest of equals"
+unfoldable pub Placed : List ℕ → ℕ → ℕ → Type 0
+Placed disc n start = ShortestFit (Free disc) n start
