@@ -2,7 +2,7 @@
 """Writes crate machine_try: for each outside vector, that the definition `answer` (or bootAnswer, formatAnswer) gives what the vector says.
 
 usage: generate.py [--wrong STEP] VECTORS.gz REPOSITORY [FROM TO [PER_FILE]]    vectors FROM up to (not with) TO, counted from 1; those withdrawn (tools/vectors/withdrawn.txt) left out
-Then `rt check machine_try` in REPOSITORY (it puts the crate into crates.txt).
+Then `rt check` in REPOSITORY/crates/machine_try (it puts the crate into crates.txt).
 --wrong STEP: every STEP-th vector with one thing of its answer made wrong in turn (number, a byte of disc, area, output), stated to disagree: shows that the test can fail.
 """
 import os, re, shutil, sys
@@ -21,9 +21,9 @@ per_file = int(sys.argv[5]) if len(sys.argv) > 5 else 50
 
 CRATES = "buffer decimal place integer root float number operator scaling disc store variable machine".split()
 SKIP = set("Trace Observation Single Suppositions Isolation Refusals Ending NoPlace Demands Fields Tests AtPc Changed Faults Reaching Done LeftAlone DiscLengths Waiting NewFile Rows Meaning".split())
-LOGIC = {"lib.Ieee": "span climb size odd units round neg sum add sub mul div lt eq le ne ofInt whole fits isNan ofFields ofBits nanBits toBits toUnsigned toSigned inUnsigned inSigned inFloat",
+LOGIC = {"lib.Ieee": "span climb size odd units round neg sum add sub mul div lt eq le ne of_int whole fits is_nan of_fields of_bits nan_bits to_bits to_unsigned to_signed in_unsigned in_signed in_float",
          "lib.IntN": "one pow",
-         "lib.Count": "trailingZeros leadingZeros"}
+         "lib.Count": "count_trailing_zeros count_leading_zeros"}
 
 
 def opened():
@@ -37,7 +37,7 @@ def opened():
                 continue
             found = re.findall(r"^ *unfoldable pub (\S+) :", open(f"{folder}/{name}").read(), re.M)
             if found:
-                uses.append("use Rattle·%s.specs.%s.{%s}" % (crate, module, ", ".join(f"{f} as {crate}-{module}-{f}" for f in found)))
+                uses.append("use Rattle.%s.specs.%s.{%s}" % (crate, module, ", ".join(f"{f} as {crate}-{module}-{f}" for f in found)))
                 names += [f"{crate}-{module}-{f}" for f in found]
     for module, found in LOGIC.items():
         found = found.split()
@@ -48,18 +48,18 @@ def opened():
 
 
 TRY = """-- What a vector says, and whether the definition says the same.
-use Prim.Native.Nat.{ℕ, zero, suc, _-_, _/_, _%_, _≤_, _<_}
-use mathlib.Core.Bool.{Bool, true, false, _&&_}
-use mathlib.Core.List.{List, [], _∷_}
-use mathlib.Core.Path.{_≡_}
+use Prim.Native.Nat.{ℕ, zero, suc, ◌-◌, ◌/◌, ◌%◌, ◌≤◌, ◌<◌}
+use mathlib.Core.Bool.{Bool, true, false, ◌&&◌}
+use mathlib.Core.List.{List, [], ◌∷◌}
+use mathlib.Core.Path.{◌≡◌}
 use lib.Dec.{eqb}
 use lib.IntN.{ℤ, pos, negsuc}
-use Rattle·buffer.specs.Buffer.{overwrite}
-use Rattle·buffer.specs.Lists.{same}
-use Rattle·place.proofs.Place.{longer-fits-nowhere, longest-is}
-use Rattle·place.specs.Place.{isAt, longest, lowestFit}
-use Rattle·place.specs.declared.Run.{Run}
-use Rattle·machine.specs.Answer.{Answer, Buffers}
+use Rattle.buffer.specs.Buffer.{overwrite}
+use Rattle.buffer.specs.Lists.{same}
+use Rattle.place.proofs.Place.{longer-fits-nowhere, longest-is}
+use Rattle.place.specs.Place.{is_at, longest, lowestFit}
+use Rattle.place.specs.declared.Run.{Run}
+use Rattle.machine.specs.Answer.{Answer, Buffers}
 
 -- n bytes, the first one lowest in x
 abbrev pub bytes : ℕ → ℕ → List ℕ
@@ -72,7 +72,7 @@ lent d a o = record { disc = d; area = a; out = o }
 -- runs laid over a buffer
 abbrev pub laid : List (ℕ × List ℕ) → List ℕ → List ℕ
 laid [] l = l
-laid (r ∷ rs) l = laid rs (overwrite l (r .0) (r .1))
+laid (r ∷ rs) l = laid rs (overwrite l r.0 r.1)
 
 abbrev pub sameNumber : ℤ → ℤ → Bool
 sameNumber (pos m) (pos n) = eqb m n
@@ -82,10 +82,10 @@ sameNumber (negsuc m) (negsuc n) = eqb m n
 
 -- the answer that a vector names: its number, and what changed in the buffers lent
 abbrev pub says : Answer → Buffers → ℤ → List (ℕ × List ℕ) → List (ℕ × List ℕ) → List (ℕ × List ℕ) → Bool
-says a b n disc area out = sameNumber (a .number) n && (same (a .disc) (laid disc (b .disc)) && (same (a .area) (laid area (b .area)) && same (a .out) (laid out (b .out))))
+says a b n disc area out = sameNumber a.number n && (same a.disc (laid disc b.disc) && (same a.area (laid area b.area) && same a.out (laid out b.out)))
 
 -- the longest free run takes more steps than one declaration may; by its law: a run of g has a place, one of g + 1 has none
-pub free-run : (runs : List Run) (lo hi g : ℕ) → g ≤ hi - lo → (0 < g → isAt (lowestFit runs lo hi g) ≡ true) → isAt (lowestFit runs lo hi (suc g)) ≡ false → longest runs lo hi ≡ g
+pub free-run : (runs : List Run) (lo hi g : ℕ) → g ≤ hi - lo → (0 < g → is_at (lowestFit runs lo hi g) ≡ true) → is_at (lowestFit runs lo hi (suc g)) ≡ false → longest runs lo hi ≡ g
 free-run runs lo hi g a e f = longest-is runs lo hi g a e (λ j x y. longer-fits-nowhere runs lo hi (suc g) j x f)
 """
 
@@ -170,14 +170,14 @@ def main():
     shutil.rmtree(crate, ignore_errors=True)
     os.makedirs(crate + "/src")
     os.makedirs(crate + "/proofs")
-    open(crate + "/src/lib.rt", "w").write("// Nothing of its own: the files of proofs/ try the definition of crate machine on outside vectors.\n")
+    open(crate + "/src/lib.rt", "w").write("// Nothing of its own: the files of proofs/ try the definition of crate machine on outside vectors.\n#![tactic(auto)]\n")
     open(crate + "/proofs/Try.antt", "w").write(TRY)
     uses, names = opened()
     head = "\n".join(
-        ["use Prim.Native.Nat.{ℕ}", "use mathlib.Core.Bool.{true, false}", "use mathlib.Core.List.{List, [], _∷_}", "use mathlib.Core.Path.{_≡_, ap, refl}", "use lib.IntN.{ℤ, pos, negsuc}",
-         "use Rattle·machine.specs.Answer.{Buffers, answer, bootAnswer, formatAnswer, turn, round, command, share, run, other, store, retrieve, erase, files, freeSpace, list}",
-         "use Rattle·machine.specs.Operations.{suspend, resume, kill}", "use Rattle·machine_try·proofs.proofs.Try.{bytes, free-run, lent, says}", "use native.Mathlib.Nat.{not-suc-le-zero}", "use native.Mathlib.Omega.{arith}",
-         "use Rattle·place.specs.Place.{longest}", "use Rattle·disc.specs.Directory.{taken}"] + uses) + "\n"
+        ["use Prim.Native.Nat.{ℕ}", "use mathlib.Core.Bool.{true, false}", "use mathlib.Core.List.{List, [], ◌∷◌}", "use mathlib.Core.Path.{◌≡◌, ap, refl}", "use lib.IntN.{ℤ, pos, negsuc}",
+         "use Rattle.machine.specs.Answer.{Buffers, answer, bootAnswer, formatAnswer, turn, round, command, share, run, other, store, retrieve, erase, files, freeSpace, list}",
+         "use Rattle.machine.specs.Operations.{suspend, resume, kill}", "use Rattle.machine_try.proofs.Try.{bytes, free-run, lent, says}", "use native.Mathlib.Nat.{not-suc-le-zero}", "use native.Mathlib.Omega.{arith}",
+         "use Rattle.place.specs.Place.{longest}", "use Rattle.disc.specs.Directory.{taken}"] + uses) + "\n"
     mods = ["Try"]
     chosen = [i for i in sorted(lines) if first <= i < last]
     if wrong:
@@ -206,7 +206,7 @@ def main():
                 text += "\nf%d : longest (taken %s) 161 %d ≡ %s\nunfolding %s\nf%d = free-run (taken %s) 161 %d %s (omega arith) (%s) refl\n" % (
                     i, b[0], len(hexed(d)), n, lazy, i, b[0], len(hexed(d)), n, has)
                 text += "\nv%d : says (answer (other freeSpace) l%d) l%d (pos %s) [] [] [] ≡ true\nunfolding %s\n" % (i, i, i, n, lazy)
-                text += "v%d = ap (λ (n : ℕ). says (record { number = pos n; disc = l%d .disc; area = l%d .area; out = l%d .out }) l%d (pos %s) [] [] []) f%d\n" % (i, i, i, i, i, n, i)
+                text += "v%d = ap (λ (n : ℕ). says (record { number = pos n; disc = l%d.disc; area = l%d.area; out = l%d.out }) l%d (pos %s) [] [] []) f%d\n" % (i, i, i, i, i, n, i)
                 continue
             text += "\nv%d : says (%s) l%d %s %s %s %s ≡ %s\nunfolding %s\nv%d = refl\n" % (
                 i, call(op, args, "l%d" % i), i, number(n), runs(d2), runs(a2), runs(o2), "false" if wrong else "true", " ".join(names), i)
