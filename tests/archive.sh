@@ -1,6 +1,9 @@
 # Read by the scripts of this folder: where to build, and which static library to link.
 # The first argument, or else ARDUINOS_ARCHIVE, names libexport.a; "standin" builds the stand-in and takes that.
 
+# A script's --help is the comment at its head.
+[ "${1:-}" = --help ] && { sed -n '1d; /^#/!q; s/^# \{0,1\}//p' "$0"; exit; }
+
 case "${1:-}" in
 '' | -*) archive=${ARDUINOS_ARCHIVE:-} ;;
 *)

@@ -7,6 +7,9 @@ Then `rt check` in REPOSITORY/crates/machine_try (it puts the crate into crates.
 """
 import os, re, shutil, sys
 
+if "--help" in sys.argv[1:]:
+    sys.exit(print(__doc__.strip()))
+
 sys.path.insert(0, os.path.join(os.path.dirname(os.path.abspath(__file__)), "..", "vectors"))
 from standing import standing
 

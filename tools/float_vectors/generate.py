@@ -15,6 +15,9 @@ import random, sys
 from fractions import Fraction
 from math import isqrt
 
+if "--help" in sys.argv[1:]:
+    sys.exit(print(__doc__.strip()))
+
 WHOLES = [0, 1, -1, 32767, -32768, 16777217, 2147483647, -2147483648]
 NAN = 0x7FC00000
 

@@ -28,6 +28,9 @@ from itertools import product
 from math import isqrt
 from struct import pack
 
+if "--help" in sys.argv[1:]:
+    sys.exit(print(__doc__.strip()))
+
 CHAR, INT, FLOAT = 1, 2, 4
 NAN = 0x7FC00000
 GREATEST_PRINTED = 4294967040

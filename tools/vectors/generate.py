@@ -17,6 +17,9 @@ It knows nothing of what the operations do: number and changes are those of the 
 import os
 import sys
 
+if "--help" in sys.argv[1:]:
+    sys.exit(print(__doc__.strip()))
+
 from standing import standing
 
 CRATES = os.path.join(os.path.dirname(os.path.abspath(__file__)), "..", "..", "crates")

@@ -13,6 +13,9 @@ import sys
 import tempfile
 import time
 
+if "--help" in sys.argv[1:]:
+    sys.exit(print(__doc__.strip()))
+
 STATUS = re.compile(rb"\r\x1b\[K[0-9]+ rounds, [0-9]+ a second, 1 running")
 
 
