@@ -38,6 +38,12 @@ extern "C" {
 #endif
 
 /*
+ * The version: 1 is document 01, and each request of document 02 that lands is one more. CHANGELOG.md says what firmware
+ * must change. Header and archive are of one version: take both from the folder of scripts/library.
+ */
+#define ARDUINOS_VERSION 8
+
+/*
  * Sizes, in bytes where nothing else is said.
  */
 

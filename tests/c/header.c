@@ -6,6 +6,10 @@
 
 #include <stdio.h>
 
+#if ARDUINOS_VERSION < 8
+#error "the version can be asked in #if"
+#endif
+
 typedef uint8_t byte;
 
 static struct {
