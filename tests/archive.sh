@@ -17,7 +17,7 @@ case "$archive" in
 esac
 
 here=$(cd "$(dirname "$0")" && pwd)
-CARGO_TARGET_DIR=${CARGO_TARGET_DIR:-$here/../target/tests}
+CARGO_TARGET_DIR=${CARGO_TARGET_DIR:-$here/../target/rust}
 export CARGO_TARGET_DIR
 cd "$here"
 

@@ -2,8 +2,7 @@
 
 use crate::failure::{refused, Failure, Outcome};
 use crate::good;
-use crate::kernel;
-use crate::layout::{AREA_LEN, LONG_DISC, SHORT_DISC};
+use kernel::sizes::{AREA_LEN, LONG_DISC, SHORT_DISC};
 use std::fs;
 use std::io::{self, Read, Write};
 use std::path::{Path, PathBuf};

@@ -1,18 +1,11 @@
 //! Where each field of disc and work area lies (document 01, 'The two buffers'), to be read. Nothing here judges or
 //! writes.
 
-use std::ops::{Range, RangeInclusive};
-
-/// A disc has one of these lengths (document 02, Q-2).
-pub const SHORT_DISC: usize = 1024;
-pub const LONG_DISC: usize = 4096;
-pub const AREA_LEN: usize = 1056;
+use std::ops::Range;
 
 pub const MAX_FILES: usize = 10;
 pub const ENTRY_LEN: usize = 16;
 pub const NAME_LEN: usize = 12;
-/// "A name is 1 to 11 bytes of 33 to 126".
-pub const NAME_BYTES: RangeInclusive<u8> = 33..=126;
 pub const FILE_COUNT: usize = 160;
 pub const DATA_START: usize = 161;
 
@@ -29,18 +22,11 @@ pub const RECORDS: usize = 416;
 pub const RECORD_LEN: usize = 64;
 pub const MAX_PROCESSES: usize = 10;
 pub const STACK_LEN: usize = 32;
-pub const MAX_SHARE: u8 = 8;
 pub const NO_LOOP: usize = 0xFFFF;
 
 pub const RUNNING: u8 = b'r';
 pub const PAUSED: u8 = b'p';
 pub const ENDED: u8 = 0;
-
-/// How much output a turn, a round, *files* and *list* are lent.
-pub const TURN_OUTPUT: usize = 32;
-pub const ROUND_OUTPUT: usize = 2560;
-pub const FILES_OUTPUT: usize = 170;
-pub const LIST_OUTPUT: usize = 200;
 
 /// "Two-byte fields of both buffers are low byte first."
 pub fn word(bytes: &[u8], at: usize) -> usize {
@@ -290,6 +276,7 @@ pub fn longest(runs: &[Range<usize>]) -> usize {
 #[cfg(test)]
 mod tests {
     use super::*;
+    use kernel::sizes::{AREA_LEN, SHORT_DISC};
 
     #[test]
     fn a_name_is_shown_as_it_is() {

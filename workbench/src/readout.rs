@@ -1,11 +1,11 @@
 //! A work area read out: processes, stacks as values, variables, and variable memory as a picture. Of any 1,056 bytes.
 
 use crate::dis;
-use crate::kernel;
 use crate::layout::*;
 use crate::literal;
 use crate::picture;
 use crate::value::{self, Value};
+use kernel::words;
 
 /// The whole readout. With the disc it shows the instruction at PC and the name of the open file.
 pub fn text(area: &[u8], disc: Option<&[u8]>) -> String {
@@ -33,7 +33,7 @@ fn process(record: Record, disc: Option<&[u8]>) -> String {
         RUNNING => text += "running",
         PAUSED => text += "paused",
         ENDED if record.fault() == 0 => return text + "ended\n",
-        ENDED => return text + &format!("ended by fault {}: {}\n", record.fault(), kernel::fault(record.fault())),
+        ENDED => return text + &format!("ended by fault {}: {}\n", record.fault(), words::fault(record.fault())),
         state => text += &format!("state {state} is unknown"),
     }
     text += &format!(", share {}\n  PC {} of {}", record.share(), record.pc(), record.code_length());

@@ -1,10 +1,11 @@
 //! The calls of a record made again, on buffers filled as it begins, and compared.
 
-use crate::call::{Answer, Buffers, Call};
+use crate::buffers::{Answer, Buffers};
 use crate::literal;
 use crate::record::{Made, Record, Recorded};
 use crate::run::turns::{self, Turn};
 use crate::run::{ends, trace};
+use kernel::call::Call;
 use std::fmt::Write;
 
 /// What a replay has to say.
@@ -51,25 +52,28 @@ impl Replay {
     /// Makes a call, tells of its turns, and compares.
     fn make(&mut self, recorded: &Recorded) -> Result<(), Difference> {
         let before = self.buffers.clone();
-        let answer = recorded.made.call.make(&mut self.buffers);
+        let answer = self.buffers.call(&recorded.made.call);
         let turns = self.turns(&recorded.made.call, &before, &answer).ok_or_else(|| Difference {
             line: recorded.line,
             column: 1,
-            message: format!("{} and its turns came to different buffers: a defect of the kernel", recorded.made.call),
+            message: format!(
+                "{} and its turns came to different buffers: a defect of the kernel",
+                recorded.made.call_text()
+            ),
         })?;
         for turn in turns {
             if self.trace {
                 self.tell(&trace::line(self.rounds, &turn));
             }
             if let Some(sentence) = ends::fault_sentence(&turn) {
-                self.tell(&format!("line {}, {}: {sentence}", recorded.line, recorded.made.call));
+                self.tell(&format!("line {}, {}: {sentence}", recorded.line, recorded.made.call_text()));
             }
         }
         let now = Made::new(recorded.made.call.clone(), &answer, &self.buffers);
         compare(&recorded.made, &now).map_err(|(column, message)| Difference {
             line: recorded.line,
             column,
-            message: format!("{}: {message}", recorded.made.call),
+            message: format!("{}: {message}", recorded.made.call_text()),
         })
     }
 
@@ -98,7 +102,7 @@ impl Replay {
 
 /// The first thing that differs, and the column at which the record has it.
 fn compare(was: &Made, is: &Made) -> Result<(), (usize, String)> {
-    let number_column = was.call.to_string().len() + 4;
+    let number_column = was.call_text().len() + 4;
     let output_column = number_column + was.answer.number.to_string().len() + 1;
     let output = literal::text(&was.answer.output);
     let disc_column = output_column + if was.answer.output.is_empty() { 0 } else { output.len() + 1 };

@@ -7,11 +7,11 @@ mod support;
 
 use bench::Bench;
 use field::{put_word, record_at};
+use kernel::sizes::*;
 use random::Random;
 use support::damage;
 use support::state::{self, State};
 use workbench::good;
-use workbench::kernel;
 use workbench::layout::*;
 use workbench::readout;
 

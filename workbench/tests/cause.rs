@@ -9,11 +9,13 @@ use cause_support::opcode::*;
 use cause_support::routines::*;
 use cause_support::{guide, label, state};
 use field::record_at;
+use kernel::sizes::{LONG_DISC, SHORT_DISC, TURN_OUTPUT};
+use kernel::words;
 use random::Random;
 use std::collections::BTreeSet;
-use workbench::layout::{Record, DATA_START, ENDED, LONG_DISC, RECORDS, RUNNING};
-use workbench::layout::{SHORT_DISC, TURN_OUTPUT, VARIABLES};
-use workbench::{cause, instruction, kernel};
+use workbench::layout::VARIABLES;
+use workbench::layout::{Record, DATA_START, ENDED, RECORDS, RUNNING};
+use workbench::{cause, instruction};
 
 /// One turn in the kernel and the explanation before it: the same fault, at PC, or none in either.
 fn compare(state: &state::State) -> (Option<u8>, u8, Option<cause::Cause>) {
@@ -174,7 +176,7 @@ fn short_texts_are_the_guides() {
     assert_eq!(meanings.len(), 13);
     for (fault, meaning) in meanings {
         let shared = |other: &u8| {
-            let words: BTreeSet<&str> = kernel::fault(*other).split(' ').collect();
+            let words: BTreeSet<&str> = words::fault(*other).split(' ').collect();
             meaning.split(' ').filter(|word| words.contains(word)).count()
         };
         assert_eq!((1..=13).max_by_key(shared), Some(fault), "{meaning}");

@@ -3,7 +3,7 @@
 mod bench;
 
 use bench::{Bench, DOWN};
-use workbench::kernel;
+use kernel::words;
 
 const COMMANDS: [&[&str]; 12] = [
     &["asm"],
@@ -148,8 +148,8 @@ fn every_refusal_of_the_guide_has_words() {
     let rows = table.lines().filter_map(|line| line.strip_prefix("| \u{2212}")?.split(' ').next()?.parse::<i32>().ok());
     let numbers: Vec<i32> = rows.collect();
     assert_eq!(numbers, (1..=16).chain([22]).collect::<Vec<i32>>());
-    let words: Vec<String> = numbers.iter().map(|number| kernel::refusal(-number)).collect();
-    let unknown = kernel::refusal(-17);
+    let words: Vec<String> = numbers.iter().map(|number| words::refusal(-number)).collect();
+    let unknown = words::refusal(-17);
     for (index, text) in words.iter().enumerate() {
         assert!(*text != unknown && !words[..index].contains(text), "{text}");
     }

@@ -3,8 +3,8 @@
 mod bench;
 
 use bench::Bench;
-use workbench::kernel;
-use workbench::layout::{entries, entry_named, AREA_LEN, FILE_COUNT, LONG_DISC, SHORT_DISC};
+use kernel::sizes::{AREA_LEN, LONG_DISC, SHORT_DISC};
+use workbench::layout::{entries, entry_named, FILE_COUNT};
 
 /// A bench with the programs `down` (20 bytes) and `log` (50 bytes) and an image `box.img` that has both.
 fn shop(name: &str) -> Bench {

@@ -6,6 +6,7 @@ mod random;
 mod support;
 
 use field::{put_word, record_at};
+use kernel::sizes::*;
 use random::Random;
 use std::collections::BTreeSet;
 use support::damage;
@@ -16,7 +17,6 @@ use workbench::good::disc::Clause as DiscClause;
 use workbench::good::name::BadName;
 use workbench::good::process::ProcessClause;
 use workbench::good::variable::VariableClause;
-use workbench::kernel;
 use workbench::layout::*;
 
 /// The kinds of clauses that were the only one found in some state.

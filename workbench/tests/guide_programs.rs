@@ -99,7 +99,7 @@ fn part_5_of_the_guide() {
         let bench = Bench::new(&format!("guide-{name}-{share:?}"), &[(name, &assembled(name))]);
         let mut disc = bench.read("box.img");
         if name == "starter" {
-            assert_eq!(workbench::kernel::store(&mut disc, b"down", &assembled("down")), 0);
+            assert_eq!(kernel::store(&mut disc, b"down", &assembled("down")), 0);
         }
         let mut session = Session::begin(disc, None).unwrap();
         session.start(name.as_bytes(), share).unwrap();

@@ -3,7 +3,8 @@
 mod bench;
 
 use bench::{Bench, DOWN, LAMP, WRONG_TYPE};
-use workbench::call::{Buffers, Call};
+use kernel::call::Call;
+use workbench::buffers::Buffers;
 use workbench::record::{self, Writer};
 use workbench::replay::replay;
 
@@ -175,7 +176,7 @@ fn every_call_is_written_and_read() {
         let mut writer = Writer::begin(Vec::new(), &buffers).unwrap();
         let mut numbers = Vec::new();
         for call in every_call() {
-            let answer = call.make(&mut buffers);
+            let answer = buffers.call(&call);
             writer.call(&call, &answer, &buffers).unwrap();
             numbers.push(answer.number);
         }

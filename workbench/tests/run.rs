@@ -3,7 +3,7 @@
 mod bench;
 
 use bench::{Bench, DOWN, LAMP, WRONG_TYPE};
-use workbench::call::Answer;
+use workbench::buffers::Answer;
 use workbench::run::{turns, Session};
 
 #[test]

@@ -5,9 +5,9 @@ mod field;
 mod random;
 
 use field::record_at;
+use kernel::sizes::{AREA_LEN, SHORT_DISC, TURN_OUTPUT};
 use random::Random;
-use workbench::kernel;
-use workbench::layout::{Record, AREA_LEN, ENDED, SHORT_DISC, STACK_LEN, TURN_OUTPUT};
+use workbench::layout::{Record, ENDED, STACK_LEN};
 use workbench::value::{self, Unread, Value, CHAR, FLOAT, INT, STRING};
 
 const PRINT: u8 = 51;

@@ -1,12 +1,13 @@
 //! Demand 3 as a test: one process, the same turns and commands, two runs with different neighbours.
 
 use crate::arguments;
-use crate::call::{Call, State};
 use crate::comparison::{Compared, Comparison};
+use crate::kernels::State;
 use crate::programs::{hoarder, long_program, program, writer, Reach};
 use crate::random::Random;
 use crate::sequences::step;
 use crate::tracking::{Step, Tracking};
+use kernel::call::Call;
 use second::layout::*;
 use second::{directory, records};
 

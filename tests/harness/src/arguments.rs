@@ -1,9 +1,10 @@
 //! Arguments of calls: names, numbers and output lengths, good and odd.
 
-use crate::call::{Call, State};
+use crate::kernels::State;
 use crate::programs::{program, Reach};
 use crate::random::Random;
 use crate::states::good_name;
+use kernel::call::Call;
 use second::layout::*;
 use second::{directory, records};
 
@@ -172,7 +173,7 @@ fn turn_room(random: &mut Random) -> usize {
 
 /// One call of every operation, its arguments taken from the state.
 pub fn every_call(state: &State, random: &mut Random) -> Vec<Call> {
-    let mut calls: Vec<Option<Call>> = vec![None; crate::call::OPERATIONS.len()];
+    let mut calls: Vec<Option<Call>> = vec![None; kernel::call::OPERATIONS.len()];
     while calls.iter().any(Option::is_none) {
         let call = call(state, random);
         let operation = call.operation();

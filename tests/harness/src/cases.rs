@@ -1,7 +1,8 @@
 //! Cases written down: literal calls with the answers that document 01 gives. `cases/README.md` tells the form.
 
-use crate::call::{literal, Call, State};
 use crate::comparison::{Answered, Compared, Comparison};
+use crate::kernels::State;
+use kernel::call::Call;
 use second::layout::{LONG_DISC, SHORT_DISC};
 
 /// What the output holds before a call unless a case says otherwise.
@@ -94,7 +95,7 @@ impl Trial {
                 let lent = self.output.take().unwrap_or_else(|| vec![OUTPUT_BYTE; call.room()]);
                 self.answered = comparison.call_with_output(&mut self.state, call, lent)?;
                 let found = self.answered.number;
-                return Ok((found != *number).then(|| format!("{call} answers {found}")));
+                return Ok((found != *number).then(|| format!("{} answers {found}", call_text(call))));
             }
             Line::Expect { buffer, at, bytes } => {
                 let found = match buffer {
@@ -216,4 +217,32 @@ fn parse_bytes(token: &str) -> Option<Vec<u8>> {
         }
     }
     Some(bytes)
+}
+
+/// Bytes as a case file writes them: decimal numbers between brackets, equal ones in a row as count*byte.
+pub fn literal(bytes: &[u8]) -> String {
+    let rows: Vec<String> = bytes
+        .chunk_by(|a, b| a == b)
+        .map(|row| match row.len() {
+            1 => row[0].to_string(),
+            length => format!("{length}*{}", row[0]),
+        })
+        .collect();
+    format!("[{}]", rows.join(" "))
+}
+
+/// A call as a case file writes it.
+pub fn call_text(call: &Call) -> String {
+    let arguments = match call {
+        Call::Format | Call::Boot | Call::FreeSpace => String::new(),
+        Call::Store { name, data } => format!(" {} {}", literal(name), literal(data)),
+        Call::Retrieve { name, room } => format!(" {} {room}", literal(name)),
+        Call::Erase { name } | Call::Run { name } => format!(" {}", literal(name)),
+        Call::Files { room } | Call::List { room } => format!(" {room}"),
+        Call::Suspend { id } | Call::Resume { id } | Call::Kill { id } => format!(" {id}"),
+        Call::Share { id, share } => format!(" {id} {share}"),
+        Call::Turn { slot, clock, room } => format!(" {slot} {clock} {room}"),
+        Call::Round { clock, room } => format!(" {clock} {room}"),
+    };
+    format!("{}{arguments}", call.name())
 }

@@ -1,8 +1,10 @@
 //! Makes a call on both kernels and compares number, disc, work area and output.
 
-use crate::call::{literal, Call, Kernel, Second, State};
+use crate::cases::{call_text, literal};
 use crate::coverage::Coverage;
+use crate::kernels::{Kernel, Second, State};
 use crate::random::Random;
+use kernel::call::Call;
 use second::layout::AREA_LEN;
 use std::fmt;
 
@@ -83,7 +85,7 @@ impl<'a> Comparison<'a> {
     pub fn call_with_output(&mut self, state: &mut State, call: &Call, output: Vec<u8>) -> Compared<Answered> {
         self.calls += 1;
         if self.trace {
-            eprintln!("{}: {call}", self.place());
+            eprintln!("{}: {}", self.place(), call_text(call));
         }
         let first = outcome(self.first, call, state, &output);
         let second = outcome(&Second, call, state, &output);
@@ -195,7 +197,7 @@ fn as_case(before: &State, call: &Call, output: &[u8], second: &Outcome) -> Stri
     text += &settings("disc", &before.disc);
     text += &settings("area", &before.area);
     text += &format!("output {}\n", literal(output));
-    text += &format!("call {call} = {}\n", second.number);
+    text += &format!("call {} = {}\n", call_text(call), second.number);
     text += &expectations("disc", &before.disc, &second.state.disc);
     text += &expectations("area", &before.area, &second.state.area);
     text += &format!("expect output 0 {}\n", literal(&second.output));

@@ -1,11 +1,12 @@
 //! What the calls reached. A hole in these tables is a failure of the harness.
 
-use crate::call::{Call, State};
 use crate::comparison::Outcome;
+use crate::kernels::State;
 use crate::long_discs;
 use crate::scaling;
 use crate::shares;
 use crate::tables::Tables;
+use kernel::call::Call;
 use second::instruction::{DELAYUNTIL, FORK, OPEN, SET, WAITUNTILDONE};
 use second::layout::*;
 use second::number::{FLOAT_TYPE, NUMBERS, WHOLES};

@@ -1,10 +1,12 @@
 //! Good states with one clause of goodness broken, and states at the very edge of goodness.
 
 use crate::arguments::{call, every_call};
-use crate::call::{Call, State};
+use crate::cases::call_text;
 use crate::comparison::{Compared, Comparison};
+use crate::kernels::State;
 use crate::random::Random;
 use crate::states::{disc_len, good_state};
+use kernel::call::Call;
 use second::layout::*;
 use second::{directory, records, variables};
 
@@ -270,7 +272,8 @@ fn compare_damaged(
             _ => !matches!(call.operation(), 0..=3 | 5 | 6),
         };
         if judges && answered.number != -refusal {
-            let text = format!("# {}: damage '{name}': {call} answers {}", comparison.place(), answered.number);
+            let text =
+                format!("# {}: damage '{name}': {} answers {}", comparison.place(), call_text(&call), answered.number);
             return Err(comparison.broken(text));
         }
     }
@@ -283,7 +286,8 @@ fn compare_edge(comparison: &mut Comparison, name: &str, state: &State, random: 
     for call in every_call(state, random) {
         let answered = comparison.try_call(state, &call)?;
         if matches!(answered.number, -2 | -3) {
-            let text = format!("# {}: edge '{name}': {call} answers {}", comparison.place(), answered.number);
+            let text =
+                format!("# {}: edge '{name}': {} answers {}", comparison.place(), call_text(&call), answered.number);
             return Err(comparison.broken(text));
         }
     }

@@ -1,11 +1,11 @@
 //! The gate: a fixed amount of everything; and longer runs, pass after pass.
 
 use crate::alone::compare_pair;
-use crate::call::Kernel;
 use crate::cases::{compare_case, Case};
 use crate::comparison::{Compared, Comparison};
 use crate::damage::{compare_damages, compare_edges, compare_flips, compare_lengths};
 use crate::instructions::{compare_numbers, compare_sizes, compare_stacks, compare_taken};
+use crate::kernels::Kernel;
 use crate::operands::compare_scaling;
 use crate::scaling;
 use crate::sequences::{compare_sequence, compare_state};

@@ -1,11 +1,12 @@
 //! Every instruction on every kind of stack.
 
 use crate::arguments::clock;
-use crate::call::{Call, State};
 use crate::comparison::{Compared, Comparison};
+use crate::kernels::State;
 use crate::random::Random;
 use crate::states::{context_of, disc_len, running_state};
 use crate::values::{bytes_of, float_bits, Context, Kind, FLOAT_EDGES, KINDS};
+use kernel::call::Call;
 use second::instruction::*;
 use second::layout::*;
 use second::number::{operator, Operator};

@@ -1,9 +1,10 @@
 //! What a call reached that a disc of 1,024 bytes does not have, or has otherwise. Document 02, Q-2: "*store* takes up
 //! to 863 or 3,935".
 
-use crate::call::{Call, State};
 use crate::comparison::Outcome;
 use crate::coverage::opcode_at;
+use crate::kernels::State;
+use kernel::call::Call;
 use second::instruction::{ENDLOOP, LOOP, OPEN, WRITE};
 use second::layout::*;
 use second::single::View;

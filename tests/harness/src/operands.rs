@@ -1,14 +1,15 @@
 //! CONSTRAIN, MAP and POW on operands that matter, and on wrong ones at each place. Document 02, Q-3. Every set of them
 //! lies on a stack as it is, and is pushed by a program that is held against the single process.
 
-use crate::call::{Call, State};
 use crate::comparison::{Compared, Comparison};
 use crate::instructions::{compare_operator, Height};
+use crate::kernels::State;
 use crate::random::Random;
 use crate::scaling::SCALING;
 use crate::states::{disc_len, running_state};
 use crate::tracking::Tracking;
 use crate::values::{bytes_of, Context, Kind};
+use kernel::call::Call;
 use second::instruction::*;
 use second::layout::*;
 use second::number::{CHAR_TYPE, FLOAT_TYPE, INT_TYPE, STRING_TYPE};

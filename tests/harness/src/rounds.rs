@@ -1,9 +1,10 @@
 //! A round as its turns, and what they reached. Document 02, Q-9: "*Round* gives a slot that many turns in a row while it
 //! stays running".
 
-use crate::call::{Call, State};
 use crate::coverage::opcode_at;
+use crate::kernels::State;
 use crate::shares::{child, end, holding, End};
+use kernel::call::Call;
 use second::instruction::{DELAYUNTIL, WAITUNTILDONE, WRITE};
 use second::layout::*;
 use second::records;

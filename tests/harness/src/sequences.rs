@@ -1,12 +1,13 @@
 //! Deep sequences of calls from *format* on, and short ones from random good states.
 
 use crate::arguments;
-use crate::call::{Call, State};
 use crate::comparison::{Compared, Comparison};
+use crate::kernels::State;
 use crate::programs::{long_program, program, Reach, DOWN, NAMES};
 use crate::random::Random;
 use crate::states::{disc_len, good_state};
 use crate::tracking::Tracking;
+use kernel::call::Call;
 use second::layout::*;
 use second::records;
 

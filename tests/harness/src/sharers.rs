@@ -2,12 +2,13 @@
 //! 02, Q-9.
 
 use crate::arguments;
-use crate::call::{Call, State};
 use crate::comparison::{Compared, Comparison};
+use crate::kernels::State;
 use crate::programs::{program, Reach, DOWN};
 use crate::random::Random;
 use crate::states::disc_len;
 use crate::tracking::Tracking;
+use kernel::call::Call;
 use second::instruction::*;
 use second::layout::*;
 use second::records;

@@ -1,10 +1,11 @@
 //! What calls reached of shares. Document 02, Q-9: "The spare byte holds 1 to 8, with zero as one, kept until the process
 //! ends"; "A new operation sets it by ID."
 
-use crate::call::{Call, State};
 use crate::comparison::Outcome;
 use crate::coverage::opcode_at;
+use crate::kernels::State;
 use crate::rounds::{OF_ROUNDS, OF_SLOTS};
+use kernel::call::Call;
 use second::instruction::STOP;
 use second::layout::*;
 use second::records;

@@ -1,6 +1,6 @@
 //! Random good states: full tables, ten processes, fragmented discs and memory, garbage in every unread place.
 
-use crate::call::State;
+use crate::kernels::State;
 use crate::programs::{filling, Reach, NAMES};
 use crate::random::Random;
 use crate::values::{self, Context};

@@ -1,6 +1,6 @@
 //! What the calls on discs of one length reached: operation by refusal, instruction by fault.
 
-use crate::call::OPERATIONS;
+use kernel::call::OPERATIONS;
 use second::instruction::{DELAYUNTIL, WAITUNTILDONE};
 use std::collections::BTreeMap;
 

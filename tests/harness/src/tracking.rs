@@ -2,13 +2,14 @@
 //!
 //! What demand 3 supposes of a process is tested turn by turn; a process that breaks a supposition is let go.
 
-use crate::call::{Call, State};
 use crate::comparison::{Answered, Compared, Comparison};
 use crate::coverage::{opcode_at, stack_bytes};
+use crate::kernels::State;
 use crate::long_discs;
 use crate::rounds::{self, turns_of_round, Histories, Turned};
 use crate::scaling;
 use crate::shares;
+use kernel::call::Call;
 use second::fault::Fault;
 use second::instruction::*;
 use second::layout::*;

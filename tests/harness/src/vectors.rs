@@ -4,8 +4,9 @@
 //!
 //! Buffers lent, names and data in hex, '-' for none; what changed of a buffer as OFFSET:HEX runs, '.' for nothing.
 
-use crate::call::{Call, State};
 use crate::comparison::Outcome;
+use crate::kernels::State;
+use kernel::call::Call;
 
 /// A call, what is lent to it, and what must come of it.
 pub struct Vector {

@@ -1,8 +1,8 @@
 //! The cases hold of the second implementation by itself; no static library is needed.
 
-use harness::call::Second;
 use harness::cases::{compare_case, parse};
 use harness::comparison::Comparison;
+use harness::kernels::Second;
 use std::path::Path;
 
 #[test]

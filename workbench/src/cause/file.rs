@@ -3,9 +3,10 @@
 
 use super::words::{are, byte_text, bytes_text, plain};
 use super::{variable, Turn};
-use crate::layout::{self, DATA_START, MAX_FILES, NAME_BYTES, NAME_LEN};
+use crate::layout::{self, DATA_START, MAX_FILES, NAME_LEN};
 use crate::literal;
 use crate::value::Value;
+use kernel::sizes::NAME_BYTES;
 use std::fmt;
 
 #[derive(Clone, Debug)]

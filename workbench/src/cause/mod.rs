@@ -16,9 +16,10 @@ pub mod variable;
 mod words;
 
 use crate::instruction::Instruction;
-use crate::layout::{Record, AREA_LEN, LONG_DISC, MAX_PROCESSES, RUNNING, SHORT_DISC};
+use crate::layout::{Record, MAX_PROCESSES, RUNNING};
 use crate::value::Value;
 use inside::Inside;
+use kernel::sizes::{AREA_LEN, LONG_DISC, SHORT_DISC};
 use std::fmt;
 
 /// The fault that a turn ends its process with, and why.

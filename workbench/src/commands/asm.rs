@@ -4,7 +4,8 @@ use super::arguments::{Given, Options};
 use crate::asm::{self, Diagnostic, Program};
 use crate::failure::{misused, Failure, Outcome};
 use crate::files;
-use crate::layout::{DATA_START, LONG_DISC, SHORT_DISC};
+use crate::layout::DATA_START;
+use kernel::sizes::{LONG_DISC, SHORT_DISC};
 
 pub const HELP: &str = r#"usage: arduinos asm FILE [-o OUT] [--list]
 

@@ -1,7 +1,7 @@
 //! `arduinos run`: rounds of the programs that are named.
 
 use super::arguments::{Given, Options};
-use crate::call::Buffers;
+use crate::buffers::Buffers;
 use crate::failure::{misused, refused, Failure, Outcome};
 use crate::files;
 use crate::run::clock::Clock;

@@ -3,9 +3,9 @@
 use crate::failure::{Failure, Outcome};
 use crate::files;
 use crate::good;
-use crate::kernel;
 use crate::layout::{entries, records, variables, Record};
-use crate::layout::{DATA_START, LIST_OUTPUT, MAX_FILES, MAX_PROCESSES, MAX_VARIABLES};
+use crate::layout::{DATA_START, MAX_FILES, MAX_PROCESSES, MAX_VARIABLES};
+use kernel::sizes::LIST_OUTPUT;
 use std::fmt::Display;
 
 /// What the kernel answers for a disc and for a work area that is not good.

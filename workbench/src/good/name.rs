@@ -1,6 +1,7 @@
 //! Document 01: "A name is 1 to 11 bytes of 33 to 126, zero-filled."
 
-use crate::layout::{trimmed, NAME_BYTES, NAME_LEN};
+use crate::layout::{trimmed, NAME_LEN};
+use kernel::sizes::NAME_BYTES;
 use std::fmt;
 
 /// What is wrong with the twelve bytes of a name.

@@ -2,6 +2,7 @@
 
 use super::name::{bad_name, BadName};
 use crate::layout::*;
+use kernel::sizes::*;
 use std::fmt;
 
 /// A broken clause of a live record.

@@ -1,9 +1,10 @@
 //! One line of a record, written and read.
 
-use crate::call::{Answer, Buffers, Call};
+use crate::buffers::{Answer, Buffers};
 use crate::checksum;
-use crate::layout::{ROUND_OUTPUT, TURN_OUTPUT};
 use crate::literal;
+use kernel::call::Call;
+use kernel::sizes::{ROUND_OUTPUT, TURN_OUTPUT};
 use std::fmt;
 
 /// The line that every record begins with.
@@ -36,6 +37,24 @@ impl Made {
         let (disc, area) = (checksum::of(&buffers.disc), checksum::of(&buffers.area));
         Made { call, answer: answer.clone(), disc, area }
     }
+
+    /// The call as it is recorded: its name and arguments; the room of a turn or round where it is not the usual one.
+    pub fn call_text(&self) -> String {
+        let arguments = match &self.call {
+            Call::Format | Call::Boot | Call::FreeSpace => String::new(),
+            Call::Store { name, data } => format!(" {} {}", literal::text(name), literal::text(data)),
+            Call::Retrieve { name, room } => format!(" {} room {room}", literal::text(name)),
+            Call::Erase { name } | Call::Run { name } => format!(" {}", literal::text(name)),
+            Call::Files { room } | Call::List { room } => format!(" room {room}"),
+            Call::Suspend { id } | Call::Resume { id } | Call::Kill { id } => format!(" {id}"),
+            Call::Share { id, share } => format!(" {id} {share}"),
+            Call::Turn { slot, clock, room: TURN_OUTPUT } => format!(" {slot} {clock}"),
+            Call::Turn { slot, clock, room } => format!(" {slot} {clock} room {room}"),
+            Call::Round { clock, room: ROUND_OUTPUT } => format!(" {clock}"),
+            Call::Round { clock, room } => format!(" {clock} room {room}"),
+        };
+        format!("{}{arguments}", self.call.name())
+    }
 }
 
 impl fmt::Display for Line {
@@ -48,7 +67,7 @@ impl fmt::Display for Line {
                 bytes.iter().try_for_each(|byte| write!(f, "{byte:02x}"))
             }
             Line::Made(made) => {
-                write!(f, "{} = {}", made.call, made.answer.number)?;
+                write!(f, "{} = {}", made.call_text(), made.answer.number)?;
                 if !made.answer.output.is_empty() {
                     write!(f, " {}", literal::text(&made.answer.output))?;
                 }

@@ -1,7 +1,7 @@
 //! Reads a whole record before any call of it is made.
 
 use super::line::{Line, Made, FIRST_LINE};
-use crate::call::Buffers;
+use crate::buffers::Buffers;
 use crate::checksum::Checksum;
 
 /// The most bytes that a record's buffer may have: more than the kernel takes, so that refusal 1 can be recorded.

@@ -1,8 +1,9 @@
 //! Writes a record as its calls are made.
 
 use super::line::{Line, Made, FIRST_LINE};
-use crate::call::{Answer, Buffers, Call};
+use crate::buffers::{Answer, Buffers};
 use crate::checksum::Checksum;
+use kernel::call::Call;
 use std::io::{self, Write};
 
 /// Bytes of a buffer in one line.

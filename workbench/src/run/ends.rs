@@ -2,8 +2,8 @@
 
 use super::turns::Turn;
 use crate::cause;
-use crate::kernel;
 use crate::layout::name_text;
+use kernel::words;
 
 /// The sentence of a turn that ended its process by a fault. The number is the kernel's; the words are the workbench's,
 /// and are left out where they would be of another fault.
@@ -16,7 +16,7 @@ pub fn fault_sentence(turn: &Turn) -> Option<String> {
     match cause::of_turn(&turn.before.disc, &turn.before.area, turn.slot) {
         Some(cause) if cause.fault == fault => Some(cause::sentence(&name, id, &cause)),
         _ => {
-            let words = kernel::fault(fault);
+            let words = words::fault(fault);
             Some(format!("{name} (ID {id}) ended by fault {fault} at offset {}: {words}", turn.found().pc()))
         }
     }

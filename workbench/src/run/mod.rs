@@ -7,12 +7,13 @@ pub mod status;
 pub mod trace;
 pub mod turns;
 
-use crate::call::{Answer, Buffers, Call};
+use crate::buffers::{Answer, Buffers};
 use crate::failure::{refused, Outcome};
-use crate::kernel;
 use crate::layout::{records, RUNNING};
 use crate::literal;
 use crate::record;
+use kernel::call::Call;
+use kernel::words;
 use std::fs::File;
 use std::io::BufWriter;
 
@@ -41,7 +42,7 @@ impl Session {
 
     /// Makes a call and records it.
     pub fn make(&mut self, call: &Call) -> Outcome<Answer> {
-        let answer = call.make(&mut self.buffers);
+        let answer = self.buffers.call(call);
         if let Some((path, recorder)) = &mut self.recorder {
             recorder.call(call, &answer, &self.buffers).or_else(|error| refused(format!("{path}: {error}")))?;
         }
@@ -52,7 +53,7 @@ impl Session {
     fn must(&mut self, call: &Call, what: &str) -> Outcome<Answer> {
         let answer = self.make(call)?;
         if answer.number < 0 {
-            let words = kernel::refusal(answer.number);
+            let words = words::refusal(answer.number);
             return refused(format!("{what}: {words} (refusal {})", -answer.number));
         }
         Ok(answer)

@@ -1,7 +1,8 @@
 //! The turns of a round, one by one: who had them, and the buffers before and after each.
 
-use crate::call::{Answer, Buffers, Call};
+use crate::buffers::{Answer, Buffers};
 use crate::layout::{word, Record, MAX_PROCESSES, NEXT_ID, RUNNING};
+use kernel::call::Call;
 
 /// One turn of one slot.
 pub struct Turn {
@@ -38,7 +39,7 @@ pub fn of_round(before: &Buffers, clock: u32) -> Vec<Turn> {
         let mut due = Record::of(&buffers.area, slot).share();
         while due > 0 && Record::of(&buffers.area, slot).state() == RUNNING {
             let found = buffers.clone();
-            let answer = Call::turn(slot, clock).make(&mut buffers);
+            let answer = buffers.call(&Call::turn(slot, clock));
             turns.push(Turn { slot, clock, before: found, after: buffers.clone(), printed: answer.output });
             due -= 1;
         }

@@ -5,7 +5,6 @@ use std::fs;
 use std::io::Write;
 use std::path::PathBuf;
 use std::process::{Command, Stdio};
-use workbench::kernel;
 
 /// Document 01's program.
 pub const DOWN: &[u8] = &[2, 0, 3, 5, 110, 6, 110, 63, 2, 8, 6, 110, 52, 6, 110, 8, 5, 110, 64, 67];

@@ -1,9 +1,9 @@
 //! A box in which a routine runs to its end.
 
 use crate::field::record_at;
+use kernel::sizes::{AREA_LEN, ROUND_OUTPUT};
 use workbench::cause::{self, Cause};
-use workbench::kernel;
-use workbench::layout::{live_record, Record, AREA_LEN, ENDED, RECORD_LEN, ROUND_OUTPUT};
+use workbench::layout::{live_record, Record, ENDED, RECORD_LEN};
 
 pub struct Bench {
     pub disc: Vec<u8>,

@@ -4,8 +4,8 @@ use super::opcode::{ELSE, GET, IF, MILLIS, OPEN, READCHAR, READFLOAT, READINT, R
 use super::stack::{self, NAMES};
 use crate::field::{put_word, record_at};
 use crate::random::Random;
+use kernel::sizes::*;
 use workbench::instruction::{self, Arguments, Instruction};
-use workbench::kernel;
 use workbench::layout::*;
 use workbench::value::{CHAR, FLOAT, INT, STRING};
 

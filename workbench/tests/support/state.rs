@@ -2,7 +2,7 @@
 
 use crate::field::{put_word, record_at};
 use crate::random::Random;
-use workbench::kernel;
+use kernel::sizes::*;
 use workbench::layout::*;
 
 #[derive(Clone)]

@@ -36,6 +36,13 @@ struct Places {
     agreeing: bool,
 }
 
+impl Places {
+    /// The package that has `Call`.
+    fn kernel(&self) -> PathBuf {
+        self.release.join("libkernel.rlib")
+    }
+}
+
 fn main() -> ExitCode {
     match mutants() {
         Ok(true) => ExitCode::SUCCESS,
@@ -171,9 +178,10 @@ fn try_mutant(places: &Places, mutant: &Mutant) -> Result<Option<String>, String
     ])?;
     rustc(&[
         "--crate-name=compare",
-        &format!("-Ldependency={}", libraries.join("deps").display()),
+        &format!("-Ldependency={}", places.release.join("deps").display()),
         &format!("-Ldependency={}", libraries.display()),
         &format!("--extern=harness={}", libraries.join("libharness.rlib").display()),
+        &format!("--extern=kernel={}", places.kernel().display()),
         &format!("-Clink-arg={}", work("mutant.o")),
         &places.tests.join("linked/src/bin/compare.rs").display().to_string(),
         &format!("-o{}", work("compare")),
@@ -184,13 +192,16 @@ fn try_mutant(places: &Places, mutant: &Mutant) -> Result<Option<String>, String
 /// Builds the harness with the mutant in place of the second implementation.
 fn build_harness(places: &Places) -> Result<PathBuf, String> {
     let work = |name: &str| places.work.join(name).display().to_string();
-    let library = |name: &str, source: &str, needs: &str| {
+    let library = |name: &str, source: &str, needs: &[&str]| {
         let output = format!("-o{}", work(&format!("lib{name}.rlib")));
-        rustc(&[&format!("--crate-name={name}"), "--crate-type=lib", "-Copt-level=1", needs, source, &output])
+        let words = [&format!("--crate-name={name}"), "--crate-type=lib", "-Copt-level=1", source, &output];
+        rustc(&[&words, needs].concat())
     };
-    library("second", &work("src/lib.rs"), "-Cmetadata=agreeing")?;
+    library("second", &work("src/lib.rs"), &["-Cmetadata=agreeing"])?;
     let harness = places.tests.join("harness/src/lib.rs").display().to_string();
-    library("harness", &harness, &format!("--extern=second={}", work("libsecond.rlib")))?;
+    let second = format!("--extern=second={}", work("libsecond.rlib"));
+    let kernel = format!("--extern=kernel={}", places.kernel().display());
+    library("harness", &harness, &[&second, &kernel])?;
     Ok(places.work.clone())
 }
 

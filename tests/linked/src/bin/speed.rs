@@ -7,7 +7,8 @@ mod archive;
 #[path = "../cpu_clock.rs"]
 mod cpu_clock;
 
-use harness::call::{Call, Kernel, Second, State};
+use harness::kernels::{Kernel, Second, State};
+use kernel::call::Call;
 use second::instruction::{INCREMENT, OPEN, PRINT, SET};
 use second::layout::*;
 use second::{directory, records};
@@ -85,6 +86,7 @@ fn rows() -> Vec<Row> {
         Row::new("long: store, nine files there", &nine_files(&long), &store),
         Row::new("long: free space, ten files", &long, &Call::FreeSpace),
         Row::new("long: turn, OPEN of a new file of 3,934 bytes", &one_file(LONG_DISC), &turn),
+        Row::new("tests alone, three live processes, six variables", &three_live(&paused(&increment)), &turn),
     ]
 }
 
@@ -142,6 +144,15 @@ fn splintered(state: &State, downwards: bool) -> State {
 fn paused(state: &State) -> State {
     let mut state = state.clone();
     second::suspend(&state.disc, &mut state.area, 6).expect("it runs");
+    state
+}
+
+/// The same with the processes of slots 5 to 7 alone, and their variables, two each.
+fn three_live(state: &State) -> State {
+    let mut state = state.clone();
+    for id in [1, 2, 3, 4, 5, 9, 10] {
+        second::kill(&state.disc, &mut state.area, id).expect("it lives");
+    }
     state
 }
 

@@ -8,8 +8,8 @@
 #[path = "../archive.rs"]
 mod archive;
 
-use harness::call::Second;
 use harness::comparison::outcome;
+use harness::kernels::Second;
 use harness::vectors::{parse, Vector};
 use std::collections::BTreeSet;
 use std::process::ExitCode;

@@ -4,7 +4,6 @@ use super::refusal;
 use crate::commands::arguments::{Given, Options};
 use crate::failure::{misused, refused, Outcome};
 use crate::files;
-use crate::kernel;
 use crate::literal;
 
 pub const HELP: &str = "\

@@ -5,8 +5,8 @@ use crate::commands::arguments::{Given, Options};
 use crate::commands::verdict::disc_summary;
 use crate::failure::{refused, Outcome};
 use crate::files;
-use crate::kernel;
-use crate::layout::{entries, free_bytes, name_text, FILES_OUTPUT};
+use crate::layout::{entries, free_bytes, name_text};
+use kernel::sizes::FILES_OUTPUT;
 use std::fmt::Write;
 
 pub const HELP: &str = "\

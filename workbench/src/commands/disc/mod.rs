@@ -8,8 +8,8 @@ pub mod put;
 pub mod rm;
 
 use crate::failure::{misused, Outcome};
-use crate::kernel;
-use crate::layout::AREA_LEN;
+use kernel::sizes::AREA_LEN;
+use kernel::words;
 
 pub const HELP: &str = "\
 usage: arduinos disc COMMAND IMAGE ..
@@ -38,7 +38,7 @@ pub fn main(arguments: &[String]) -> Outcome {
 
 /// Where the kernel refuses: what is not done, the number and why.
 fn refusal(what: &str, number: i32) -> String {
-    format!("{what} (refusal {}): {}", -number, kernel::refusal(number))
+    format!("{what} (refusal {}): {}", -number, words::refusal(number))
 }
 
 /// A work area without processes.

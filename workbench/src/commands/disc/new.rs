@@ -4,8 +4,7 @@ use super::refusal;
 use crate::commands::arguments::{Given, Options};
 use crate::failure::{refused, Outcome};
 use crate::files;
-use crate::kernel;
-use crate::layout::{AREA_LEN, LONG_DISC, SHORT_DISC};
+use kernel::sizes::{AREA_LEN, LONG_DISC, SHORT_DISC};
 use std::fs;
 
 pub const HELP: &str = "\

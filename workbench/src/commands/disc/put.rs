@@ -4,9 +4,9 @@ use super::{booted_area, refusal};
 use crate::commands::arguments::{Given, Options};
 use crate::failure::{misused, refused, Outcome};
 use crate::files;
-use crate::kernel;
-use crate::layout::{DATA_START, LONG_DISC};
+use crate::layout::DATA_START;
 use crate::literal;
+use kernel::sizes::LONG_DISC;
 use std::path::Path;
 
 pub const HELP: &str = "\
