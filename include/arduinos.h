@@ -1,7 +1,7 @@
 /*
  * The ArduinOS kernel of the hoist and jib boxes, for C99 and C++17.
  *
- * Link with libexport.a (x86-64 code that needs the C library alone):   cc -I. main.c libexport.a
+ * Link with libarduinos.a of the folder that scripts/library makes for a machine:   cc -I. main.c libarduinos.a
  * examples/box.c is a small firmware. Document 01 is the scope paper; words in double quotes are its own.
  * Every function is proved to do what documents 01 and 02 say for every length and every content of the lent buffers, to stay
  * inside them and to return; what the caller owes is this:
@@ -18,6 +18,16 @@
  * - Nothing is kept between calls, neither pointer nor number: the whole state is in disc and work area. There is no
  *   heap, and each pair of buffers is a box of its own.
  * - A `const` buffer is only read. Output bytes beyond the number returned stay as they were.
+ *
+ * What is asked of the machine:
+ *
+ * - size_t of 32 or 64 bits. A length means the same on either: one above 32 bits is a wrong length like any other, and
+ *   where size_t has 32 nobody can lend it.
+ * - Float arithmetic of binary32, with subnormals, to the nearest and even, no product fused with a sum, and binary64 to
+ *   compare. So leave the rounding mode and the flush to zero (FPSCR, MXCSR) as they are at reset while a call runs.
+ * - Stack, by the guide's part 3; memcpy, memmove and memset; and the compiler's own library (libgcc) for what the
+ *   processor lacks, as soft floats and quotients of 64 bits. A buffer may begin at any address. Interrupts and static
+ *   data are not touched.
  *
  * Disc and work area:
  *

@@ -1,5 +1,5 @@
 # Read by the scripts of this folder: where to build, and which static library to link.
-# The first argument, or else ARDUINOS_ARCHIVE, names libexport.a; "standin" builds the stand-in and takes that.
+# The first argument, or else ARDUINOS_ARCHIVE, names libarduinos.a; "standin" builds the stand-in and takes that.
 
 # A script's --help is the comment at its head.
 [ "${1:-}" = --help ] && { sed -n '1d; /^#/!q; s/^# \{0,1\}//p' "$0"; exit; }
@@ -26,7 +26,7 @@ if [ "$archive" = standin ]; then
     archive=$CARGO_TARGET_DIR/release/libstandin.a
 fi
 if [ ! -f "$archive" ]; then
-    echo "$0: no static library at '$archive'; name libexport.a, or say: standin" >&2
+    echo "$0: no static library at '$archive'; name libarduinos.a, or say: standin" >&2
     exit 2
 fi
 ARDUINOS_ARCHIVE=$archive
