@@ -94,6 +94,9 @@ def found_in(text):
 
 
 def main():
+    if "--help" in sys.argv:
+        print(__doc__.strip())
+        return False
     with open(sys.argv[1], encoding="utf-8") as it:
         text = it.read()
     functions = len(re.findall(r"(?m)^define ", text))
