@@ -1,0 +1,235 @@
+-- The operations that are no turn, start or command.
+use Rattle.std.proofs.Common.{ℕ, ◌≡◌, ◌<◌, Bool, true, false, not, List, [], ◌∷◌, ◌++◌, map, refl, sym, ap, ◌∙◌, subst, subst₂, length}
+use mathlib.Core.Logic.{◌⊎◌, inl, inr, ⊎_elim}
+use lib.Dec.{leb}
+use borrow.Author.Tests.{not-true}
+use Rattle.buffer.specs.Buffer.{overwrite}
+use Rattle.buffer.specs.Lists.{consIf, flat, keep}
+use Rattle.buffer.specs.declared.Found.{Found}
+use Rattle.buffer.specs.declared.Found.TheVariants.{At, Nowhere}
+use Rattle.buffer.proofs.Bools.{true-not-false}
+use Rattle.disc.specs.Directory.{contents, entry_at, fileCount, files as entries, lookup, runOf}
+use Rattle.disc.specs.declared.Entry.{Entry}
+use Rattle.disc.proofs.Lookups.{lookup-at}
+use Rattle.store.specs.Answer.{Reported, Updated, checked, fileLine, filesAnswer, freeSpaceAnswer, ifUsable, reported, retrieveAnswer}
+use Rattle.store.specs.Answer.{retrieveAt, retrieveFile, storeAnswer, storeAt, textAnswer}
+use Rattle.store.specs.File.{admission, unless}
+use Rattle.store.specs.declared.Admission.{Admission}
+use Rattle.store.specs.declared.Answer.TheVariants.{Done, Refused}
+use Rattle.store.specs.declared.Checked.{Checked}
+use Rattle.store.specs.declared.Checked.TheVariants.{Usable}
+use Rattle.store.specs.declared.Refusal.{Refusal}
+use Rattle.store.specs.declared.Refusal.TheVariants.{ShortOutput}
+use Rattle.store.proofs.Admissions.{admitted}
+use Rattle.machine.specs.Answer.{Buffers, Other, store, retrieve, erase, files, freeSpace, list, other, answer, eraseAt}
+use Rattle.machine.specs.Answer.{onDisc, otherAnswer}
+use Rattle.machine.specs.Area.{kernelOf}
+use Rattle.machine.specs.Operations.{inUse, listText, processLine}
+use Rattle.machine.specs.State.{isLive}
+use Rattle.machine.specs.Suppositions.{isDoneBy}
+use Rattle.machine.specs.Trace.{Storage, lending}
+use Rattle.machine.specs.declared.Kernel.{Kernel}
+use Rattle.machine.specs.declared.Process.{Process}
+use Rattle.machine.proofs.Changes.Change.{GoodState}
+use Rattle.machine.proofs.Demands.GoodCalls.{passes-good}
+use Rattle.views.specs.Same.{Shown, View, aside, shown}
+use Rattle.views.proofs.Alike.{Alike, Lacks}
+use Rattle.views.proofs.Doing.{SameDone, Stepped, on-both-good, refused-same, tested-same}
+use Rattle.views.proofs.First.{same-len, same-lookup, same-use}
+use Rattle.views.proofs.Opening.{BothAdmit, both-denied, both-start, admitted-alike, entered-view}
+use Rattle.views.proofs.Removed.{removed-files, removed-kernel}
+
+-- ---- texts that starts do not enter
+shownLine : Shown → List ℕ
+shownLine s = fileLine (record { name = s.name; start = 0; len = s.len })
+
+files-text : (disc : List ℕ) (l : List Entry) → flat fileLine l ≡ flat shownLine (map (shown disc) l)
+unfolding flat fileLine shownLine
+files-text disc [] = refl
+files-text disc (e ∷ l) = ap (λ (t : List ℕ). fileLine e ++ t) (files-text disc l)
+
+list-text : (disc : List ℕ) (l : List Process) → flat processLine (keep isLive l) ≡ flat processLine (keep isLive (map (aside disc) l))
+unfolding flat processLine keep aside
+list-text disc [] = refl
+list-text disc (p ∷ l) = go (list-text disc l) (isLive p)
+  where
+    go : flat processLine (keep isLive l) ≡ flat processLine (keep isLive (map (aside disc) l)) → (b : Bool)
+        → flat processLine (consIf b p (keep isLive l))
+        ≡ flat processLine (consIf b (aside disc p) (keep isLive (map (aside disc) l)))
+    go rest true = ap (λ (t : List ℕ). processLine p ++ t) rest
+    go rest false = rest
+
+-- ---- the disc is usable
+usable : (k : Kernel) (disc : List ℕ) → GoodState k disc → checked disc ≡ Usable
+unfolding checked
+usable k disc g = rw (g.long, g.sound)
+
+text-done : (a b out : List ℕ) → a ≡ b → isDoneBy (textAnswer a out).number ≡ isDoneBy (textAnswer b out).number
+text-done a b out e = ap (λ (t : List ℕ). isDoneBy (textAnswer t out).number) e
+
+file-done : (e f : Entry) (d₁ d₂ out : List ℕ) → e.len ≡ f.len
+    → isDoneBy (retrieveFile e d₁ out).number ≡ isDoneBy (retrieveFile f d₂ out).number
+file-done e f d₁ d₂ out q =
+    go (leb e.len (length out)) (leb f.len (length out)) (ap (λ (n : ℕ). leb n (length out)) q)
+  where
+    go : (x y : Bool) → x ≡ y
+        → isDoneBy (unless x (reported (Refused ShortOutput) out) (reported (Done e.len) (overwrite out 0 (contents d₁ (runOf e))))).number
+        ≡ isDoneBy (unless y (reported (Refused ShortOutput) out) (reported (Done f.len) (overwrite out 0 (contents d₂ (runOf f))))).number
+    go true true r = refl
+    go false false r = refl
+    go true false r = absurd (true-not-false refl r)
+    go false true r = absurd (true-not-false r refl)
+
+module _ (s₁ s₂ : Storage) (h : Alike s₁ s₂) (out : List ℕ) where
+  abbrev d₁ : List ℕ
+  d₁ = s₁.disc
+
+  abbrev d₂ : List ℕ
+  d₂ = s₂.disc
+
+  abbrev k₁ : Kernel
+  k₁ = kernelOf s₁.area
+
+  abbrev k₂ : Kernel
+  k₂ = kernelOf s₂.area
+
+  abbrev b₁ : Buffers
+  b₁ = lending s₁ out
+
+  abbrev b₂ : Buffers
+  b₂ = lending s₂ out
+
+  g₁ : GoodState k₁ d₁
+  g₁ = passes-good s₁.disc s₁.area h.passes₁
+
+  g₂ : GoodState k₂ d₂
+  g₂ = passes-good s₂.disc s₂.area h.passes₂
+
+  if-usable₁ : {A : Type 0} (refuse : Refusal → A) (rest : A) → ifUsable (checked d₁) refuse rest ≡ rest
+  if-usable₁ refuse rest = ap (λ (c : Checked). ifUsable c refuse rest) (usable k₁ d₁ g₁)
+
+  if-usable₂ : {A : Type 0} (refuse : Refusal → A) (rest : A) → ifUsable (checked d₂) refuse rest ≡ rest
+  if-usable₂ refuse rest = ap (λ (c : Checked). ifUsable c refuse rest) (usable k₂ d₂ g₂)
+
+  -- ---- store
+  stored-by : (name bytes : List ℕ) (a b : Admission) → admission d₁ name (length bytes) ≡ a → admission d₂ name (length bytes) ≡ b
+      → BothAdmit a b
+      → SameDone (other (store name bytes)) (onDisc (storeAt a d₁ name bytes) b₁) (onDisc (storeAt b d₂ name bytes) b₂)
+  stored-by name bytes _ _ e f (both-denied r) = record { done = refl; text = refl; view = h.same }
+  stored-by name bytes _ _ e f (both-start s t) =
+      record {
+        done = refl;
+        text = refl;
+        view =
+            entered-view k₁ k₂ d₁ d₂ g₁ g₂ h.same name bytes s t (admitted d₁ name (length bytes) s e)
+            (admitted d₂ name (length bytes) t f);
+      }
+
+  store-stepped : (name bytes : List ℕ) → Stepped (other (store name bytes)) s₁ s₂ out
+  unfolding answer otherAnswer storeAnswer
+  store-stepped name bytes =
+      ⊎_elim inl
+      (λ b.
+      inr (subst₂ (λ (u v : Updated). SameDone (other (store name bytes)) (onDisc u b₁) (onDisc v b₂))
+      (sym (if-usable₁ _ _)) (sym (if-usable₂ _ _)) (stored-by name bytes _ _ refl refl b)))
+      (admitted-alike k₁ k₂ d₁ d₂ g₁ g₂ h.same name (length bytes))
+
+  -- ---- retrieve
+  retrieved-at : (f : Found) (name : List ℕ) → lookup d₁ name ≡ f
+      → isDoneBy (retrieveAt f d₁ out).number ≡ isDoneBy (retrieveAt f d₂ out).number
+  retrieved-at Nowhere name e = refl
+  retrieved-at (At i) name e =
+      file-done (entry_at d₁ i) (entry_at d₂ i) d₁ d₂ out
+      (same-len k₁ k₂ d₁ d₂ g₁ g₂ h.same i (lookup-at d₁ name i e).inside)
+
+  retrieve-stepped : (name : List ℕ) → Stepped (other (retrieve name)) s₁ s₂ out
+  unfolding answer otherAnswer retrieveAnswer
+  retrieve-stepped name =
+      inr (record {
+        done =
+            ap (λ (r : Reported). isDoneBy r.number) (if-usable₁ _ _)
+            ∙ retrieved-at (lookup d₁ name) name refl
+            ∙ ap (λ (f : Found). isDoneBy (retrieveAt f d₂ out).number) (same-lookup k₁ k₂ d₁ d₂ g₁ g₂ h.same name)
+            ∙ sym (ap (λ (r : Reported). isDoneBy r.number) (if-usable₂ _ _));
+        text = refl;
+        view = h.same;
+      })
+
+  -- ---- files, free space
+  files-stepped : Stepped (other files) s₁ s₂ out
+  unfolding answer otherAnswer filesAnswer
+  files-stepped =
+      inr (record {
+        done =
+            ap (λ (r : Reported). isDoneBy r.number) (if-usable₁ _ _)
+            ∙ text-done (flat fileLine (entries d₁)) (flat fileLine (entries d₂)) out
+            (files-text d₁ (entries d₁) ∙ ap (λ (v : View). flat shownLine v.files) h.same ∙ sym (files-text d₂ (entries d₂)))
+            ∙ sym (ap (λ (r : Reported). isDoneBy r.number) (if-usable₂ _ _));
+        text = refl;
+        view = h.same;
+      })
+
+  free-space-stepped : Stepped (other freeSpace) s₁ s₂ out
+  unfolding answer otherAnswer freeSpaceAnswer
+  free-space-stepped =
+      inr (record {
+        done = ap isDoneBy (if-usable₁ _ _) ∙ sym (ap isDoneBy (if-usable₂ _ _));
+        text = refl;
+        view = h.same;
+      })
+
+  -- ---- erase
+  erased-at : (f : Found) (name : List ℕ) → lookup d₁ name ≡ f
+      → Lacks (other (erase name)) s₁ s₂ ⊎ SameDone (other (erase name)) (eraseAt f k₁ b₁) (eraseAt f k₂ b₂)
+  erased-at Nowhere name e = inr (refused-same (other (erase name)) s₁ s₂ h out 10)
+  erased-at (At i) name e =
+      tested-same (other (erase name)) s₁ s₂ h out _ _ (ap not used) 11 _ _
+      (λ t.
+      let free : inUse k₁ (entry_at d₁ i) ≡ false = not-true _ t in
+      inr (record {
+        done = refl;
+        text = refl;
+        view =
+            λ z.
+            record {
+              files = removed-files d₁ d₂ i inside g₁.sound g₂.sound (λ y. (h.same y).files) z;
+              kernel = removed-kernel d₁ d₂ i inside k₁ k₂ g₁ g₂ h.same free (sym used ∙ free) z;
+            };
+      }))
+    where
+      inside : i < fileCount d₁
+      inside = (lookup-at d₁ name i e).inside
+
+      used : inUse k₁ (entry_at d₁ i) ≡ inUse k₂ (entry_at d₂ i)
+      used = same-use k₁ k₂ d₁ d₂ g₁ g₂ h.same i inside
+
+  erase-stepped : (name : List ℕ) → Stepped (other (erase name)) s₁ s₂ out
+  unfolding answer otherAnswer
+  erase-stepped name =
+      on-both-good (other (erase name)) s₁ s₂ h out _ _
+      (subst (λ (f : Found). Lacks (other (erase name)) s₁ s₂
+      ⊎ SameDone (other (erase name)) (eraseAt (lookup d₁ name) k₁ b₁) (eraseAt f k₂ b₂))
+      (same-lookup k₁ k₂ d₁ d₂ g₁ g₂ h.same name) (erased-at (lookup d₁ name) name refl))
+
+  -- ---- list
+  same-list : listText k₁ ≡ listText k₂
+  unfolding listText
+  same-list =
+      list-text d₁ k₁.processes
+      ∙ ap (λ (v : View). flat processLine (keep isLive v.kernel.processes)) h.same
+      ∙ sym (list-text d₂ k₂.processes)
+
+  list-stepped : Stepped (other list) s₁ s₂ out
+  unfolding answer otherAnswer
+  list-stepped =
+      on-both-good (other list) s₁ s₂ h out _ _
+      (tested-same (other list) s₁ s₂ h out _ _ (ap (λ (t : List ℕ). leb (length t) (length out)) same-list) 4 _ _
+      (λ t. inr (record { done = refl; text = refl; view = h.same })))
+
+pub other-stepped : (o : Other) (s₁ s₂ : Storage) → Alike s₁ s₂ → (out : List ℕ) → Stepped (other o) s₁ s₂ out
+other-stepped (store name bytes) s₁ s₂ h out = store-stepped s₁ s₂ h out name bytes
+other-stepped (retrieve name) s₁ s₂ h out = retrieve-stepped s₁ s₂ h out name
+other-stepped (erase name) s₁ s₂ h out = erase-stepped s₁ s₂ h out name
+other-stepped files s₁ s₂ h out = files-stepped s₁ s₂ h out
+other-stepped freeSpace s₁ s₂ h out = free-space-stepped s₁ s₂ h out
+other-stepped list s₁ s₂ h out = list-stepped s₁ s₂ h out
