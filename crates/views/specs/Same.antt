@@ -1,6 +1,5 @@
 -- Document 02, Q-13: "from good buffers of the same entries, file bytes and work area (starts aside) and the same
--- demand 3
--- calls, programs print the same on both until either refuses a place or size."
+-- demand 3 calls, programs print the same on both until either refuses a place or size."
 use Rattle.std.specs.Prelude.{ℕ, ◌≡◌, Bool, true, false, cond, ◌&&◌, ◌||◌, not, List, [], ◌∷◌, map, eqb, length}
 use Rattle.buffer.specs.Lists.{index}
 use Rattle.buffer.specs.declared.Found.{Found}
