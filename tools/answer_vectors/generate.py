@@ -1,5 +1,5 @@
 #!/usr/bin/env python3
-"""Writes crate machine_try: for each outside vector, that the definition `answer` (or bootAnswer, formatAnswer) gives what the vector says.
+"""Writes crate machine_try: for each outside vector, that the definition `answer` (or boot_answer, format_answer) gives what the vector says.
 
 usage: generate.py [--wrong STEP] VECTORS.gz REPOSITORY [FROM TO [PER_FILE]]    vectors FROM up to (not with) TO, counted from 1; those withdrawn (tools/vectors/withdrawn.txt) left out
 Then `rt check` in REPOSITORY/crates/machine_try (it puts the crate into crates.txt).
@@ -60,7 +60,7 @@ use lib.IntN.{ℤ, pos, negsuc}
 use Rattle.buffer.specs.Buffer.{overwrite}
 use Rattle.buffer.specs.Lists.{same}
 use Rattle.place.proofs.Place.{longer-fits-nowhere, longest-is}
-use Rattle.place.specs.Place.{is_at, longest, lowestFit}
+use Rattle.place.specs.Place.{is_at, longest, lowest_fit}
 use Rattle.place.specs.declared.Run.{Run}
 use Rattle.machine.specs.Answer.{Answer, Buffers}
 
@@ -88,7 +88,7 @@ abbrev pub says : Answer → Buffers → ℤ → List (ℕ × List ℕ) → List
 says a b n disc area out = sameNumber a.number n && (same a.disc (laid disc b.disc) && (same a.area (laid area b.area) && same a.out (laid out b.out)))
 
 -- the longest free run takes more steps than one declaration may; by its law: a run of g has a place, one of g + 1 has none
-pub free-run : (runs : List Run) (lo hi g : ℕ) → g ≤ hi - lo → (0 < g → is_at (lowestFit runs lo hi g) ≡ true) → is_at (lowestFit runs lo hi (suc g)) ≡ false → longest runs lo hi ≡ g
+pub free-run : (runs : List Run) (lo hi g : ℕ) → g ≤ hi - lo → (0 < g → is_at (lowest_fit runs lo hi g) ≡ true) → is_at (lowest_fit runs lo hi (suc g)) ≡ false → longest runs lo hi ≡ g
 free-run runs lo hi g a e f = longest-is runs lo hi g a e (λ j x y. longer-fits-nowhere runs lo hi (suc g) j x f)
 """
 
@@ -151,7 +151,7 @@ def call(op, args, b):
     if op == "files" or op == "list":
         return "answer (other %s) %s" % (op, b)
     if op == "free":
-        return "answer (other freeSpace) %s" % b
+        return "answer (other free_space) %s" % b
     if op in ("suspend", "resume", "kill"):
         return "answer (command %s %s) %s" % (op, args[0], b)
     if op == "turn":
@@ -161,9 +161,9 @@ def call(op, args, b):
     if op == "round":
         return "answer (round %s) %s" % (args[0], b)
     if op == "boot":
-        return "bootAnswer " + b
+        return "boot_answer " + b
     if op == "format":
-        return "formatAnswer " + b
+        return "format_answer " + b
     raise SystemExit("unknown operation " + op)
 
 
@@ -178,7 +178,7 @@ def main():
     uses, names = opened()
     head = "\n".join(
         ["use Prim.Native.Nat.{ℕ}", "use mathlib.Core.Bool.{true, false}", "use mathlib.Core.List.{List, [], ◌∷◌}", "use mathlib.Core.Path.{◌≡◌, ap, refl}", "use lib.IntN.{ℤ, pos, negsuc}",
-         "use Rattle.machine.specs.Answer.{Buffers, answer, bootAnswer, formatAnswer, turn, round, command, share, run, other, store, retrieve, erase, files, freeSpace, list}",
+         "use Rattle.machine.specs.Answer.{Buffers, answer, boot_answer, format_answer, turn, round, command, share, run, other, store, retrieve, erase, files, free_space, list}",
          "use Rattle.machine.specs.Operations.{suspend, resume, kill}", "use Rattle.machine_try.proofs.Try.{bytes, free-run, lent, says}", "use native.Mathlib.Nat.{not-suc-le-zero}", "use native.Mathlib.Omega.{arith}",
          "use Rattle.place.specs.Place.{longest}", "use Rattle.disc.specs.Directory.{taken}"] + uses) + "\n"
     mods = ["Try"]
@@ -208,7 +208,7 @@ def main():
                 has = "λ _. refl" if int(n) else "λ h. absurd (not-suc-le-zero h)"
                 text += "\nf%d : longest (taken %s) 161 %d ≡ %s\nunfolding %s\nf%d = free-run (taken %s) 161 %d %s (omega arith) (%s) refl\n" % (
                     i, b[0], len(hexed(d)), n, lazy, i, b[0], len(hexed(d)), n, has)
-                text += "\nv%d : says (answer (other freeSpace) l%d) l%d (pos %s) [] [] [] ≡ true\nunfolding %s\n" % (i, i, i, n, lazy)
+                text += "\nv%d : says (answer (other free_space) l%d) l%d (pos %s) [] [] [] ≡ true\nunfolding %s\n" % (i, i, i, n, lazy)
                 text += "v%d = ap (λ (n : ℕ). says (record { number = pos n; disc = l%d.disc; area = l%d.area; out = l%d.out }) l%d (pos %s) [] [] []) f%d\n" % (i, i, i, i, i, n, i)
                 continue
             text += "\nv%d : says (%s) l%d %s %s %s %s ≡ %s\nunfolding %s\nv%d = refl\n" % (

@@ -3,19 +3,19 @@ use Rattle.std.specs.Prelude.{ℕ, ◌+◌, ◌*◌, ◌≡◌, List}
 use Rattle.buffer.specs.Buffer.{part}
 use Rattle.variable.specs.declared.Assigned.{Assigned}
 use Rattle.variable.specs.declared.Placing.{Placing}
-use Rattle.machine.specs.Area.{kernelBytes, processOf}
-use Rattle.machine.specs.Limits.{recordSize, recordsAt}
-use Rattle.machine.specs.State.{withVariables}
+use Rattle.machine.specs.Area.{kernel_bytes, process_of}
+use Rattle.machine.specs.Limits.{record_size, records_at}
+use Rattle.machine.specs.State.{with_variables}
 use Rattle.machine.specs.declared.Kernel.{Kernel}
 use Rattle.machine.specs.declared.Process.{Process}
 
 -- where the record of a slot begins
-abbrev pub recordAt : ℕ → ℕ
-recordAt slot = recordsAt + slot * recordSize
+abbrev pub record_at : ℕ → ℕ
+record_at slot = records_at + slot * record_size
 
 -- a record as the bytes in place say it
-abbrev pub processIn : List ℕ → ℕ → Process
-processIn area slot = processOf (part area (recordAt slot) recordSize)
+abbrev pub process_in : List ℕ → ℕ → Process
+process_in area slot = process_of (part area (record_at slot) record_size)
 
 -- the state with another next ID
 abbrev pub with_next : Kernel → ℕ → Kernel
@@ -24,4 +24,4 @@ with_next k n = record { variables = k.variables; next = n; zeros = k.zeros; pro
 -- what a SET answers, and the area that it leaves
 pub record SetIn (answer : Placing) (area : List ℕ) (k : Kernel) (a : Assigned) : Type 0 where
   pub placing : answer ≡ a.placing
-  pub left : area ≡ kernelBytes (withVariables k a.variables)
+  pub left : area ≡ kernel_bytes (with_variables k a.variables)

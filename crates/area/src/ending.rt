@@ -1,7 +1,7 @@
 // A process's record at its start and at its end.
 ghost use Rattle.std.specs.Prelude.{◌≡◌};
-ghost use Rattle.machine.specs.Start.{startedProcess};
-ghost use Rattle.machine.specs.Ended.{endedProcess};
+ghost use Rattle.machine.specs.Start.{started_process};
+ghost use Rattle.machine.specs.Ended.{ended_process};
 
 use crate::records::{NO_LOOP, RUNNING};
 use disc::Entry;
@@ -11,7 +11,7 @@ use place::Run;
 
 // Document 01: "Its record keeps name, ID and fault (0 unless a fault) and is otherwise zero."
 pub fn ended_process(p: Process, fault: u8) -> Process
-    ensures { result ≡ endedProcess p fault }
+    ensures { result ≡ ended_process p fault }
 {
     let name = p.name;
     Process {
@@ -35,7 +35,7 @@ pub fn ended_process(p: Process, fault: u8) -> Process
 
 // Document 01, Run: "state 'r', no loop, name, ID and code filled in, all else of the record zero."
 pub fn started_process(e: Entry, id: u16) -> Process
-    ensures { result ≡ startedProcess e id }
+    ensures { result ≡ started_process e id }
 {
     let name = e.name;
     Process {

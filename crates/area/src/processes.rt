@@ -1,10 +1,10 @@
 // The ten processes of the work area: copied out, and the searches among their records.
 ghost use Rattle.std.specs.Prelude.{◌≡◌, length};
-ghost use Rattle.machine.specs.Area.{kernelOf, processOf};
-ghost use Rattle.machine.specs.GoodArea.{isOpenIn, isProgram};
-ghost use Rattle.machine.specs.Limits.{areaLength, recordSize};
-ghost use Rattle.machine.specs.Operations.{inUse, uses};
-ghost use Rattle.machine.specs.State.{endedSlot, hasId, isLive, slotOf};
+ghost use Rattle.machine.specs.Area.{kernel_of, process_of};
+ghost use Rattle.machine.specs.GoodArea.{is_open_in, is_program};
+ghost use Rattle.machine.specs.Limits.{area_length, record_size};
+ghost use Rattle.machine.specs.Operations.{in_use, uses};
+ghost use Rattle.machine.specs.State.{ended_slot, has_id, is_live, slot_of};
 
 use crate::records::{CODE_AT, FILE_AT, ID_AT, PAUSED, RUNNING, STATE_AT};
 use buffer::Found;
@@ -37,8 +37,8 @@ fn no_process() -> Process {
 
 // Document 01: "ten of them in the kernel state, copied out, stepped, put back."
 pub fn processes_of(area: &[u8]) -> [Process; SLOT_COUNT]
-    requires { length area.now ≡ areaLength }
-    ensures { result ≡ (kernelOf area.now).processes }
+    requires { length area.now ≡ area_length }
+    ensures { result ≡ (kernel_of area.now).processes }
 {
     let none = no_process();
     let mut processes = [none; SLOT_COUNT];
@@ -54,23 +54,23 @@ pub fn processes_of(area: &[u8]) -> [Process; SLOT_COUNT]
 // ---- tests of a record's bytes
 // Document 01: "Live means running or paused."
 pub fn is_live(bytes: &[u8]) -> bool
-    requires { length bytes.now ≡ recordSize }
-    ensures { result ≡ isLive (processOf bytes.now) }
+    requires { length bytes.now ≡ record_size }
+    ensures { result ≡ is_live (process_of bytes.now) }
 {
     let state = bytes[STATE_AT];
     (state == RUNNING) | (state == PAUSED)
 }
 
 fn has_id(bytes: &[u8], id: u32) -> bool
-    requires { length bytes.now ≡ recordSize }
-    ensures { result ≡ hasId id (processOf bytes.now) }
+    requires { length bytes.now ≡ record_size }
+    ensures { result ≡ has_id id (process_of bytes.now) }
 {
     is_live(bytes) & (buffer::bytes::word_at(bytes, ID_AT) as u32 == id)
 }
 
 fn is_program(bytes: &[u8], e: Entry) -> bool
-    requires { length bytes.now ≡ recordSize }
-    ensures { result ≡ isProgram (processOf bytes.now) e }
+    requires { length bytes.now ≡ record_size }
+    ensures { result ≡ is_program (process_of bytes.now) e }
 {
     let name = e.name;
     let named = buffer::bytes::same_bytes(&bytes[..NAME_SIZE], &name);
@@ -80,8 +80,8 @@ fn is_program(bytes: &[u8], e: Entry) -> bool
 }
 
 fn is_open_in(bytes: &[u8], e: Entry) -> bool
-    requires { length bytes.now ≡ recordSize }
-    ensures { result ≡ isOpenIn (processOf bytes.now).file e }
+    requires { length bytes.now ≡ record_size }
+    ensures { result ≡ is_open_in (process_of bytes.now).file e }
 {
     let start = buffer::bytes::word_at(bytes, FILE_AT);
     let len = buffer::bytes::word_at(bytes, FILE_AT + 2);
@@ -89,8 +89,8 @@ fn is_open_in(bytes: &[u8], e: Entry) -> bool
 }
 
 fn is_user(bytes: &[u8], e: Entry) -> bool
-    requires { length bytes.now ≡ recordSize }
-    ensures { result ≡ uses e (processOf bytes.now) }
+    requires { length bytes.now ≡ record_size }
+    ensures { result ≡ uses e (process_of bytes.now) }
 {
     is_live(bytes) & (is_program(bytes, e) | is_open_in(bytes, e))
 }
@@ -98,8 +98,8 @@ fn is_user(bytes: &[u8], e: Entry) -> bool
 // ---- searches
 // The slot of a live ID. IDs are compared as whole numbers: none above 65,535 is anybody's.
 pub fn slot_of(area: &[u8], id: u32) -> Found
-    requires { length area.now ≡ areaLength }
-    ensures { result ≡ slotOf (kernelOf area.now) id }
+    requires { length area.now ≡ area_length }
+    ensures { result ≡ slot_of (kernel_of area.now) id }
 {
     let mut slot: usize = 0;
     while slot < SLOT_COUNT {
@@ -113,8 +113,8 @@ pub fn slot_of(area: &[u8], id: u32) -> Found
 
 // Document 01: "Takes the lowest ended slot"
 pub fn ended_slot(area: &[u8]) -> Found
-    requires { length area.now ≡ areaLength }
-    ensures { result ≡ endedSlot (kernelOf area.now) }
+    requires { length area.now ≡ area_length }
+    ensures { result ≡ ended_slot (kernel_of area.now) }
 {
     let mut slot: usize = 0;
     while slot < SLOT_COUNT {
@@ -128,8 +128,8 @@ pub fn ended_slot(area: &[u8]) -> Found
 
 // Document 01, Erase: "11 a live process runs it or has it open."
 pub fn is_in_use(area: &[u8], e: Entry) -> bool
-    requires { length area.now ≡ areaLength }
-    ensures { result ≡ inUse (kernelOf area.now) e }
+    requires { length area.now ≡ area_length }
+    ensures { result ≡ in_use (kernel_of area.now) e }
 {
     let mut used = false;
     let mut slot: usize = 0;

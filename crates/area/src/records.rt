@@ -4,11 +4,11 @@
 // Document 02, Q-9: the spare byte is the share.
 ghost use Rattle.std.specs.Prelude.{◌≡◌, ◌<◌, length, take};
 ghost use Rattle.buffer.specs.Buffer.{overwrite, part, word_bytes};
-ghost use Rattle.disc.specs.Layout.{nameSize};
-ghost use Rattle.machine.specs.Area.{kernelOf, processBytes, processOf, registerBytes};
-ghost use Rattle.machine.specs.Limits.{areaLength, next_at, recordSize, slotCount};
-ghost use Rattle.machine.specs.State.{processAt};
-ghost use Rattle.area.specs.Parts.{recordAt};
+ghost use Rattle.disc.specs.Layout.{name_size};
+ghost use Rattle.machine.specs.Area.{kernel_of, process_bytes, process_of, register_bytes};
+ghost use Rattle.machine.specs.Limits.{area_length, next_at, record_size, slot_count};
+ghost use Rattle.machine.specs.State.{process_at};
+ghost use Rattle.area.specs.Parts.{record_at};
 
 use disc::layout::NAME_SIZE;
 use machine::limits::{NEXT_AT, RECORD_SIZE, RECORDS_AT, STACK_SIZE};
@@ -49,9 +49,9 @@ const REGISTER_SIZE: usize = 20;
 
 // The bytes of the record in that slot.
 pub fn record_at(area: &[u8], slot: usize) -> &[u8]
-    requires area_len { length area.now ≡ areaLength }
-    requires slot_lt_slot_count { slot < slotCount }
-    ensures { (result.now ≡ part area.now (recordAt slot) recordSize) × (length result.now ≡ recordSize) }
+    requires area_len { length area.now ≡ area_length }
+    requires slot_lt_slot_count { slot < slot_count }
+    ensures { (result.now ≡ part area.now (record_at slot) record_size) × (length result.now ≡ record_size) }
 {
     let at = RECORDS_AT + slot * RECORD_SIZE;
     let end = at + RECORD_SIZE;
@@ -60,8 +60,8 @@ pub fn record_at(area: &[u8], slot: usize) -> &[u8]
 
 // The name byte by byte and not by a loop: compiled, it is three words, and a copy of so few bytes costs more.
 fn name_of(bytes: &[u8]) -> [u8; NAME_SIZE]
-    requires { length bytes.now ≡ recordSize }
-    ensures { result ≡ take nameSize bytes.now }
+    requires { length bytes.now ≡ record_size }
+    ensures { result ≡ take name_size bytes.now }
 {
     [
         bytes[0], bytes[1], bytes[2], bytes[3], bytes[4], bytes[5], bytes[6], bytes[7], bytes[8],
@@ -71,8 +71,8 @@ fn name_of(bytes: &[u8]) -> [u8; NAME_SIZE]
 
 // The process that a record's bytes say.
 fn process_of(bytes: &[u8]) -> Process
-    requires { length bytes.now ≡ recordSize }
-    ensures { result ≡ processOf bytes.now }
+    requires { length bytes.now ≡ record_size }
+    ensures { result ≡ process_of bytes.now }
 {
     let name = name_of(bytes);
     let mut stack = [0u8; STACK_SIZE];
@@ -100,15 +100,15 @@ fn process_of(bytes: &[u8]) -> Process
 }
 
 pub fn process_at(area: &[u8], slot: usize) -> Process
-    requires area_len { length area.now ≡ areaLength }
-    requires slot_lt_slot_count { slot < slotCount }
-    ensures { result ≡ processAt (kernelOf area.now) slot }
+    requires area_len { length area.now ≡ area_length }
+    requires slot_lt_slot_count { slot < slot_count }
+    ensures { result ≡ process_at (kernel_of area.now) slot }
 {
     process_of(record_at(area, slot))
 }
 
 fn register_bytes(p: Process) -> [u8; REGISTER_SIZE]
-    ensures { result ≡ registerBytes p }
+    ensures { result ≡ register_bytes p }
 {
     [
         buffer::bytes::low(p.id),
@@ -135,9 +135,9 @@ fn register_bytes(p: Process) -> [u8; REGISTER_SIZE]
 }
 
 pub fn put_process(area: &mut [u8], slot: usize, p: Process)
-    requires area_len { length area.old ≡ areaLength }
-    requires slot_lt_slot_count { slot < slotCount }
-    ensures { area.new ≡ overwrite area.old (recordAt slot) (processBytes p) }
+    requires area_len { length area.old ≡ area_length }
+    requires slot_lt_slot_count { slot < slot_count }
+    ensures { area.new ≡ overwrite area.old (record_at slot) (process_bytes p) }
 {
     let at = RECORDS_AT + slot * RECORD_SIZE;
     let name = p.name;
@@ -149,14 +149,14 @@ pub fn put_process(area: &mut [u8], slot: usize, p: Process)
 }
 
 pub fn next_id(area: &[u8]) -> u16
-    requires { length area.now ≡ areaLength }
-    ensures { result ≡ (kernelOf area.now).next }
+    requires { length area.now ≡ area_length }
+    ensures { result ≡ (kernel_of area.now).next }
 {
     buffer::bytes::word_at(area, NEXT_AT)
 }
 
 pub fn put_next_id(area: &mut [u8], next: u16)
-    requires { length area.old ≡ areaLength }
+    requires { length area.old ≡ area_length }
     ensures { area.new ≡ overwrite area.old next_at (word_bytes next) }
 {
     let low = buffer::bytes::low(next);

@@ -4,7 +4,7 @@ use mathlib.Core.Path.{◌≡◌}
 use mathlib.Core.Bool.{Bool, true, false}
 use mathlib.Core.List.{List, [], ◌∷◌, ◌++◌, map}
 use lib.ListN.{drop, get_or, replicate, set, take}
-use Rattle.buffer.specs.Lists.{all, consIf, flat, keep, tab}
+use Rattle.buffer.specs.Lists.{all, cons_if, flat, keep, tab}
 use Rattle.buffer.proofs.Bools.{and_left, and_right}
 
 module _ {A : Type 0} (P : A → Type 0) where
@@ -45,7 +45,7 @@ module _ {A : Type 0} (P : A → Type 0) where
   each_keep p [] h = tt
   each_keep p (x ∷ l) h = go (p x) (each_keep p l h.1)
     where
-      go : (b : Bool) → Each (keep p l) → Each (consIf b x (keep p l))
+      go : (b : Bool) → Each (keep p l) → Each (cons_if b x (keep p l))
       go true k = (h.0, k)
       go false k = k
 

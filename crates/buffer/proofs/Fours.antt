@@ -9,7 +9,7 @@ use lib.Dec.{eqb}
 use lib.ListN.{length, get_or}
 use lib.Seq.{ext_get_or}
 use borrow.Author.Tests.{eq-eqb, eqb-true}
-use Rattle.buffer.specs.Buffer.{fourAt, part, word_at}
+use Rattle.buffer.specs.Buffer.{four_at, part, word_at}
 use Rattle.buffer.specs.Lists.{same, tab}
 use Rattle.buffer.proofs.Bools.{and_both, and_left, and_right}
 use Rattle.buffer.proofs.Equivalence.{both_ways}
@@ -45,16 +45,16 @@ part-spelled l at n h =
 module _ (k l : List ℕ) (bk : Bytes k) (bl : Bytes l) where
   -- the words of two equal numbers
   pub four-words : (i j : ℕ)
-      → eqb (fourAt k i) (fourAt l j) ≡ eqb (word_at k i) (word_at l j) && eqb (word_at k (i + 2)) (word_at l (j + 2))
-  unfolding fourAt
+      → eqb (four_at k i) (four_at l j) ≡ eqb (word_at k i) (word_at l j) && eqb (word_at k (i + 2)) (word_at l (j + 2))
+  unfolding four_at
   four-words i j =
       words-apart (word_at k i) (word_at k (i + 2)) (word_at l j) (word_at l (j + 2)) (word_bound k bk i) (word_bound l bl j)
 
   -- four bytes of each
   module _ (i j : ℕ) (hk : i + 4 ≤ length k) (hl : j + 4 ≤ length l) where
-    same_bytes : fourAt k i ≡ fourAt l j → part k i 4 ≡ part l j 4
+    same-bytes : four_at k i ≡ four_at l j → part k i 4 ≡ part l j 4
     unfolding tab
-    same_bytes e =
+    same-bytes e =
         let w = eqb (word_at k i) (word_at l j) in
         let v = eqb (word_at k (i + 2)) (word_at l (j + 2)) in
         let q : w && v ≡ true = sym (four-words i j) ∙ eq-eqb _ _ e in
@@ -73,16 +73,16 @@ module _ (k l : List ℕ) (bk : Bytes k) (bl : Bytes l) where
     same_byte : part k i 4 ≡ part l j 4 → (n : ℕ) → n < 4 → get_or k (i + n) 0 ≡ get_or l (j + n) 0
     same_byte e n h = sym (part-byte k i 4 n h) ∙ ap (λ (r : List ℕ). get_or r n 0) e ∙ part-byte l j 4 n h
 
-    same_number : part k i 4 ≡ part l j 4 → fourAt k i ≡ fourAt l j
-    unfolding fourAt
+    same_number : part k i 4 ≡ part l j 4 → four_at k i ≡ four_at l j
+    unfolding four_at
     same_number e =
         let b0 : get_or k i 0 ≡ get_or l j 0 = rw (add-zero i, add-zero j) at (same_byte e 0 (omega arith)) in
         rw (add_assoc i 2 1, add_assoc j 2 1, b0, same_byte e 1 (omega arith), same_byte e 2 (omega arith), same_byte e 3 (omega arith))
 
-    pub four_same : eqb (fourAt k i) (fourAt l j) ≡ same (part k i 4) (part l j 4)
+    pub four_same : eqb (four_at k i) (four_at l j) ≡ same (part k i 4) (part l j 4)
     four_same =
-        both_ways (eqb (fourAt k i) (fourAt l j)) (same (part k i 4) (part l j 4))
-        (λ e. rw (same_bytes (eqb-true _ _ e)) (same_refl (part l j 4)))
+        both_ways (eqb (four_at k i) (four_at l j)) (same (part k i 4) (part l j 4))
+        (λ e. rw (same-bytes (eqb-true _ _ e)) (same_refl (part l j 4)))
         (λ e. eq-eqb _ _ (same_number (same-eq (part k i 4) (part l j 4) e)))
 
 pub same-append : (a b c d : List ℕ) → length a ≡ length c → same (a ++ b) (c ++ d) ≡ same a c && same b d
@@ -100,7 +100,7 @@ same_parts k l i j m n hk hl =
 
 -- twelve bytes, as three numbers
 pub three-fours : (k l : List ℕ) → Bytes k → Bytes l → (i j : ℕ) → i + 12 ≤ length k → j + 12 ≤ length l
-    → eqb (fourAt k i) (fourAt l j) && (eqb (fourAt k (i + 4)) (fourAt l (j + 4)) && eqb (fourAt k (i + 8)) (fourAt l (j + 8)))
+    → eqb (four_at k i) (four_at l j) && (eqb (four_at k (i + 4)) (four_at l (j + 4)) && eqb (four_at k (i + 8)) (four_at l (j + 8)))
     ≡ same (part k i 12) (part l j 12)
 three-fours k l bk bl i j hk hl =
     rw (

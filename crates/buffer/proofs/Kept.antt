@@ -9,7 +9,7 @@ use native.Mathlib.Omega.{arith}
 use lib.ListN.{length, get_or, take}
 use lib.Seq.{take-suc}
 use borrow.Author.Tests.{not-true}
-use Rattle.buffer.specs.Lists.{all, any, consIf, keep, pairs}
+use Rattle.buffer.specs.Lists.{all, any, cons_if, keep, pairs}
 use Rattle.buffer.proofs.Bools.{and_left, and_right, and_both, true-not-false}
 
 -- ---- any
@@ -33,7 +33,7 @@ module _ {A : Type 0} (p : A → Bool) where
   keep_append [] m = refl
   keep_append (x ∷ l) m = rw (keep_append l m) (go (p x))
     where
-      go : (b : Bool) → consIf b x (keep p l ++ keep p m) ≡ consIf b x (keep p l) ++ keep p m
+      go : (b : Bool) → cons_if b x (keep p l ++ keep p m) ≡ cons_if b x (keep p l) ++ keep p m
       go true = refl
       go false = refl
 
@@ -42,13 +42,13 @@ module _ {A : Type 0} (p : A → Bool) where
   keep-length [] = omega arith
   keep-length (x ∷ l) = go (p x) (keep-length l)
     where
-      go : (b : Bool) → length (keep p l) ≤ length l → length (consIf b x (keep p l)) ≤ suc (length l)
+      go : (b : Bool) → length (keep p l) ≤ length l → length (cons_if b x (keep p l)) ≤ suc (length l)
       go true h = omega arith
       go false h = omega arith
 
   -- one more element, which stays or goes
   pub keep-take-next : (l : List A) (i : ℕ) (d : A) → i < length l → keep p (take (i + 1) l) ≡ keep p (take i l)
-      ++ consIf (p (get_or l i d)) (get_or l i d) []
+      ++ cons_if (p (get_or l i d)) (get_or l i d) []
   unfolding keep
   keep-take-next l i d h = rw (add-one, take-suc l i d, keep_append (take i l) (get_or l i d ∷ []))
 
@@ -58,7 +58,7 @@ module _ {A : Type 0} (p : A → Bool) where
   all-kept q r [] h e = refl
   all-kept q r (x ∷ l) h e = go (p x) refl (all-kept q r l h (and_right (q x) (all q l) e))
     where
-      go : (b : Bool) → p x ≡ b → all r (keep p l) ≡ true → all r (consIf b x (keep p l)) ≡ true
+      go : (b : Bool) → p x ≡ b → all r (keep p l) ≡ true → all r (cons_if b x (keep p l)) ≡ true
       go true k f = and_both (h x k (and_left (q x) (all q l) e)) f
       go false k f = f
 
@@ -78,7 +78,7 @@ module _ {A : Type 0} (p : A → Bool) where
   pairs-keep r [] e = refl
   pairs-keep r (x ∷ l) e = go (p x) (pairs-keep r l (and_right (all (r x) l) (pairs r l) e))
     where
-      go : (b : Bool) → pairs r (keep p l) ≡ true → pairs r (consIf b x (keep p l)) ≡ true
+      go : (b : Bool) → pairs r (keep p l) ≡ true → pairs r (cons_if b x (keep p l)) ≡ true
       go true h = and_both (all_keep (r x) l (and_left (all (r x) l) (pairs r l) e)) h
       go false h = h
 
@@ -89,7 +89,7 @@ module _ {A : Type 0} (p : A → Bool) where
   keep-keep q (x ∷ l) h = go (q x) refl (p x) refl (keep-keep q l h)
     where
       go : (b : Bool) → q x ≡ b → (a : Bool) → p x ≡ a → keep p (keep q l) ≡ keep p l
-          → keep p (consIf b x (keep q l)) ≡ consIf a x (keep p l)
+          → keep p (cons_if b x (keep q l)) ≡ cons_if a x (keep p l)
       go true k true m e = rw (m, e)
       go true k false m e = rw (m, e)
       go false k true m e = absurd (true-not-false (h x m) k)
@@ -109,12 +109,12 @@ keep-swap p q r [] h = refl
 keep-swap {A} p q r (x ∷ l) h = go (p x) refl (r x) refl (keep-swap p q r l h)
   where
     go : (a : Bool) → p x ≡ a → (b : Bool) → r x ≡ b → keep p (keep q l) ≡ keep r (keep p l)
-        → keep p (consIf (q x) x (keep q l)) ≡ keep r (consIf a x (keep p l))
+        → keep p (cons_if (q x) x (keep q l)) ≡ keep r (cons_if a x (keep p l))
     go true k true m e = rw (h x k, m, k, e)
     go true k false m e = rw (h x k, m, e)
     go false k b m e = either (q x)
       where
-        either : (c : Bool) → keep p (consIf c x (keep q l)) ≡ keep r (keep p l)
+        either : (c : Bool) → keep p (cons_if c x (keep q l)) ≡ keep r (keep p l)
         either true = rw (k, e)
         either false = e
 
@@ -124,6 +124,6 @@ keep-map p f [] = refl
 keep-map p f (x ∷ l) = go (p (f x)) (keep-map p f l)
   where
     go : (b : Bool) → keep p (map f l) ≡ map f (keep (λ y. p (f y)) l)
-        → consIf b (f x) (keep p (map f l)) ≡ map f (consIf b x (keep (λ y. p (f y)) l))
+        → cons_if b (f x) (keep p (map f l)) ≡ map f (cons_if b x (keep (λ y. p (f y)) l))
     go true e = rw e
     go false e = e

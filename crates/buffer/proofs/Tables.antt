@@ -8,7 +8,7 @@ use native.Mathlib.Nat.{not-suc-le-zero, le_of_suc-le-suc, eq-or-lt_of_le}
 use native.Mathlib.Omega.{arith}
 use lib.ListN.{length, get_or, take, drop, length-append, drop_of_length-le}
 use lib.Seq.{drop-append-le, take-append-le, take_at}
-use Rattle.buffer.specs.Lists.{all, pairs, index, hereOr, tab, without}
+use Rattle.buffer.specs.Lists.{all, pairs, index, here_or, tab, without}
 use Rattle.buffer.specs.declared.Found.{Found}
 use Rattle.buffer.specs.declared.Found.TheVariants.{At, Nowhere}
 use Rattle.buffer.proofs.Lists.{all-at, all-each, index_is, index-miss, pairs-at, tab-at, tab-length, tab-same}
@@ -25,7 +25,7 @@ module _ {A : Type 0} (p : A → Bool) (d : A) where
   index_at [] i e = absurd (let z : ◌≡◌ {A = ℕ} 0 1 = cc in omega arith)
   index_at (x ∷ l) i e = go (p x) refl (index p l) refl e (index_at l)
     where
-      go : (b : Bool) → p x ≡ b → (f : Found) → index p l ≡ f → hereOr b f ≡ At i → ((j : ℕ) → index p l ≡ At j → First l j)
+      go : (b : Bool) → p x ≡ b → (f : Found) → index p l ≡ f → here_or b f ≡ At i → ((j : ℕ) → index p l ≡ At j → First l j)
           → First (x ∷ l) i
       go true t f g h r = let w : 0 ≡ i = cc in
           subst (λ (k : ℕ). First (x ∷ l) k) w (record { inside = omega arith; holds = t; first = λ k n. absurd (not-suc-le-zero n) })
@@ -44,7 +44,7 @@ module _ {A : Type 0} (p : A → Bool) (d : A) where
   index-none [] e k h = absurd (not-suc-le-zero h)
   index-none (x ∷ l) e k h = go (p x) refl (index p l) refl e k h (index-none l)
     where
-      go : (b : Bool) → p x ≡ b → (f : Found) → index p l ≡ f → hereOr b f ≡ Nowhere
+      go : (b : Bool) → p x ≡ b → (f : Found) → index p l ≡ f → here_or b f ≡ Nowhere
           → (k : ℕ) → k < length (x ∷ l) → (index p l ≡ Nowhere → (j : ℕ) → j < length l → p (get_or l j d) ≡ false)
           → p (get_or (x ∷ l) k d) ≡ false
       go true t f g y k n r = absurd (let z : ◌≡◌ {A = ℕ} 0 1 = cc in omega arith)

@@ -17,8 +17,8 @@ abbrev pub word_at : List ℕ → ℕ → ℕ
 word_at l at = get_or l at 0 + get_or l (at + 1) 0 * 256
 
 -- four bytes as one number, low byte first: two fields, or a third of a name
-unfoldable pub fourAt : List ℕ → ℕ → ℕ
-fourAt l at = word_at l at + word_at l (at + 2) * 65536
+unfoldable pub four_at : List ℕ → ℕ → ℕ
+four_at l at = word_at l at + word_at l (at + 2) * 65536
 
 abbrev pub word_bytes : ℕ → List ℕ
 word_bytes w = w % 256 ∷ w / 256 ∷ []

@@ -19,14 +19,14 @@ unfoldable pub any : {A : Type 0} → (A → Bool) → List A → Bool
 any p [] = false
 any p (x ∷ l) = p x || any p l
 
-abbrev pub consIf : {A : Type 0} → Bool → A → List A → List A
-consIf true x l = x ∷ l
-consIf false x l = l
+abbrev pub cons_if : {A : Type 0} → Bool → A → List A → List A
+cons_if true x l = x ∷ l
+cons_if false x l = l
 
 -- the elements that p holds of
 unfoldable pub keep : {A : Type 0} → (A → Bool) → List A → List A
 keep p [] = []
-keep p (x ∷ l) = consIf (p x) x (keep p l)
+keep p (x ∷ l) = cons_if (p x) x (keep p l)
 
 -- the same elements in the same order
 unfoldable pub same : List ℕ → List ℕ → Bool
@@ -39,14 +39,14 @@ abbrev pub later : Found → Found
 later (At i) = At (suc i)
 later Nowhere = Nowhere
 
-abbrev pub hereOr : Bool → Found → Found
-hereOr true f = At 0
-hereOr false f = later f
+abbrev pub here_or : Bool → Found → Found
+here_or true f = At 0
+here_or false f = later f
 
 -- the place of the first element that p holds of
 unfoldable pub index : {A : Type 0} → (A → Bool) → List A → Found
 index p [] = Nowhere
-index p (x ∷ l) = hereOr (p x) (index p l)
+index p (x ∷ l) = here_or (p x) (index p l)
 
 -- f 0, f 1, .. f (n - 1)
 unfoldable pub tab : {A : Type 0} → (ℕ → A) → ℕ → List A

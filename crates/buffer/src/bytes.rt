@@ -1,6 +1,6 @@
 // Parts of byte buffers, and their two-byte fields.
 ghost use Rattle.std.specs.Prelude.{◌≡◌, ◌+◌, ◌*◌, ◌/◌, ◌%◌, ◌≤◌, length};
-ghost use Rattle.buffer.specs.Buffer.{fourAt, overwrite, part, word_at, zeros};
+ghost use Rattle.buffer.specs.Buffer.{four_at, overwrite, part, word_at, zeros};
 ghost use Rattle.buffer.specs.Laid.{Laid};
 ghost use Rattle.buffer.specs.Lists.{same};
 
@@ -27,7 +27,7 @@ fn four(lo: u16, hi: u16) -> u32
 // Four bytes as one number, so that they are compared at once.
 pub fn four_at(bytes: &[u8], at: usize) -> u32
     requires { at + 4 ≤ length bytes.now }
-    ensures { result ≡ fourAt bytes.now at }
+    ensures { result ≡ four_at bytes.now at }
 {
     four(word_at(bytes, at), word_at(bytes, at + 2))
 }

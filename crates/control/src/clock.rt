@@ -1,5 +1,5 @@
 // Instructions that look at the clock.
-ghost use Rattle.machine.specs.Exec.{delays, pushClock};
+ghost use Rattle.machine.specs.Exec.{delays, push_clock};
 ghost use Rattle.stack.specs.Steps.{Means, Ready};
 
 use number::clock::is_ahead;
@@ -30,7 +30,7 @@ pub fn delay(code: &[u8], stack: &[u8], at: usize, loopstart: u16, clock: u32) -
 pub fn push_clock(code: &[u8], stack: &[u8], at: usize, loopstart: u16, clock: u32) -> Step
     requires { Ready code.now stack.now at }
     ensures { Means stack.now result
-        (pushClock code.now stack.now loopstart at clock) }
+        (push_clock code.now stack.now loopstart at clock) }
 {
     let bytes = [(clock % 65536 / 256) as u8, (clock % 256) as u8];
     push_item(code, stack, stack.len(), 2, &bytes, at + 1, loopstart)

@@ -1,8 +1,8 @@
 // Jumps and loops. Jumps count from past the arguments.
 ghost use Rattle.std.specs.Prelude.{cond, [], ◌∷◌, ◌++◌, ◌+◌, ◌≤◌, leb, length, take};
 ghost use Rattle.buffer.specs.declared.Found.{Found};
-ghost use Rattle.machine.specs.Effect.{settle, unlessFaults};
-ghost use Rattle.machine.specs.Exec.{drops, endsWhile, jumpsIf, loopsBack, marksLoop, whiles};
+ghost use Rattle.machine.specs.Effect.{settle, unless_faults};
+ghost use Rattle.machine.specs.Exec.{drops, ends_while, jumps_if, loops_back, marks_loop, whiles};
 ghost use Rattle.stack.specs.Steps.{Keeps, Means, Ready};
 
 use number::value::is_zero;
@@ -21,7 +21,7 @@ const MAX_DISTANCE: usize = 251;
 pub fn jump_if(code: &[u8], stack: &[u8], at: usize, loopstart: u16, zero: bool) -> Step
     requires { Ready code.now stack.now at }
     ensures { Means stack.now result
-        (jumpsIf code.now stack.now loopstart at zero) }
+        (jumps_if code.now stack.now loopstart at zero) }
 {
     let from = at + 1;
     let to = from + 1;
@@ -64,7 +64,7 @@ fn choose_while(
     requires { Keeps code.now stack.now kept × (to ≤ length code.now) }
     ensures { Means stack.now result (cond zero
         (settle code.now (Found.At (to + (b + 1))) (take kept stack.now) loopstart [])
-        (unlessFaults (leb (c + b) 251) 8 (settle code.now (Found.At to)
+        (unless_faults (leb (c + b) 251) 8 (settle code.now (Found.At to)
         (take kept stack.now ++ ((c + b + 4) ∷ [])) loopstart []))) }
 {
     if zero {
@@ -101,7 +101,7 @@ pub fn enter_while(code: &[u8], stack: &[u8], at: usize, loopstart: u16) -> Step
 // ENDWHILE takes one raw byte: only fault 5.
 pub fn end_while(code: &[u8], stack: &[u8], at: usize, loopstart: u16) -> Step
     requires { Ready code.now stack.now at }
-    ensures { Means stack.now result (endsWhile code.now stack.now loopstart at) }
+    ensures { Means stack.now result (ends_while code.now stack.now loopstart at) }
 {
     let n = stack.len();
     if n < 1 {
@@ -118,7 +118,7 @@ pub fn end_while(code: &[u8], stack: &[u8], at: usize, loopstart: u16) -> Step
 // LOOP, whatever loop was marked before.
 pub fn mark_loop(code: &[u8], stack: &[u8], at: usize) -> Step
     requires { Ready code.now stack.now at }
-    ensures { Means stack.now result (marksLoop code.now stack.now 0 at) }
+    ensures { Means stack.now result (marks_loop code.now stack.now 0 at) }
 {
     let from = at + 1;
     jump(code, stack, from, from as u16)
@@ -127,7 +127,7 @@ pub fn mark_loop(code: &[u8], stack: &[u8], at: usize) -> Step
 // ENDLOOP. Document 01: "3 jump outside 0 to the code length, or ENDLOOP with no loop"
 pub fn loop_back(code: &[u8], stack: &[u8], at: usize, loopstart: u16) -> Step
     requires { Ready code.now stack.now at }
-    ensures { Means stack.now result (loopsBack code.now stack.now loopstart at) }
+    ensures { Means stack.now result (loops_back code.now stack.now loopstart at) }
 {
     if loopstart == NO_LOOP {
         return last_step(Action::Fault(3));

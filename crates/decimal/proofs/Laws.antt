@@ -11,7 +11,7 @@ use lib.ListN.{length, replicate, set, take, drop, length-append, length-drop, l
 use lib.Seq.{drop-cons, get_or-set_same, drop-set-lt, take-set-le, take-take, drop_at, take-length}
 use borrow.Author.Tests.{le-leb}
 use Rattle.buffer.proofs.Lists.{take-replicate}
-use Rattle.decimal.specs.Decimal.{decimal, digitsOf, ifMore, lastDigits, maxDigits}
+use Rattle.decimal.specs.Decimal.{decimal, digits_of, if_more, last_digits, max_digits}
 use Rattle.decimal.specs.declared.Digits.{Digits}
 
 -- a number that needs another digit has room for it
@@ -30,14 +30,15 @@ written k b d h =
     ∙ ap (λ (x : ℕ). x ∷ drop (suc k) (set b k d)) (get_or-set_same b k d 0 h)
     ∙ ap (λ (l : List ℕ). d ∷ l) (drop-set-lt (suc k) b k d (omega arith))
 
-pub digit-next : (s r d : ℕ) (b : List ℕ) → 10 ≤ r → 0 < s → s < length b → d ≡ 48 + r / 10 % 10 → ifMore (leb 10 r) (lastDigits s (r / 10))
-    ++ drop s b ≡ ifMore (leb 10 (r / 10)) (lastDigits (s - 1) (r / 10 / 10)) ++ drop (s - 1) (set b (s - 1) d)
-unfolding lastDigits
+pub digit-next : (s r d : ℕ) (b : List ℕ) → 10 ≤ r → 0 < s → s < length b → d ≡ 48 + r / 10 % 10
+    → if_more (leb 10 r) (last_digits s (r / 10))
+    ++ drop s b ≡ if_more (leb 10 (r / 10)) (last_digits (s - 1) (r / 10 / 10)) ++ drop (s - 1) (set b (s - 1) d)
+unfolding last_digits
 digit-next zero r d b h k l e = absurd (not-suc-le-zero k)
 digit-next (suc s) r d b h k l e =
     let m : suc s - 1 ≡ s = omega arith in
     rw (m, le-leb _ _ h, written s b d (omega arith), e)
-    (append_assoc (ifMore (leb 10 (r / 10)) (lastDigits s (r / 10 / 10))) ((48 + r / 10 % 10) ∷ []) (drop (suc s) b))
+    (append_assoc (if_more (leb 10 (r / 10)) (last_digits s (r / 10 / 10))) ((48 + r / 10 % 10) ∷ []) (drop (suc s) b))
 
 -- ---- what stands before the digits
 pub zeros-shorter : (b : List ℕ) (s d : ℕ) → 0 < s → take s b ≡ replicate s 0 → take (s - 1) (set b (s - 1) d) ≡ replicate (s - 1) 0
@@ -47,33 +48,33 @@ zeros-shorter b s d h e =
     ∙ ap (take (s - 1)) e
     ∙ take-replicate 0 s (s - 1) (omega arith)
 
-module _ (n : ℕ) (b : List ℕ) (s : ℕ) (size : length b ≡ maxDigits) (inside : s < maxDigits) where
+module _ (n : ℕ) (b : List ℕ) (s : ℕ) (size : length b ≡ max_digits) (inside : s < max_digits) where
   zeros-first : take s b ≡ replicate s 0 → decimal n ≡ drop s b → replicate s 0 ++ decimal n ≡ b
   zeros-first zeros digits = rw (← zeros, digits) (take-append-drop s b)
 
-  pub as-digits : take s b ≡ replicate s 0 → decimal n ≡ drop s b → digitsOf n ≡ record { bytes = b; start = s }
+  pub as-digits : take s b ≡ replicate s 0 → decimal n ≡ drop s b → digits_of n ≡ record { bytes = b; start = s }
   as-digits zeros digits =
-      let long : length (decimal n) ≡ maxDigits - s = ap length digits ∙ length-drop s b ∙ omega arith in
-      let m : maxDigits - length (decimal n) ≡ s = omega arith in
+      let long : length (decimal n) ≡ max_digits - s = ap length digits ∙ length-drop s b ∙ omega arith in
+      let m : max_digits - length (decimal n) ≡ s = omega arith in
       rw m (ap (λ (l : List ℕ). record { bytes = l; start = s }) (zeros-first zeros digits))
 
 -- ---- how many digits
-pub digits-few : (f n : ℕ) → length (lastDigits f n) ≤ f
-unfolding lastDigits
+pub digits-few : (f n : ℕ) → length (last_digits f n) ≤ f
+unfolding last_digits
 digits-few zero n = omega arith
 digits-few (suc f) n =
-    let rest = if-more-few (leb 10 n) (lastDigits f (n / 10)) in
+    let rest = if-more-few (leb 10 n) (last_digits f (n / 10)) in
     let few = digits-few f (n / 10) in
-    omega (arith, length-append (ifMore (leb 10 n) (lastDigits f (n / 10))) ((48 + n % 10) ∷ []))
+    omega (arith, length-append (if_more (leb 10 n) (last_digits f (n / 10))) ((48 + n % 10) ∷ []))
   where
-    if-more-few : (more : Bool) (l : List ℕ) → length (ifMore more l) ≤ length l
+    if-more-few : (more : Bool) (l : List ℕ) → length (if_more more l) ≤ length l
     if-more-few true l = omega arith
     if-more-few false l = omega arith
 
 -- the part from start on is all the digits
-pub digits-part : (n : ℕ) (d : Digits) → d ≡ digitsOf n → take (maxDigits - d.start) (drop d.start d.bytes) ≡ decimal n
+pub digits-part : (n : ℕ) (d : Digits) → d ≡ digits_of n → take (max_digits - d.start) (drop d.start d.bytes) ≡ decimal n
 digits-part n d e =
-    let long = digits-few maxDigits n in
-    let k : ℕ = maxDigits - length (decimal n) in
-    let m : maxDigits - k ≡ length (decimal n) = omega arith in
+    let long = digits-few max_digits n in
+    let k : ℕ = max_digits - length (decimal n) in
+    let m : max_digits - k ≡ length (decimal n) = omega arith in
     rw (e, m, drop_at (replicate k 0) (decimal n) k (length-replicate k 0)) (take-length (decimal n))

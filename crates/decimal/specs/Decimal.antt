@@ -3,27 +3,27 @@ use Rattle.std.specs.Prelude.{ℕ, zero, suc, ◌+◌, ◌-◌, ◌/◌, ◌%◌
 use Rattle.std.specs.Prelude.{replicate}
 use Rattle.decimal.specs.declared.Digits.{Digits}
 
-abbrev pub ifMore : Bool → List ℕ → List ℕ
-ifMore true l = l
-ifMore false l = []
+abbrev pub if_more : Bool → List ℕ → List ℕ
+if_more true l = l
+if_more false l = []
 
 -- the last digits of n, as many as it has and at most f, in ASCII
-unfoldable pub lastDigits : ℕ → ℕ → List ℕ
-lastDigits zero n = []
-lastDigits (suc f) n = ifMore (leb 10 n) (lastDigits f (n / 10)) ++ ((48 + n % 10) ∷ [])
+unfoldable pub last_digits : ℕ → ℕ → List ℕ
+last_digits zero n = []
+last_digits (suc f) n = if_more (leb 10 n) (last_digits f (n / 10)) ++ ((48 + n % 10) ∷ [])
 
 -- as many digits as a 32-bit number may have
-abbrev pub maxDigits : ℕ
-maxDigits = 10
+abbrev pub max_digits : ℕ
+max_digits = 10
 
 -- all digits of an n below 10 ^ 10, as every 32-bit number is
 abbrev pub decimal : ℕ → List ℕ
-decimal n = lastDigits maxDigits n
+decimal n = last_digits max_digits n
 
 -- the digits of n at the end, zeros before them
-abbrev pub digitsOf : ℕ → Digits
-digitsOf n = record {
-  bytes = replicate (maxDigits - length (decimal n)) 0
+abbrev pub digits_of : ℕ → Digits
+digits_of n = record {
+  bytes = replicate (max_digits - length (decimal n)) 0
       ++ decimal n;
-  start = maxDigits - length (decimal n);
+  start = max_digits - length (decimal n);
 }

@@ -3,7 +3,7 @@
 
 ghost use Rattle.std.specs.Prelude.{◌≡◌, ◌+◌, ◌<◌, ◌≤◌, length};
 ghost use Rattle.buffer.specs.Laid.{Laid};
-ghost use Rattle.decimal.specs.Decimal.{decimal, digitsOf, maxDigits};
+ghost use Rattle.decimal.specs.Decimal.{decimal, digits_of, max_digits};
 
 pub const MAX_DIGITS: usize = 10;
 
@@ -24,7 +24,7 @@ fn digit(n: u32) -> u8
 }
 
 pub fn digits_of(n: u32) -> Digits
-    ensures { (result ≡ digitsOf n) × (result.start < maxDigits) }
+    ensures { (result ≡ digits_of n) × (result.start < max_digits) }
 {
     let mut bytes = [0u8; MAX_DIGITS];
     let mut start: usize = LAST_DIGIT;

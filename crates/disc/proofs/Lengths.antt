@@ -10,25 +10,25 @@ use lib.ListN.{length}
 use borrow.Author.Tests.{eqb-true}
 use Rattle.buffer.proofs.Bools.{not-true-is-false}
 use Rattle.buffer.proofs.Disjunctions.{or_cases}
-use Rattle.disc.specs.Directory.{DiscLength, Readable, goodDisc, isDiscLength}
-use Rattle.disc.specs.Layout.{dataStart, longDisc, shortDisc}
+use Rattle.disc.specs.Directory.{DiscLength, Readable, good_disc, is_disc_length}
+use Rattle.disc.specs.Layout.{data_start, long_disc, short_disc}
 use Rattle.disc.proofs.Goodness.{good-disc-is}
 
-pub disc-length-is : (n : ℕ) → isDiscLength n ≡ true → DiscLength n
-unfolding isDiscLength DiscLength
+pub disc-length-is : (n : ℕ) → is_disc_length n ≡ true → DiscLength n
+unfolding is_disc_length DiscLength
 disc-length-is n e =
-    ⊎_elim (λ t. inl (eqb-true n shortDisc t)) (λ t. inr (eqb-true n longDisc t))
-    (or_cases (eqb n shortDisc) (eqb n longDisc) e)
+    ⊎_elim (λ t. inl (eqb-true n short_disc t)) (λ t. inr (eqb-true n long_disc t))
+    (or_cases (eqb n short_disc) (eqb n long_disc) e)
 
-pub is-disc-length : (n : ℕ) → DiscLength n → isDiscLength n ≡ true
-unfolding isDiscLength DiscLength
+pub is-disc-length : (n : ℕ) → DiscLength n → is_disc_length n ≡ true
+unfolding is_disc_length DiscLength
 is-disc-length n (inl e) = rw e refl
 is-disc-length n (inr e) = rw e refl
 
 -- of every length but the new one the test says what document 01's said
-pub as_before : (n : ℕ) → (n ≡ longDisc → ⊥) → isDiscLength n ≡ eqb n shortDisc
-unfolding isDiscLength
-as_before n h = rw (not-true-is-false (eqb n longDisc) (λ t. h (eqb-true n longDisc t))) (or_nothing (eqb n shortDisc))
+pub as_before : (n : ℕ) → (n ≡ long_disc → ⊥) → is_disc_length n ≡ eqb n short_disc
+unfolding is_disc_length
+as_before n h = rw (not-true-is-false (eqb n long_disc) (λ t. h (eqb-true n long_disc t))) (or_nothing (eqb n short_disc))
   where
     or_nothing : (b : Bool) → b || false ≡ b
     or_nothing true = refl
@@ -36,10 +36,10 @@ as_before n h = rw (not-true-is-false (eqb n longDisc) (λ t. h (eqb-true n long
 
 -- as long as a disc has to be for its directory, and as short as for places of 16 bits
 pub record DiscBounds (n : ℕ) : Type 0 where
-  pub low : dataStart ≤ n
+  pub low : data_start ≤ n
   pub high : n ≤ 65535
 
-pub disc-bounds : (n : ℕ) → isDiscLength n ≡ true → DiscBounds n
+pub disc-bounds : (n : ℕ) → is_disc_length n ≡ true → DiscBounds n
 unfolding DiscLength
 disc-bounds n e = go (disc-length-is n e)
   where
@@ -47,7 +47,7 @@ disc-bounds n e = go (disc-length-is n e)
     go (inl q) = record { low = omega arith; high = omega arith }
     go (inr q) = record { low = omega arith; high = omega arith }
 
-pub readable : (disc : List ℕ) → isDiscLength (length disc) ≡ true → goodDisc disc ≡ true → Readable disc
+pub readable : (disc : List ℕ) → is_disc_length (length disc) ≡ true → good_disc disc ≡ true → Readable disc
 readable disc l g =
     let n = disc-bounds (length disc) l in
     record { low = n.low; high = n.high; few = (good-disc-is disc g).few }

@@ -11,18 +11,18 @@ use Rattle.buffer.specs.Buffer.{part}
 use Rattle.buffer.proofs.Scattered.{Distinct, gathered-part}
 use Rattle.place.specs.declared.Run.{Run}
 use Rattle.place.proofs.Place.{apart-is}
-use Rattle.disc.specs.Directory.{Held, contents, entry_at, fileCount, goodDisc, location, runOf}
-use Rattle.disc.specs.Layout.{dataStart}
+use Rattle.disc.specs.Directory.{Held, contents, entry_at, file_count, good_disc, location, run_of}
+use Rattle.disc.specs.Layout.{data_start}
 use Rattle.disc.proofs.Goodness.{beside_at, good-entry-at}
 
 -- a file of a good disc
-pub file-held : (disc : List ℕ) → goodDisc disc ≡ true → (i : ℕ) → i < fileCount disc → Held disc (runOf (entry_at disc i))
+pub file-held : (disc : List ℕ) → good_disc disc ≡ true → (i : ℕ) → i < file_count disc → Held disc (run_of (entry_at disc i))
 file-held disc good i h = record { sound = good; file = record { place = i; inside = h; run_is = refl } }
 
 -- ---- the bytes of one file
 -- between the directory and the disc's end
 record Between (disc : List ℕ) (run : Run) : Type 0 where
-  low : dataStart ≤ run.start
+  low : data_start ≤ run.start
   high : run.start + run.len ≤ length disc
 
 between : {disc : List ℕ} {run : Run} → Held disc run → Between disc run
@@ -37,7 +37,7 @@ module _ {disc : List ℕ} {run : Run} (h : Held disc run) where
       let b = between h in
       record { inside = λ i k. omega (arith, b.high); once = λ i j k m e. omega arith }
 
-  pub held-data : (i : ℕ) → i < run.len → dataStart ≤ location disc run i
+  pub held-data : (i : ℕ) → i < run.len → data_start ≤ location disc run i
   unfolding location
   held-data i k = omega (arith, (between h).low)
 
@@ -50,15 +50,15 @@ module _ {disc : List ℕ} {run : Run} (h : Held disc run) where
   contents-part = gathered-part disc run.start run.len held-inside
 
 -- ---- two files share no byte
-pub files-apart : (disc : List ℕ) → goodDisc disc ≡ true → (i j : ℕ) → i < fileCount disc → j < fileCount disc → (i ≡ j → ⊥)
+pub files-apart : (disc : List ℕ) → good_disc disc ≡ true → (i j : ℕ) → i < file_count disc → j < file_count disc → (i ≡ j → ⊥)
     → (a b : ℕ) → a < (entry_at disc i).len → b < (entry_at disc j).len
-    → location disc (runOf (entry_at disc j)) b ≡ location disc (runOf (entry_at disc i)) a → ⊥
+    → location disc (run_of (entry_at disc j)) b ≡ location disc (run_of (entry_at disc i)) a → ⊥
 unfolding location
 files-apart disc good i j h k n a b p q e =
     let d = entry_at disc i in
     let f = entry_at disc j in
     ⊎_elim (λ (w : d.start + d.len ≤ f.start). omega arith) (λ (w : f.start + f.len ≤ d.start). omega arith)
-    (apart-is (runOf d) (runOf f) (beside_at disc good i j h k n).clear).sides
+    (apart-is (run_of d) (run_of f) (beside_at disc good i j h k n).clear).sides
 
 -- ---- where a file lies is said by its start alone
 pub location-kept : (d e : List ℕ) (run : Run) (i : ℕ) → location d run i ≡ location e run i

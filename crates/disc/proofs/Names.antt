@@ -14,8 +14,8 @@ use borrow.Author.Tests.{eq-eqb, eqb-true, leb-true, le-leb, ne_eqb}
 use Rattle.buffer.specs.Lists.{all, same}
 use Rattle.buffer.proofs.Bools.{and_left, and_right, and_both}
 use Rattle.buffer.proofs.Lists.{same-eq, same_refl}
-use Rattle.disc.specs.Layout.{maxName, nameSize}
-use Rattle.disc.specs.Name.{goodField, goodName, isNameByte, padded, trimmed, unlessZero}
+use Rattle.disc.specs.Layout.{max_name, name_size}
+use Rattle.disc.specs.Name.{good_field, good_name, is_name_byte, padded, trimmed, unless_zero}
 
 -- ---- texts
 -- no byte before n is zero, and the one at n is, or there is none
@@ -35,7 +35,7 @@ unfolding trimmed
 by-text P none stop more [] = none
 by-text P none stop more (b ∷ l) = go (eqb b 0) refl (by-text P none stop more l)
   where
-    go : (t : Bool) → eqb b 0 ≡ t → P l (trimmed l) → P (b ∷ l) (unlessZero t b (trimmed l))
+    go : (t : Bool) → eqb b 0 ≡ t → P l (trimmed l) → P (b ∷ l) (unless_zero t b (trimmed l))
     go true e r = subst (λ (x : ℕ). P (x ∷ l) []) (sym (eqb-true b 0 e)) (stop l)
     go false e r = more b l r
 
@@ -43,8 +43,8 @@ pub trimmed-short : (l : List ℕ) → length (trimmed l) ≤ length l
 trimmed-short = by-text (λ l t. length t ≤ length l) (omega arith) (λ l. omega arith) (λ b l h. omega arith)
 
 -- the text of bytes that begin with a name's field
-pub field-short : (l : List ℕ) → length (trimmed (take nameSize l)) ≤ nameSize
-field-short l = omega (arith, trimmed-short (take nameSize l), length-take nameSize l, min-le_left nameSize (length l))
+pub field-short : (l : List ℕ) → length (trimmed (take name_size l)) ≤ name_size
+field-short l = omega (arith, trimmed-short (take name_size l), length-take name_size l, min-le_left name_size (length l))
 
 pub trimmed-first : (l : List ℕ) → take (length (trimmed l)) l ≡ trimmed l
 trimmed-first = by-text (λ l t. take (length t) l ≡ t) refl (λ l. refl) (λ b l h. ap (λ (m : List ℕ). b ∷ m) h)
@@ -64,61 +64,62 @@ text-with-zero l h = rw (add-one, take-suc l (length (trimmed l)) 0 h, trimmed-f
 -- ---- good names
 pub record GoodName (name : List ℕ) : Type 0 where
   pub some : 1 ≤ length name
-  pub short : length name ≤ maxName
-  pub bytes : all isNameByte name ≡ true
+  pub short : length name ≤ max_name
+  pub bytes : all is_name_byte name ≡ true
 
-pub good-name-is : (name : List ℕ) → goodName name ≡ true → GoodName name
-unfolding goodName
+pub good-name-is : (name : List ℕ) → good_name name ≡ true → GoodName name
+unfolding good_name
 good-name-is name e =
-    let r = and_right (leb 1 (length name)) (leb (length name) maxName && all isNameByte name) e in
+    let r = and_right (leb 1 (length name)) (leb (length name) max_name && all is_name_byte name) e in
     record {
       some = leb-true _ _ (and_left (leb 1 (length name)) _ e);
-      short = leb-true _ _ (and_left (leb (length name) maxName) _ r);
-      bytes = and_right (leb (length name) maxName) _ r;
+      short = leb-true _ _ (and_left (leb (length name) max_name) _ r);
+      bytes = and_right (leb (length name) max_name) _ r;
     }
 
-pub is-good-name : (name : List ℕ) → GoodName name → goodName name ≡ true
-unfolding goodName
+pub is-good-name : (name : List ℕ) → GoodName name → good_name name ≡ true
+unfolding good_name
 is-good-name name g = and_both (le-leb _ _ g.some) (and_both (le-leb _ _ g.short) g.bytes)
 
 -- ---- padded names
-pub padded-length : (name : List ℕ) → length name ≤ nameSize → length (padded name) ≡ nameSize
-padded-length name h = length-append name (replicate (nameSize - length name) 0)
-    ∙ ap (λ (k : ℕ). length name + k) (length-replicate (nameSize - length name) 0) ∙ omega arith
+pub padded-length : (name : List ℕ) → length name ≤ name_size → length (padded name) ≡ name_size
+padded-length name h = length-append name (replicate (name_size - length name) 0)
+    ∙ ap (λ (k : ℕ). length name + k) (length-replicate (name_size - length name) 0) ∙ omega arith
 
 pub trimmed-zeros : (n : ℕ) → trimmed (replicate n 0) ≡ []
 unfolding trimmed
 trimmed-zeros zero = refl
 trimmed-zeros (suc n) = refl
 
-trimmed-filled : (name : List ℕ) (n : ℕ) → all isNameByte name ≡ true → trimmed (name ++ replicate n 0) ≡ name
+trimmed-filled : (name : List ℕ) (n : ℕ) → all is_name_byte name ≡ true → trimmed (name ++ replicate n 0) ≡ name
 unfolding trimmed all
 trimmed-filled [] n e = trimmed-zeros n
 trimmed-filled (b ∷ name) n e =
-    let low : 33 ≤ b = leb-true _ _ (and_left (leb 33 b) (leb b 126) (and_left (isNameByte b) (all isNameByte name) e)) in
+    let low : 33 ≤ b = leb-true _ _ (and_left (leb 33 b) (leb b 126) (and_left (is_name_byte b) (all is_name_byte name) e)) in
     let z : eqb b 0 ≡ false = ne_eqb b 0 (omega arith) in
-    rw z (ap (λ (l : List ℕ). b ∷ l) (trimmed-filled name n (and_right (isNameByte b) (all isNameByte name) e)))
+    rw z (ap (λ (l : List ℕ). b ∷ l) (trimmed-filled name n (and_right (is_name_byte b) (all is_name_byte name) e)))
 
-pub trimmed-padded : (name : List ℕ) → goodName name ≡ true → trimmed (padded name) ≡ name
-trimmed-padded name g = trimmed-filled name (nameSize - length name) (good-name-is name g).bytes
+pub trimmed-padded : (name : List ℕ) → good_name name ≡ true → trimmed (padded name) ≡ name
+trimmed-padded name g = trimmed-filled name (name_size - length name) (good-name-is name g).bytes
 
 -- two good names that are padded alike are one
-pub padded-injective : (a b : List ℕ) → goodName a ≡ true → goodName b ≡ true → padded a ≡ padded b → a ≡ b
+pub padded-injective : (a b : List ℕ) → good_name a ≡ true → good_name b ≡ true → padded a ≡ padded b → a ≡ b
 padded-injective a b g h e = sym (trimmed-padded a g) ∙ ap trimmed e ∙ trimmed-padded b h
 
 -- ---- good fields
-pub padded-good : (name : List ℕ) → goodName name ≡ true → goodField (padded name) ≡ true
-unfolding goodField
+pub padded-good : (name : List ℕ) → good_name name ≡ true → good_field (padded name) ≡ true
+unfolding good_field
 padded-good name g = rw (trimmed-padded name g) (and_both g (same_refl (padded name)))
 
-pub field-name-good : (field : List ℕ) → goodField field ≡ true → goodName (trimmed field) ≡ true
-unfolding goodField
-field-name-good field e = and_left (goodName (trimmed field)) (same field (padded (trimmed field))) e
+pub field-name-good : (field : List ℕ) → good_field field ≡ true → good_name (trimmed field) ≡ true
+unfolding good_field
+field-name-good field e = and_left (good_name (trimmed field)) (same field (padded (trimmed field))) e
 
-pub field-padded : (field : List ℕ) → goodField field ≡ true → field ≡ padded (trimmed field)
-unfolding goodField
-field-padded field e = same-eq field (padded (trimmed field)) (and_right (goodName (trimmed field)) (same field (padded (trimmed field))) e)
+pub field-padded : (field : List ℕ) → good_field field ≡ true → field ≡ padded (trimmed field)
+unfolding good_field
+field-padded field e = same-eq field (padded (trimmed field))
+    (and_right (good_name (trimmed field)) (same field (padded (trimmed field))) e)
 
-pub field-length : (field : List ℕ) → goodField field ≡ true → length field ≡ nameSize
+pub field-length : (field : List ℕ) → good_field field ≡ true → length field ≡ name_size
 field-length field e = ap length (field-padded field e)
     ∙ padded-length (trimmed field) (omega (arith, (good-name-is (trimmed field) (field-name-good field e)).short))

@@ -6,22 +6,22 @@ use native.Mathlib.Omega.{arith}
 use Rattle.buffer.specs.Buffer.{part}
 use Rattle.buffer.proofs.Parts.{part-first, part-word}
 use Rattle.place.specs.Place.{run_from}
-use Rattle.disc.specs.Directory.{contents, entry_at, runOf}
-use Rattle.disc.specs.Layout.{entrySize, nameSize}
-use Rattle.disc.specs.Offsets.{bytes_of, entryStart, size_of, start_of}
+use Rattle.disc.specs.Directory.{contents, entry_at, run_of}
+use Rattle.disc.specs.Layout.{entry_size, name_size}
+use Rattle.disc.specs.Offsets.{bytes_of, entry_start, size_of, start_of}
 
 module _ (disc : List ℕ) (i : ℕ) where
-  pub entry-name : (entry_at disc i).name ≡ part disc (entryStart i) nameSize
+  pub entry-name : (entry_at disc i).name ≡ part disc (entry_start i) name_size
   unfolding entry_at
-  entry-name = part-first disc (entryStart i) nameSize entrySize (omega arith)
+  entry-name = part-first disc (entry_start i) name_size entry_size (omega arith)
 
   pub entry-start : (entry_at disc i).start ≡ start_of disc i
   unfolding entry_at
-  entry-start = part-word disc (entryStart i) entrySize 12 (omega arith)
+  entry-start = part-word disc (entry_start i) entry_size 12 (omega arith)
 
   pub entry-size : (entry_at disc i).len ≡ size_of disc i
   unfolding entry_at
-  entry-size = part-word disc (entryStart i) entrySize 14 (omega arith)
+  entry-size = part-word disc (entry_start i) entry_size 14 (omega arith)
 
-  pub bytes-of : contents disc (runOf (entry_at disc i)) ≡ bytes_of disc i
+  pub bytes-of : contents disc (run_of (entry_at disc i)) ≡ bytes_of disc i
   bytes-of = λ z. contents disc (run_from (entry-start z) (entry-size z))

@@ -6,31 +6,31 @@
 use Rattle.std.specs.Prelude.{ℕ}
 
 -- Document 01: "Disc, 1,024 bytes."
-abbrev pub shortDisc : ℕ
-shortDisc = 1024
+abbrev pub short_disc : ℕ
+short_disc = 1024
 
 -- Document 02, Q-2: "The jib board has 4,096 bytes."
-abbrev pub longDisc : ℕ
-longDisc = 4096
+abbrev pub long_disc : ℕ
+long_disc = 4096
 
 -- Document 01: "Ten directory entries of 16 bytes from 0: name 12, start 2, length 2."
-abbrev pub maxFiles : ℕ
-maxFiles = 10
+abbrev pub max_files : ℕ
+max_files = 10
 
-abbrev pub entrySize : ℕ
-entrySize = 16
+abbrev pub entry_size : ℕ
+entry_size = 16
 
-abbrev pub nameSize : ℕ
-nameSize = 12
+abbrev pub name_size : ℕ
+name_size = 12
 
 -- Document 01: "A name is 1 to 11 bytes"
-abbrev pub maxName : ℕ
-maxName = 11
+abbrev pub max_name : ℕ
+max_name = 11
 
 -- Document 01: "Byte 160 is the file count"
-abbrev pub countAt : ℕ
-countAt = 160
+abbrev pub count_at : ℕ
+count_at = 160
 
 -- Document 01: "Data lie at 161 to 1023"; Q-2: "data ending at 1023 or 4095", which is where the disc ends
-abbrev pub dataStart : ℕ
-dataStart = 161
+abbrev pub data_start : ℕ
+data_start = 161

@@ -4,16 +4,16 @@ use Rattle.std.specs.Prelude.{ℕ, ◌+◌, ◌*◌, List}
 use Rattle.buffer.specs.Buffer.{word_at}
 use Rattle.place.specs.Place.{run_from}
 use Rattle.disc.specs.Directory.{contents}
-use Rattle.disc.specs.Layout.{entrySize}
+use Rattle.disc.specs.Layout.{entry_size}
 
-abbrev pub entryStart : ℕ → ℕ
-entryStart i = i * entrySize
+abbrev pub entry_start : ℕ → ℕ
+entry_start i = i * entry_size
 
 abbrev pub start_of : List ℕ → ℕ → ℕ
-start_of disc i = word_at disc (entryStart i + 12)
+start_of disc i = word_at disc (entry_start i + 12)
 
 abbrev pub size_of : List ℕ → ℕ → ℕ
-size_of disc i = word_at disc (entryStart i + 14)
+size_of disc i = word_at disc (entry_start i + 14)
 
 -- what file i holds
 abbrev pub bytes_of : List ℕ → ℕ → List ℕ

@@ -2,8 +2,8 @@
 ghost use Rattle.std.specs.Prelude.{◌≡◌, ◌+◌, ◌*◌, ◌<◌, ◌≤◌, length};
 ghost use Rattle.buffer.specs.Buffer.{overwrite};
 ghost use Rattle.place.specs.Place.{filled};
-ghost use Rattle.disc.specs.Directory.{Readable, entry_at, entryBytes, fileCount, lookup, runOf, taken};
-ghost use Rattle.disc.specs.Layout.{dataStart, entrySize, maxFiles};
+ghost use Rattle.disc.specs.Directory.{Readable, entry_at, entry_bytes, file_count, lookup, run_of, taken};
+ghost use Rattle.disc.specs.Layout.{data_start, entry_size, max_files};
 
 use crate::Entry;
 use crate::layout::{COUNT_AT, ENTRY_SIZE, NAME_SIZE};
@@ -11,14 +11,14 @@ use buffer::Found;
 use place::{MAX_RUNS, Run};
 
 pub fn file_count(disc: &[u8]) -> usize
-    requires { dataStart ≤ length disc.now }
-    ensures { result ≡ fileCount disc.now }
+    requires { data_start ≤ length disc.now }
+    ensures { result ≡ file_count disc.now }
 {
     disc[COUNT_AT] as usize
 }
 
 pub fn entry_at(disc: &[u8], i: usize) -> Entry
-    requires { (dataStart ≤ length disc.now) × (i < maxFiles) }
+    requires { (data_start ≤ length disc.now) × (i < max_files) }
     ensures { result ≡ entry_at disc.now i }
 {
     let at = i * ENTRY_SIZE;
@@ -34,8 +34,8 @@ pub fn entry_at(disc: &[u8], i: usize) -> Entry
 }
 
 pub fn put_entry(disc: &mut [u8], i: usize, entry: Entry)
-    requires { (dataStart ≤ length disc.old) × (i < maxFiles) }
-    ensures { disc.new ≡ overwrite disc.old (i * entrySize) (entryBytes entry) }
+    requires { (data_start ≤ length disc.old) × (i < max_files) }
+    ensures { disc.new ≡ overwrite disc.old (i * entry_size) (entry_bytes entry) }
 {
     let at = i * ENTRY_SIZE;
     let name = entry.name;
@@ -72,7 +72,7 @@ pub fn find(disc: &[u8], name: &[u8]) -> Found
 }
 
 pub fn run_of(entry: Entry) -> Run
-    ensures { result ≡ runOf entry }
+    ensures { result ≡ run_of entry }
 {
     Run {
         start: entry.start,

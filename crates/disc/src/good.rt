@@ -4,9 +4,9 @@
 ghost use Rattle.std.specs.Prelude.{◌≡◌, ◌&&◌, ◌||◌, ◌+◌, ◌<◌, ◌≤◌, eqb, length};
 ghost use Rattle.buffer.specs.Buffer.{part};
 ghost use Rattle.buffer.specs.Lists.{all, same, tab};
-ghost use Rattle.disc.specs.Directory.{beside, entry_at, goodDisc, goodEntry, isDiscLength, runOf};
-ghost use Rattle.disc.specs.Layout.{dataStart, maxFiles, nameSize};
-ghost use Rattle.disc.specs.Name.{goodField, isNameByte};
+ghost use Rattle.disc.specs.Directory.{beside, entry_at, good_disc, good_entry, is_disc_length, run_of};
+ghost use Rattle.disc.specs.Layout.{data_start, max_files, name_size};
+ghost use Rattle.disc.specs.Name.{good_field, is_name_byte};
 
 use crate::layout::{
     DATA_START, ENTRY_SIZE, LONG_DISC, MAX_FILES, MAX_NAME, NAME_SIZE, SHORT_DISC,
@@ -16,22 +16,22 @@ use place::{Run, is_apart, run_end};
 
 // Document 02, Q-2: "Either length is now a disc".
 pub fn is_disc_length(n: usize) -> bool
-    ensures { result ≡ isDiscLength n }
+    ensures { result ≡ is_disc_length n }
 {
     (n == SHORT_DISC) | (n == LONG_DISC)
 }
 
 // A byte of a name, or a zero with another behind it.
 fn is_field_byte(b: u8, next: u8) -> bool
-    ensures { result ≡ (eqb b 0 && eqb next 0) || isNameByte b }
+    ensures { result ≡ (eqb b 0 && eqb next 0) || is_name_byte b }
 {
     ((b == 0) & (next == 0)) | ((33 <= b) & (b <= 126))
 }
 
 // Document 01: "A name is 1 to 11 bytes of 33 to 126, zero-filled."
 fn is_good_field(disc: &[u8], at: usize) -> bool
-    requires { at + nameSize ≤ length disc.now }
-    ensures { result ≡ goodField (part disc.now at nameSize) }
+    requires { at + name_size ≤ length disc.now }
+    ensures { result ≡ good_field (part disc.now at name_size) }
 {
     let mut good = (disc[at] != 0) & (disc[at + MAX_NAME] == 0);
     let mut i: u32 = 0;
@@ -45,8 +45,8 @@ fn is_good_field(disc: &[u8], at: usize) -> bool
 
 // The bytes that the file of the entry at i takes.
 fn run_at(disc: &[u8], i: usize) -> Run
-    requires { (dataStart ≤ length disc.now) × (i < maxFiles) }
-    ensures { result ≡ runOf (entry_at disc.now i) }
+    requires { (data_start ≤ length disc.now) × (i < max_files) }
+    ensures { result ≡ run_of (entry_at disc.now i) }
 {
     let at = i * ENTRY_SIZE + NAME_SIZE;
     let start = word_at(disc, at);
@@ -58,8 +58,8 @@ fn run_at(disc: &[u8], i: usize) -> Run
 }
 
 fn is_good_entry(disc: &[u8], i: usize) -> bool
-    requires { (dataStart ≤ length disc.now) × (i < maxFiles) }
-    ensures { result ≡ goodEntry (length disc.now) (entry_at disc.now i) }
+    requires { (data_start ≤ length disc.now) × (i < max_files) }
+    ensures { result ≡ good_entry (length disc.now) (entry_at disc.now i) }
 {
     if !is_good_field(disc, i * ENTRY_SIZE) {
         return false;
@@ -76,8 +76,8 @@ fn is_good_entry(disc: &[u8], i: usize) -> bool
 
 // Whether the same name stands at both places, as three numbers of four bytes.
 pub fn same_name(a: &[u8], i: usize, b: &[u8], j: usize) -> bool
-    requires { (i + nameSize ≤ length a.now) × (j + nameSize ≤ length b.now) }
-    ensures { result ≡ same (part a.now i nameSize) (part b.now j nameSize) }
+    requires { (i + name_size ≤ length a.now) × (j + name_size ≤ length b.now) }
+    ensures { result ≡ same (part a.now i name_size) (part b.now j name_size) }
 {
     (four_at(a, i) == four_at(b, j))
         & ((four_at(a, i + 4) == four_at(b, j + 4)) & (four_at(a, i + 8) == four_at(b, j + 8)))
@@ -85,7 +85,7 @@ pub fn same_name(a: &[u8], i: usize, b: &[u8], j: usize) -> bool
 
 // Whether the entry at i is beside every earlier one.
 fn is_beside_earlier(disc: &[u8], i: usize) -> bool
-    requires { (dataStart ≤ length disc.now) × (i < maxFiles) }
+    requires { (data_start ≤ length disc.now) × (i < max_files) }
     ensures { result ≡ all (λ e. beside e (entry_at disc.now i)) (tab (entry_at disc.now) i) }
 {
     let run = run_at(disc, i);
@@ -104,8 +104,8 @@ fn is_beside_earlier(disc: &[u8], i: usize) -> bool
 }
 
 pub fn is_good_disc(disc: &[u8]) -> bool
-    requires { dataStart ≤ length disc.now }
-    ensures { result ≡ goodDisc disc.now }
+    requires { data_start ≤ length disc.now }
+    ensures { result ≡ good_disc disc.now }
 {
     let count = crate::directory::file_count(disc);
     if MAX_FILES < count {

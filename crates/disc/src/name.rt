@@ -1,13 +1,13 @@
 // File names: as they are given, and as the directory holds them.
 ghost use Rattle.std.specs.Prelude.{◌≡◌, ◌+◌, ◌≤◌, length, take};
 ghost use Rattle.buffer.specs.Laid.{Laid};
-ghost use Rattle.disc.specs.Layout.{nameSize};
-ghost use Rattle.disc.specs.Name.{goodName, isNameByte, padded, trimmed};
+ghost use Rattle.disc.specs.Layout.{name_size};
+ghost use Rattle.disc.specs.Name.{good_name, is_name_byte, padded, trimmed};
 
 use crate::layout::{MAX_NAME, NAME_SIZE};
 
 fn is_name_byte(b: u8) -> bool
-    ensures { result ≡ isNameByte b }
+    ensures { result ≡ is_name_byte b }
 {
     if 33 <= b {
         return b <= 126;
@@ -16,7 +16,7 @@ fn is_name_byte(b: u8) -> bool
 }
 
 pub fn is_good_name(name: &[u8]) -> bool
-    ensures { result ≡ goodName name.now }
+    ensures { result ≡ good_name name.now }
 {
     if name.len() < 1 {
         return false;
@@ -37,7 +37,7 @@ pub fn is_good_name(name: &[u8]) -> bool
 
 // Document 01: "zero-filled".
 pub fn pad(name: &[u8]) -> [u8; NAME_SIZE]
-    requires { length name.now ≤ nameSize }
+    requires { length name.now ≤ name_size }
     ensures { result ≡ padded name.now }
 {
     let mut field = [0u8; NAME_SIZE];

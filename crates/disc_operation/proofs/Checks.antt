@@ -5,7 +5,7 @@ use mathlib.Core.List.{List}
 use Prim.Native.Nat.{ℕ}
 use native.Mathlib.Omega.{arith}
 use lib.ListN.{length}
-use Rattle.disc.specs.Directory.{Readable, goodDisc, isDiscLength}
+use Rattle.disc.specs.Directory.{Readable, good_disc, is_disc_length}
 use Rattle.disc.proofs.Lengths.{readable}
 use Rattle.store.specs.Answer.{checked}
 use Rattle.store.specs.File.{unless}
@@ -14,15 +14,15 @@ use Rattle.store.specs.declared.Refusal.TheVariants.{WrongLength, BadDisc}
 
 -- a disc that may be used
 pub record Fit (disc : List ℕ) : Type 0 where
-  pub right : isDiscLength (length disc) ≡ true
-  pub sound : goodDisc disc ≡ true
+  pub right : is_disc_length (length disc) ≡ true
+  pub sound : good_disc disc ≡ true
   pub ready : Readable disc
 
 pub usable : (disc : List ℕ) → checked disc ≡ Usable → Fit disc
 unfolding checked
-usable disc e = go (isDiscLength (length disc)) refl (goodDisc disc) refl e
+usable disc e = go (is_disc_length (length disc)) refl (good_disc disc) refl e
   where
-    go : (a : Bool) → isDiscLength (length disc) ≡ a → (b : Bool) → goodDisc disc ≡ b
+    go : (a : Bool) → is_disc_length (length disc) ≡ a → (b : Bool) → good_disc disc ≡ b
         → unless a (Unusable WrongLength) (unless b (Unusable BadDisc) Usable) ≡ Usable → Fit disc
     go false l b g h = absurd (let z : ◌≡◌ {A = ℕ} 0 1 = cc in omega arith)
     go true l false g h = absurd (let z : ◌≡◌ {A = ℕ} 0 1 = cc in omega arith)

@@ -1,12 +1,12 @@
 // Document 01's numbers for the answers.
 ghost use Rattle.std.specs.Prelude.{◌≡◌, neg_ℤ, pos};
-ghost use Rattle.store.specs.Answer.{answerNumber, refusalNumber};
+ghost use Rattle.store.specs.Answer.{answer_number, refusal_number};
 
 use store::{Answer, Refusal};
 
 // Document 01: "−n is refusal n".
 fn refusal_number(refusal: Refusal) -> i32
-    ensures { result ≡ neg_ℤ (pos (refusalNumber refusal)) }
+    ensures { result ≡ neg_ℤ (pos (refusal_number refusal)) }
 {
     match refusal {
         Refusal::WrongLength => -1,
@@ -23,7 +23,7 @@ fn refusal_number(refusal: Refusal) -> i32
 
 // Document 01: "0 or more is done".
 pub fn number(answer: Answer) -> i32
-    ensures { result ≡ answerNumber answer }
+    ensures { result ≡ answer_number answer }
 {
     match answer {
         Answer::Done(n) => n as i32,

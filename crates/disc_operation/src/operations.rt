@@ -3,8 +3,8 @@ ghost use Rattle.std.specs.Prelude.{◌≡◌, ◌+◌, ◌≤◌, length};
 ghost use Rattle.buffer.specs.Laid.{Laid};
 ghost use Rattle.buffer.specs.Lists.{flat};
 ghost use Rattle.disc.specs.Directory.{Readable, files};
-ghost use Rattle.store.specs.Answer.{answerNumber, checked, fileLine, filesAnswer, freeSpaceAnswer, reported};
-ghost use Rattle.store.specs.Answer.{retrieveAnswer, storeAnswer, updated};
+ghost use Rattle.store.specs.Answer.{answer_number, checked, file_line, files_answer, free_space_answer, reported};
+ghost use Rattle.store.specs.Answer.{retrieve_answer, store_answer, updated};
 
 use buffer::Found;
 use disc::Entry;
@@ -25,7 +25,7 @@ pub fn check(disc: &[u8]) -> Checked
 }
 
 pub fn store(disc: &mut [u8], name: &[u8], data: &[u8]) -> Answer
-    ensures { updated result disc.new ≡ storeAnswer disc.old name.now
+    ensures { updated result disc.new ≡ store_answer disc.old name.now
         «data».now }
 {
     if let Checked::Unusable(refusal) = check(disc) {
@@ -46,7 +46,7 @@ pub fn store(disc: &mut [u8], name: &[u8], data: &[u8]) -> Answer
 }
 
 pub fn retrieve(disc: &[u8], name: &[u8], out: &mut [u8]) -> Answer
-    ensures { reported result out.new ≡ retrieveAnswer disc.now name.now
+    ensures { reported result out.new ≡ retrieve_answer disc.now name.now
         out.old }
 {
     if let Checked::Unusable(refusal) = check(disc) {
@@ -72,15 +72,15 @@ pub fn retrieve(disc: &[u8], name: &[u8], out: &mut [u8]) -> Answer
 
 // Document 01, Files: "a line per file, name, space, length, newline".
 fn line_length(entry: Entry) -> usize
-    ensures { result ≡ length (fileLine entry) }
+    ensures { result ≡ length (file_line entry) }
 {
     let name = entry.name;
     disc::name::text_length(&name) + decimal::decimal_length(entry.len as u32) + 2
 }
 
 fn put_line(out: &mut [u8], at: usize, entry: Entry) -> usize
-    requires { at + length (fileLine entry) ≤ length out.old }
-    ensures { Laid out.old at (fileLine entry) out.new result }
+    requires { at + length (file_line entry) ≤ length out.old }
+    ensures { Laid out.old at (file_line entry) out.new result }
 {
     let name = entry.name;
     let named = disc::name::put_name(out, at, &name);
@@ -91,7 +91,7 @@ fn put_line(out: &mut [u8], at: usize, entry: Entry) -> usize
 
 fn files_length(disc: &[u8]) -> usize
     requires { Readable disc.now }
-    ensures { result ≡ length (flat fileLine (files disc.now)) }
+    ensures { result ≡ length (flat file_line (files disc.now)) }
 {
     let count = disc::directory::file_count(disc);
     let mut len: usize = 0;
@@ -105,8 +105,8 @@ fn files_length(disc: &[u8]) -> usize
 
 fn put_files(disc: &[u8], out: &mut [u8]) -> usize
     requires readable { Readable disc.now }
-    requires disc_in_bounds { length (flat fileLine (files disc.now)) ≤ length out.old }
-    ensures { Laid out.old 0 (flat fileLine (files disc.now)) out.new result }
+    requires disc_in_bounds { length (flat file_line (files disc.now)) ≤ length out.old }
+    ensures { Laid out.old 0 (flat file_line (files disc.now)) out.new result }
 {
     let count = disc::directory::file_count(disc);
     let mut at: usize = 0;
@@ -120,7 +120,7 @@ fn put_files(disc: &[u8], out: &mut [u8]) -> usize
 
 // Document 01, Files: "returns the bytes written". The length is tested before the first of them.
 pub fn files(disc: &[u8], out: &mut [u8]) -> Answer
-    ensures { reported result out.new ≡ filesAnswer disc.now out.old }
+    ensures { reported result out.new ≡ files_answer disc.now out.old }
 {
     if let Checked::Unusable(refusal) = check(disc) {
         return Answer::Refused(refusal);
@@ -133,7 +133,7 @@ pub fn files(disc: &[u8], out: &mut [u8]) -> Answer
 
 // Document 01: "Free space: the longest free run, however many files there are."
 pub fn free_space(disc: &[u8]) -> Answer
-    ensures { answerNumber result ≡ freeSpaceAnswer disc.now }
+    ensures { answer_number result ≡ free_space_answer disc.now }
 {
     if let Checked::Unusable(refusal) = check(disc) {
         return Answer::Refused(refusal);

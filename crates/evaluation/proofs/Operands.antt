@@ -2,16 +2,16 @@
 use Prim.Native.Nat.{ℕ, ◌+◌}
 use mathlib.Core.Path.{◌≡◌, sym, ap, ◌∙◌}
 use mathlib.Core.List.{List, []}
-use Rattle.machine.specs.Effect.{Effect, withOperand, with_outcome}
+use Rattle.machine.specs.Effect.{Effect, with_operand, with_outcome}
 use Rattle.machine.specs.Exec.{onward}
 use Rattle.machine.specs.Stack.{pop, push}
-use Rattle.number.specs.Value.{type_of, valueBytes}
+use Rattle.number.specs.Value.{type_of, value_bytes}
 use Rattle.number.specs.declared.Number.{Number}
 use Rattle.operator.specs.Instruction.{types_of}
 use Rattle.operator.specs.declared.Outcome.{Outcome}
 use Rattle.operator.specs.declared.operators.Operator.{Operator}
 use Rattle.stack.specs.Steps.{Means}
-use Rattle.stack.specs.Tops.{nextNumbered, number_in, numberOn, numbered, withNumbered}
+use Rattle.stack.specs.Tops.{next_numbered, number_in, number_on, numbered, with_numbered}
 use Rattle.stack.specs.declared.Step.{Step}
 use Rattle.stack.specs.declared.TopNumber.{TopNumber}
 use Rattle.stack.proofs.Chains.{by_number, popped-first, popped-next}
@@ -23,23 +23,23 @@ behind code stack loopstart at = λ l. onward code stack loopstart at (at + 1) l
 
 -- the answer goes onto the rest
 abbrev answered : (List ℕ → Effect) → Outcome → List ℕ → Effect
-answered next answer rest = with_outcome answer λ z. next (push rest (type_of z) (valueBytes z))
+answered next answer rest = with_outcome answer λ z. next (push rest (type_of z) (value_bytes z))
 
 module _ (stack : List ℕ) (o : Operator) (next : List ℕ → Effect) where
   -- the operand on top, at a place; the one below another
   abbrev OnTop : ℕ → TopNumber → Type 0
-  OnTop place r = numberOn stack r ≡ numbered (pop (types_of o place) stack)
+  OnTop place r = number_on stack r ≡ numbered (pop (types_of o place) stack)
 
   abbrev Below : ℕ → TopNumber → TopNumber → Type 0
-  Below place above r = numberOn stack r ≡ nextNumbered (types_of o place) (numberOn stack above)
+  Below place above r = number_on stack r ≡ next_numbered (types_of o place) (number_on stack above)
 
   -- what the code does with the operand pushed first, x, and the answer
   abbrev pushes : TopNumber → Outcome → Effect
-  pushes x answer = withNumbered (numberOn stack x) λ a rest. answered next answer rest
+  pushes x answer = with_numbered (number_on stack x) λ a rest. answered next answer rest
 
   -- a step that does so, where the answer is that to the operands
   pub one-operand : (x : TopNumber) → OnTop 0 x → (f : Number → Outcome) {answer : Outcome} {step : Step} → answer ≡ f (number_in x)
-      → Means stack step (pushes x answer) → Means stack step (withOperand o 0 stack λ a rest. answered next (f a) rest)
+      → Means stack step (pushes x answer) → Means stack step (with_operand o 0 stack λ a rest. answered next (f a) rest)
   one-operand x top f is h =
       means-as h
       (ap (pushes x) is
@@ -48,25 +48,25 @@ module _ (stack : List ℕ) (o : Operator) (next : List ℕ → Effect) where
 
   pub two_operands : (y x : TopNumber) → OnTop 1 y → Below 0 y x → (f : Number → Number → Outcome) {answer : Outcome} {step : Step}
       → answer ≡ f (number_in x) (number_in y) → Means stack step (pushes x answer)
-      → Means stack step (withOperand o 1 stack λ b rest. withOperand o 0 rest λ a rest. answered next (f a b) rest)
+      → Means stack step (with_operand o 1 stack λ b rest. with_operand o 0 rest λ a rest. answered next (f a b) rest)
   two_operands y x top first f is h =
       means-as h
       (ap (pushes x) is
-      ∙ sym (popped-first stack (types_of o 1) y top (λ b rest. withOperand o 0 rest λ a rest. answered next (f a b) rest)
+      ∙ sym (popped-first stack (types_of o 1) y top (λ b rest. with_operand o 0 rest λ a rest. answered next (f a b) rest)
       ∙ popped-next stack (types_of o 0) y x first (λ b a rest. answered next (f a b) rest)
       ∙ by_number stack x λ a rest. answered next (f a (number_in y)) rest))
 
   module _ (f : Number → Number → Number → Outcome) where
     -- what is left to pop below the operand at each place
     abbrev under1 : Number → Number → List ℕ → Effect
-    under1 c b rest = withOperand o 0 rest λ a rest. answered next (f a b c) rest
+    under1 c b rest = with_operand o 0 rest λ a rest. answered next (f a b c) rest
 
     abbrev under2 : Number → List ℕ → Effect
-    under2 c rest = withOperand o 1 rest λ b rest. under1 c b rest
+    under2 c rest = with_operand o 1 rest λ b rest. under1 c b rest
 
     pub three-operands : (c b a : TopNumber) → OnTop 2 c → Below 1 c b → Below 0 b a → {answer : Outcome} {step : Step}
         → answer ≡ f (number_in a) (number_in b) (number_in c)
-        → Means stack step (pushes a answer) → Means stack step (withOperand o 2 stack under2)
+        → Means stack step (pushes a answer) → Means stack step (with_operand o 2 stack under2)
     three-operands c b a top second first is h =
         means-as h
         (ap (pushes a) is
@@ -77,20 +77,20 @@ module _ (stack : List ℕ) (o : Operator) (next : List ℕ → Effect) where
 
   module _ (f : Number → Number → Number → Number → Number → Outcome) where
     abbrev below1 : Number → Number → Number → Number → List ℕ → Effect
-    below1 e d c b rest = withOperand o 0 rest λ a rest. answered next (f a b c d e) rest
+    below1 e d c b rest = with_operand o 0 rest λ a rest. answered next (f a b c d e) rest
 
     abbrev below2 : Number → Number → Number → List ℕ → Effect
-    below2 e d c rest = withOperand o 1 rest λ b rest. below1 e d c b rest
+    below2 e d c rest = with_operand o 1 rest λ b rest. below1 e d c b rest
 
     abbrev below3 : Number → Number → List ℕ → Effect
-    below3 e d rest = withOperand o 2 rest λ c rest. below2 e d c rest
+    below3 e d rest = with_operand o 2 rest λ c rest. below2 e d c rest
 
     abbrev below4 : Number → List ℕ → Effect
-    below4 e rest = withOperand o 3 rest λ d rest. below3 e d rest
+    below4 e rest = with_operand o 3 rest λ d rest. below3 e d rest
 
     pub five-operands : (e d c b a : TopNumber) → OnTop 4 e → Below 3 e d → Below 2 d c → Below 1 c b → Below 0 b a
         → {answer : Outcome} {step : Step} → answer ≡ f (number_in a) (number_in b) (number_in c) (number_in d) (number_in e)
-        → Means stack step (pushes a answer) → Means stack step (withOperand o 4 stack below4)
+        → Means stack step (pushes a answer) → Means stack step (with_operand o 4 stack below4)
     five-operands e d c b a top fourth third second first is h =
         means-as h
         (ap (pushes a) is

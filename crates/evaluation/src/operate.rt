@@ -4,10 +4,10 @@ ghost use Rattle.std.specs.Prelude.{[], ◌≡◌, ◌+◌, ◌≤◌, length};
 ghost use Rattle.machine.specs.Effect.{operates, with_outcome};
 ghost use Rattle.machine.specs.Exec.{onward};
 ghost use Rattle.machine.specs.Stack.{pop, push};
-ghost use Rattle.number.specs.Value.{type_of, valueBytes};
+ghost use Rattle.number.specs.Value.{type_of, value_bytes};
 ghost use Rattle.operator.specs.Instruction.{types_of};
 ghost use Rattle.stack.specs.Steps.{Means, Ready};
-ghost use Rattle.stack.specs.Tops.{bytesBelow, nextNumbered, numberOn, numbered, withNumbered};
+ghost use Rattle.stack.specs.Tops.{bytes_below, next_numbered, number_on, numbered, with_numbered};
 
 use operator::Outcome;
 use operator::instruction::types_of;
@@ -18,18 +18,18 @@ use stack::{Action, Step, TopNumber};
 
 // The operand on top: which types it takes goes by operator and place, 0 that of the operand pushed first.
 fn top_operand(stack: &[u8], operator: Operator, place: u8) -> TopNumber
-    ensures { (numberOn stack.now result ≡ numbered (pop (types_of operator place) stack.now))
-        × (bytesBelow result ≤ length stack.now) }
+    ensures { (number_on stack.now result ≡ numbered (pop (types_of operator place) stack.now))
+        × (bytes_below result ≤ length stack.now) }
 {
     top_number(stack, types_of(operator, place))
 }
 
 // The operand below the one that came off before it.
 fn next_operand(stack: &[u8], above: TopNumber, operator: Operator, place: u8) -> TopNumber
-    requires { bytesBelow above ≤ length stack.now }
-    ensures { (numberOn stack.now result
-        ≡ nextNumbered (types_of operator place) (numberOn stack.now above))
-        × (bytesBelow result ≤ length stack.now) }
+    requires { bytes_below above ≤ length stack.now }
+    ensures { (number_on stack.now result
+        ≡ next_numbered (types_of operator place) (number_on stack.now above))
+        × (bytes_below result ≤ length stack.now) }
 {
     next_number(stack, above, types_of(operator, place))
 }
@@ -43,10 +43,10 @@ fn push_answer(
     at: usize,
     loopstart: u16,
 ) -> Step
-    requires { Ready code.now stack.now at × (bytesBelow first ≤ length stack.now) }
-    ensures { Means stack.now result (withNumbered (numberOn stack.now first) (λ x rest.
+    requires { Ready code.now stack.now at × (bytes_below first ≤ length stack.now) }
+    ensures { Means stack.now result (with_numbered (number_on stack.now first) (λ x rest.
         with_outcome answer (λ z. onward code.now stack.now loopstart at (at + 1)
-        (push rest (type_of z) (valueBytes z)) []))) }
+        (push rest (type_of z) (value_bytes z)) []))) }
 {
     match first {
         TopNumber::Is(_, below) => push_outcome(code, stack, below, answer, at + 1, loopstart),

@@ -4,7 +4,8 @@
 #![tactic(auto)]
 
 ghost use Rattle.std.specs.Prelude.{List, ◌≡◌, ℕ};
-ghost use Rattle.machine.specs.Answer.{answer, bootAnswer, command, erase, files, formatAnswer, freeSpace, list, other};
+ghost use Rattle.machine.specs.Answer.{answer, boot_answer, command, erase, files, format_answer, free_space, list};
+ghost use Rattle.machine.specs.Answer.{other};
 ghost use Rattle.machine.specs.Answer.{retrieve, round, run, share, store, turn};
 ghost use Rattle.machine.specs.Operations.{kill, resume, suspend};
 ghost use Rattle.operation.specs.Answers.{lent};
@@ -12,14 +13,14 @@ ghost use Rattle.export.specs.Returned.{returned};
 
 pub fn arduinos_format(disc: &mut [u8], area: &mut [u8]) -> i32
     ensures { (out : List ℕ) → returned result disc.new area.new out
-        ≡ formatAnswer (lent disc.old area.old out) }
+        ≡ format_answer (lent disc.old area.old out) }
 {
     operation::numbers::number(operation::format::format(disc, area))
 }
 
 pub fn arduinos_boot(area: &mut [u8]) -> i32
     ensures { (disc out : List ℕ) → returned result disc area.new out
-        ≡ bootAnswer (lent disc area.old out) }
+        ≡ boot_answer (lent disc area.old out) }
 {
     operation::numbers::number(operation::format::boot(area))
 }
@@ -54,7 +55,7 @@ pub fn arduinos_files(disc: &[u8], out: &mut [u8]) -> i32
 
 pub fn arduinos_free_space(disc: &[u8]) -> i32
     ensures { (area out : List ℕ) → returned result disc.now area out
-        ≡ answer (other freeSpace) (lent disc.now area out) }
+        ≡ answer (other free_space) (lent disc.now area out) }
 {
     disc_operation::numbers::number(disc_operation::operations::free_space(disc))
 }

@@ -3,7 +3,8 @@
 #![tactic(auto)]
 
 ghost use Rattle.std.specs.Prelude.{List, ◌≡◌, ℕ};
-ghost use Rattle.machine.specs.Answer.{answer, bootAnswer, command, erase, files, formatAnswer, freeSpace, list, other};
+ghost use Rattle.machine.specs.Answer.{answer, boot_answer, command, erase, files, format_answer, free_space, list};
+ghost use Rattle.machine.specs.Answer.{other};
 ghost use Rattle.machine.specs.Answer.{retrieve, round, run, share, store, turn};
 ghost use Rattle.machine.specs.Operations.{kill, resume, suspend};
 ghost use Rattle.operation.specs.Answers.{lent};
@@ -12,7 +13,7 @@ ghost use Rattle.export.specs.Returned.{returned};
 #[unsafe(no_mangle)]
 pub extern "C" fn arduinos_format(disc: &mut [u8], area: &mut [u8]) -> i32
     ensures { (out : List ℕ) → returned result disc.new area.new out
-        ≡ formatAnswer (lent disc.old area.old out) }
+        ≡ format_answer (lent disc.old area.old out) }
 {
     export::arduinos_format(disc, area)
 }
@@ -20,7 +21,7 @@ pub extern "C" fn arduinos_format(disc: &mut [u8], area: &mut [u8]) -> i32
 #[unsafe(no_mangle)]
 pub extern "C" fn arduinos_boot(area: &mut [u8]) -> i32
     ensures { (disc out : List ℕ) → returned result disc area.new out
-        ≡ bootAnswer (lent disc area.old out) }
+        ≡ boot_answer (lent disc area.old out) }
 {
     export::arduinos_boot(area)
 }
@@ -60,7 +61,7 @@ pub extern "C" fn arduinos_files(disc: &[u8], out: &mut [u8]) -> i32
 #[unsafe(no_mangle)]
 pub extern "C" fn arduinos_free_space(disc: &[u8]) -> i32
     ensures { (area out : List ℕ) → returned result disc.now area out
-        ≡ answer (other freeSpace) (lent disc.now area out) }
+        ≡ answer (other free_space) (lent disc.now area out) }
 {
     export::arduinos_free_space(disc)
 }

@@ -8,12 +8,12 @@ use mathlib.Core.Path.{subst⁻¹}
 use native.Mathlib.Nat.{add-div_right, div-div-eq-div-mul, div-eq_of_lt}
 use native.Mathlib.Nat.{mul-div-mul_left}
 use lib.Ieee.Nearest.{div_mono, div_same}
-use Rattle.float.specs.Whole.{directed, halfAway, wholeSize}
+use Rattle.float.specs.Whole.{directed, half_away, whole_size}
 use Rattle.float.specs.declared.whole.Rounding.{Rounding}
 use Rattle.float.specs.declared.whole.Rounding.TheVariants.{TowardZero, HalfAway, Down, Up}
 
 -- Document 01: "ROUND goes half away from zero": k + 1/2 becomes k + 1.
-pub half-away : (k : ℕ) → halfAway (2 * k + 1) 2 ≡ k + 1
+pub half-away : (k : ℕ) → half_away (2 * k + 1) 2 ≡ k + 1
 half-away k = omega arith
 
 -- ---- n / d rounds up to at most k exactly where n is at most k * d
@@ -44,7 +44,7 @@ up-mono n d a c hd hc e =
 up_same : (n d a c : ℕ) → 0 < d → 0 < c → n * c ≡ a * d → directed true n d ≡ directed true a c
 up_same n d a c hd hc e = le_antisymm (up-mono n d a c hd hc e) (up-mono a c n d hc hd (sym e))
 
-half-same : (n d a c : ℕ) → 0 < d → 0 < c → n * c ≡ a * d → halfAway n d ≡ halfAway a c
+half-same : (n d a c : ℕ) → 0 < d → 0 < c → n * c ≡ a * d → half_away n d ≡ half_away a c
 half-same n d a c hd hc e =
     div_same (2 * n + d) (2 * d) (2 * a + c) (2 * c) (omega arith) (omega arith)
     (expand n d c ∙ ap (λ (x : ℕ). 2 * (2 * x) + 2 * (d * c)) e ∙ ap (λ (x : ℕ). 2 * (2 * (a * d)) + 2 * x) (mul_comm d c)
@@ -59,7 +59,7 @@ directed-same : (up : Bool) (n d a c : ℕ) → 0 < d → 0 < c → n * c ≡ a 
 directed-same true n d a c hd hc e = up_same n d a c hd hc e
 directed-same false n d a c hd hc e = div_same n d a c hd hc e
 
-pub whole_same : (r : Rounding) (s : Bool) (n d a c : ℕ) → 0 < d → 0 < c → n * c ≡ a * d → wholeSize r s n d ≡ wholeSize r s a c
+pub whole_same : (r : Rounding) (s : Bool) (n d a c : ℕ) → 0 < d → 0 < c → n * c ≡ a * d → whole_size r s n d ≡ whole_size r s a c
 whole_same TowardZero s n d a c hd hc e = directed-same false n d a c hd hc e
 whole_same HalfAway s n d a c hd hc e = half-same n d a c hd hc e
 whole_same Down s n d a c hd hc e = directed-same s n d a c hd hc e
@@ -71,7 +71,7 @@ module _ (n d : ℕ) (h : 0 < d) where
   directed-least true = div_mono n d (n + (d - 1)) d h h (mul-le-mul_right d (omega arith))
   directed-least false = le_refl (n / d)
 
-  pub cut-least : (r : Rounding) (s : Bool) → n / d ≤ wholeSize r s n d
+  pub cut-least : (r : Rounding) (s : Bool) → n / d ≤ whole_size r s n d
   cut-least TowardZero s = directed-least false
   cut-least HalfAway s =
       div_mono n d (2 * n + d) (2 * d) h (omega arith)
@@ -83,7 +83,7 @@ directed-one : (up : Bool) (n : ℕ) → directed up n 1 ≡ n
 directed-one true n = omega arith
 directed-one false n = omega arith
 
-whole-one : (r : Rounding) (s : Bool) (n : ℕ) → wholeSize r s n 1 ≡ n
+whole-one : (r : Rounding) (s : Bool) (n : ℕ) → whole_size r s n 1 ≡ n
 whole-one TowardZero s n = directed-one false n
 whole-one HalfAway s n = omega arith
 whole-one Down s n = directed-one s n
@@ -94,13 +94,13 @@ pub power-split : (k l : ℕ) → l ≤ k → 2 ^ k ≡ 2 ^ (k - l) * 2 ^ l
 power-split k l h = ap (λ (n : ℕ). 2 ^ n) (omega arith) ∙ pow-add 2 (k - l) l
 
 module _ (r : Rounding) (s : Bool) (a k l : ℕ) where
-  pub whole-shifted-left : l ≤ k → a * 2 ^ (k - l) ≡ wholeSize r s (a * 2 ^ k) (2 ^ l)
+  pub whole-shifted-left : l ≤ k → a * 2 ^ (k - l) ≡ whole_size r s (a * 2 ^ k) (2 ^ l)
   whole-shifted-left h =
       sym (whole_same r s (a * 2 ^ k) (2 ^ l) (a * 2 ^ (k - l)) 1 (pow_pos l) (omega arith)
       (omega (arith, ap (λ (n : ℕ). a * n) (power-split k l h) ∙ sym (mul_assoc a (2 ^ (k - l)) (2 ^ l))))
       ∙ whole-one r s (a * 2 ^ (k - l)))
 
-  pub whole-shifted-right : k ≤ l → wholeSize r s a (2 ^ (l - k)) ≡ wholeSize r s (a * 2 ^ k) (2 ^ l)
+  pub whole-shifted-right : k ≤ l → whole_size r s a (2 ^ (l - k)) ≡ whole_size r s (a * 2 ^ k) (2 ^ l)
   whole-shifted-right h =
       whole_same r s a (2 ^ (l - k)) (a * 2 ^ k) (2 ^ l) (pow_pos (l - k)) (pow_pos l)
       (ap (λ (n : ℕ). a * n) (power-split l k h ∙ mul_comm (2 ^ (l - k)) (2 ^ k)) ∙ sym (mul_assoc a (2 ^ k) (2 ^ (l - k))))
@@ -110,7 +110,7 @@ pub no-digit-left : (a s w : ℕ) → a < 2 ^ w → w ≤ s → 0 ≡ a / 2 ^ s
 no-digit-left a s w h k = sym (div-eq_of_lt (lt_of_lt_of_le h (pow_mono k)))
 
 -- half away by way of the quotient with one binary digit more
-half-digit : (a d : ℕ) → 0 < d → a / d / 2 + a / d % 2 ≡ halfAway a (d * 2)
+half-digit : (a d : ℕ) → 0 < d → a / d / 2 + a / d % 2 ≡ half_away a (d * 2)
 half-digit a d h =
     up (a / d) ∙ ap (λ (n : ℕ). n / 2) (sym (add-div_right a h)) ∙ div-div-eq-div-mul (a + d) d 2
     ∙ sym (mul-div-mul_left {m = 2} (a + d) (d * 2) (omega arith)) ∙ ap (λ (n : ℕ). n / (2 * (d * 2))) (omega arith)
@@ -118,13 +118,13 @@ half-digit a d h =
     up : (q : ℕ) → q / 2 + q % 2 ≡ (q + 1) / 2
     up q = omega arith
 
-pub nearest-digit : (a s : ℕ) → (s ≡ 0 → ⊥) → a / 2 ^ (s - 1) / 2 + a / 2 ^ (s - 1) % 2 ≡ halfAway a (2 ^ s)
+pub nearest-digit : (a s : ℕ) → (s ≡ 0 → ⊥) → a / 2 ^ (s - 1) / 2 + a / 2 ^ (s - 1) % 2 ≡ half_away a (2 ^ s)
 nearest-digit a zero h = absurd (h refl)
 nearest-digit a (suc j) h =
-    ap (λ (n : ℕ). a / 2 ^ n / 2 + a / 2 ^ n % 2) (omega arith) ∙ half-digit a (2 ^ j) (pow_pos j) ∙ ap (halfAway a) (sym (pow-suc 2 j))
+    ap (λ (n : ℕ). a / 2 ^ n / 2 + a / 2 ^ n % 2) (omega arith) ∙ half-digit a (2 ^ j) (pow_pos j) ∙ ap (half_away a) (sym (pow-suc 2 j))
 
-pub nearest-whole : (a s : ℕ) → s ≡ 0 → a ≡ halfAway a (2 ^ s)
-nearest-whole a s e = sym (ap (λ (n : ℕ). halfAway a (2 ^ n)) e ∙ whole-one HalfAway false a)
+pub nearest-whole : (a s : ℕ) → s ≡ 0 → a ≡ half_away a (2 ^ s)
+nearest-whole a s e = sym (ap (λ (n : ℕ). half_away a (2 ^ n)) e ∙ whole-one HalfAway false a)
 
 module _ (up : Bool) (a s : ℕ) where
   pub up-zero : up ≡ true → a ≡ 0 → 0 ≡ directed up a (2 ^ s)

@@ -1,4 +1,4 @@
--- `sqrtOf x` is the binary32 value nearest to the root of x, and no tie occurs. Assumes nothing.
+-- `sqrt_of x` is the binary32 value nearest to the root of x, and no tie occurs. Assumes nothing.
 use Rattle.std.proofs.Common.{◌≡◌, ℕ, ◌+◌, ◌*◌, ◌/◌, ◌%◌, ◌^◌, ◌<◌, ◌≤◌, Bool, true, false, T, sym, refl, ap, ◌∙◌, subst, true≢false}
 use Rattle.std.proofs.Common.{le_of_eq, lt_of_lt_of_le, lt_of_le_of_lt, mul-le-mul_right, mul_assoc, mul_comm, add-mul}
 use Rattle.std.proofs.Common.{lt_of_mul-lt-mul_right, mul-lt-mul_of_pos_right, mul-pos, lt_of_not-le, mul_right_comm, not-le_of_lt}
@@ -8,10 +8,10 @@ use lib.Ieee.Exact.{HasValue}
 use lib.Ieee.Order.{transfer}
 use lib.Ieee.Positive.{den, den_pos, first_pos, num, positive, positive-finite, positive_of_value, value_pos, value→cross}
 use lib.Ieee.Scale.{finite}
-use Rattle.root.specs.Root.{IsRoot, wholeRoot}
+use Rattle.root.specs.Root.{IsRoot, whole_root}
 use Rattle.root.proofs.Squares.{root_is}
 use Rattle.float.specs.Scale.{IsScaled}
-use Rattle.float.specs.Sqrt.{CorrectlyRounded, IsNearestRoot, denSquared, notNegative, rootOfUnits, sqrtOf, sumSquared}
+use Rattle.float.specs.Sqrt.{CorrectlyRounded, IsNearestRoot, den_squared, not_negative, root_of_units, sqrt_of, sum_squared}
 use Rattle.float.proofs.Patterns.{Parts, parts}
 use Rattle.float.proofs.RootCases.{root-positive}
 use Rattle.float.proofs.RoundedRoot.{half-24, radicand, root-fits, root-value}
@@ -57,7 +57,7 @@ sum-fraction nr dr ny dy r y u h k =
     ∙ sym (add-mul r y (dr * dy))
 
 -- ---- values that are not negative
-lt-cross : (y r : Float) → T (notNegative y) → T (notNegative r) → T (lt y r) → num y * den r < num r * den y
+lt-cross : (y r : Float) → T (not_negative y) → T (not_negative r) → T (lt y r) → num y * den r < num r * den y
 unfolding lt
 lt-cross nan r n m l = absurd n
 lt-cross (inf s) r n m l = absurd n
@@ -67,19 +67,19 @@ lt-cross (fin false a e) (inf t) n m l = absurd m
 lt-cross (fin false a e) (fin true b f) n m l = absurd m
 lt-cross (fin false a e) (fin false b f) n m l = ltb→lt _ _ l
 
-plus-sign : (y : Float) (s : Bool) (a c : ℕ) → T (notNegative y) → HasValue y s a c → HasValue y false a c
+plus-sign : (y : Float) (s : Bool) (a c : ℕ) → T (not_negative y) → HasValue y s a c → HasValue y false a c
 plus-sign nan s a c n v = absurd n
 plus-sign (inf t) s a c n v = absurd n
 plus-sign (fin true m e) s a c n v = absurd n
 plus-sign (fin false m e) s a c n v = (refl, v.1)
 
-not_negative : (r : Float) (a c : ℕ) → HasValue r false a c → T (notNegative r)
-not_negative nan a c v = absurd v
-not_negative (inf t) a c v = absurd v
-not_negative (fin true m e) a c v = absurd (true≢false v.0)
-not_negative (fin false m e) a c v = tt
+not-negative : (r : Float) (a c : ℕ) → HasValue r false a c → T (not_negative r)
+not-negative nan a c v = absurd v
+not-negative (inf t) a c v = absurd v
+not-negative (fin true m e) a c v = absurd (true≢false v.0)
+not-negative (fin false m e) a c v = tt
 
-not-negative-finite : (y : Float) → T (notNegative y) → T (finite y)
+not-negative-finite : (y : Float) → T (not_negative y) → T (finite y)
 not-negative-finite nan n = absurd n
 not-negative-finite (inf t) n = absurd n
 not-negative-finite (fin t m e) n = tt
@@ -94,7 +94,7 @@ units_lt y r a b u hu v w l =
 module _ (x r : Float) (a m g q c : ℕ) (v : HasValue x false a (2 ^ 149)) (w : HasValue r false (c * (2 * 2 ^ g)) (2 ^ 149))
     (same : m * (2 ^ g * 2 ^ g) ≡ a * 2 ^ 149)
     (i : IsRoot m q) (even : m % 2 ≡ 0) (least : 281474976710656 ≤ m) (near : (q ≤ 2 * c) × (2 * c ≤ q + 1)) (from : 8388608 ≤ c) where
-  module _ (y : Float) (b : ℕ) (n : T (notNegative y)) (z : HasValue y false b (2 ^ 149)) (grid : OnGrid b (2 ^ g)) where
+  module _ (y : Float) (b : ℕ) (n : T (not_negative y)) (z : HasValue y false b (2 ^ 149)) (grid : OnGrid b (2 ^ g)) where
     summed : (num r * den y + num y * den r) * 2 ^ 149 ≡ (c * (2 * 2 ^ g) + b) * (den r * den y)
     summed = sum-fraction (num r) (den r) (num y) (den y) (c * (2 * 2 ^ g)) b (2 ^ 149) (value→cross r (c * (2 * 2 ^ g)) (2 ^ 149) w)
         (value→cross y b (2 ^ 149) z)
@@ -102,23 +102,23 @@ module _ (x r : Float) (a m g q c : ℕ) (v : HasValue x false a (2 ^ 149)) (w :
     dens : 0 < den r * den y
     dens = mul-pos (den_pos r) (den_pos y)
 
-    value-below : T (lt y r) → sumSquared r y * den x < 4 * num x * denSquared r y
+    value-below : T (lt y r) → sum_squared r y * den x < 4 * num x * den_squared r y
     value-below l =
         fraction-under (num r * den y + num y * den r) (den r * den y) (c * (2 * 2 ^ g) + b) (num x) (den x) a (2 ^ 149) (pow_pos 149) dens
         (den_pos x) summed
         (value→cross x a (2 ^ 149) v)
         (subst (λ (e : ℕ). (c * (2 * 2 ^ g) + b) * (c * (2 * 2 ^ g) + b) < 4 * e) same
         (units-below m q c (2 ^ g) b (pow_pos g) i even near from least grid
-        (units_lt y r b (c * (2 * 2 ^ g)) (2 ^ 149) (pow_pos 149) z w (lt-cross y r n (not_negative r (c * (2 * 2 ^ g)) (2 ^ 149) w) l))))
+        (units_lt y r b (c * (2 * 2 ^ g)) (2 ^ 149) (pow_pos 149) z w (lt-cross y r n (not-negative r (c * (2 * 2 ^ g)) (2 ^ 149) w) l))))
 
-    value-above : T (lt r y) → 4 * num x * denSquared r y < sumSquared r y * den x
+    value-above : T (lt r y) → 4 * num x * den_squared r y < sum_squared r y * den x
     value-above l =
         fraction-over (num r * den y + num y * den r) (den r * den y) (c * (2 * 2 ^ g) + b) (num x) (den x) a (2 ^ 149) (pow_pos 149) dens
         (den_pos x) summed
         (value→cross x a (2 ^ 149) v)
         (subst (λ (e : ℕ). 4 * e < (c * (2 * 2 ^ g) + b) * (c * (2 * 2 ^ g) + b)) same
         (units-above m q c (2 ^ g) b (pow_pos g) i even near from least grid
-        (units_lt r y (c * (2 * 2 ^ g)) b (2 ^ 149) (pow_pos 149) w z (lt-cross r y (not_negative r (c * (2 * 2 ^ g)) (2 ^ 149) w) n l))))
+        (units_lt r y (c * (2 * 2 ^ g)) b (2 ^ 149) (pow_pos 149) w z (lt-cross r y (not-negative r (c * (2 * 2 ^ g)) (2 ^ 149) w) n l))))
 
   nearest : T (fits binary32 r) → IsNearestRoot x r
   nearest f = record {
@@ -133,26 +133,26 @@ module _ (x r : Float) (a m g q c : ℕ) (v : HasValue x false a (2 ^ 149)) (w :
         value-above y (p.1 * 2 ^ p.2) n (size y n p) (on-grid p.1 p.2 g p.3.short) l;
   }
     where
-      size : (y : Float) → T (notNegative y) → (p : Parts y) → HasValue y false (p.1 * 2 ^ p.2) (2 ^ 149)
+      size : (y : Float) → T (not_negative y) → (p : Parts y) → HasValue y false (p.1 * 2 ^ p.2) (2 ^ 149)
       size y n p = plus-sign y p.0 (p.1 * 2 ^ p.2) (2 ^ 149) n p.3.value
 
 -- ---- Document 01: "SQRT of a FLOAT is correctly rounded".
 module _ (x : Float) (t k : ℕ) (v : HasValue x false (t * 2 ^ k) (2 ^ 149)) where
-  by-scale : (m g : ℕ) → IsScaled t (k + 149) m g → IsNearestRoot x (rootOfUnits (t * 2 ^ k))
+  by-scale : (m g : ℕ) → IsScaled t (k + 149) m g → IsNearestRoot x (root_of_units (t * 2 ^ k))
   by-scale m g d =
-      let q = wholeRoot m in
+      let q = whole_root m in
       let i = root_is m in
-      nearest x (rootOfUnits (t * 2 ^ k)) (t * 2 ^ k) m g q ((q + 1) / 2) v
-      (subst (λ (n : ℕ). HasValue (rootOfUnits (t * 2 ^ k)) false ((q + 1) / 2 * n) (2 ^ 149)) (pow-add 2 g 1
+      nearest x (root_of_units (t * 2 ^ k)) (t * 2 ^ k) m g q ((q + 1) / 2) v
+      (subst (λ (n : ℕ). HasValue (root_of_units (t * 2 ^ k)) false ((q + 1) / 2 * n) (2 ^ 149)) (pow-add 2 g 1
       ∙ mul_comm (2 ^ g) 2) (root-value t k m g q d i))
       (radicand t k m g q d i) i d.even d.least (omega arith, omega arith) (half-24 t k m g q d i).0 (root-fits t k m g q d i)
 
-  by_units : 0 < t → t < 16777216 → k < 254 → IsNearestRoot x (sqrtOf x)
+  by_units : 0 < t → t < 16777216 → k < 254 → IsNearestRoot x (sqrt_of x)
   by_units some short near =
       let s = scaled t (k + 149) (some, (short, (omega arith, omega arith))) in
       subst (IsNearestRoot x) (root-positive false (t * 2 ^ k) (mul-pos some (pow_pos k)) x v refl) (by-scale s.0 s.1 s.2)
 
-positive-plus : (x : Float) → T (positive x) → T (notNegative x)
+positive-plus : (x : Float) → T (positive x) → T (not_negative x)
 positive-plus nan p = absurd p
 positive-plus (inf s) p = absurd p
 positive-plus (fin true m e) p = absurd p

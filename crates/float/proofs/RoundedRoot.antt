@@ -15,10 +15,10 @@ use lib.Ieee.Nearest.{closest, closest_same}
 use lib.Ieee.Order.{drop}
 use lib.Ieee.Scale.{grid, round_val}
 use lib.Pow.{pow-lt, shl-shr}
-use Rattle.root.specs.Root.{IsRoot, wholeRoot}
+use Rattle.root.specs.Root.{IsRoot, whole_root}
 use Rattle.root.proofs.Squares.{root_below, root_is, square-reflects}
 use Rattle.float.specs.Scale.{IsScaled}
-use Rattle.float.specs.Sqrt.{rootOfUnits, sticky}
+use Rattle.float.specs.Sqrt.{root_of_units, sticky}
 use Rattle.float.proofs.LastDigit.{last-digit, root-from, root-to}
 
 -- ---- the digits of a number
@@ -131,21 +131,21 @@ module _ (t k m g q : ℕ) (d : IsScaled t (k + 149) m g) (i : IsRoot m q) where
         subst (λ (n : ℕ). HasValue (round binary32 false (2 * r + s) (2 ^ 150)) false n (2 ^ 149)) on-grid
         (round_val binary32 (2 * r + s) (2 ^ 150) (subst⁻¹ (λ (n : ℕ). n < 2 ^ 277) on-grid in_reach))
 
-  pub root-value : HasValue (rootOfUnits (t * 2 ^ k)) false ((q + 1) / 2 * 2 ^ (g + 1)) (2 ^ 149)
-  unfolding rootOfUnits
+  pub root-value : HasValue (root_of_units (t * 2 ^ k)) false ((q + 1) / 2 * 2 ^ (g + 1)) (2 ^ 149)
+  unfolding root_of_units
   root-value =
       let n = t * 2 ^ k * 2 ^ 149 in
-      let r = wholeRoot n in
+      let r = whole_root n in
       rounded-value r (sticky r n) (subst⁻¹ (λ (a : ℕ). IsRoot a r) radicand (root_is n)) (sticky-le (eqb (r * r) n))
       (λ e. eqb→eq (r * r) n (sticky-exact (eqb (r * r) n) e) ∙ sym radicand)
 
-  pub root-fits : T (fits binary32 (rootOfUnits (t * 2 ^ k)))
-  unfolding rootOfUnits
-  root-fits = let n = t * 2 ^ k * 2 ^ 149 in round-fits binary32 false (2 * wholeRoot n + sticky (wholeRoot n) n) (2 ^ 150)
+  pub root-fits : T (fits binary32 (root_of_units (t * 2 ^ k)))
+  unfolding root_of_units
+  root-fits = let n = t * 2 ^ k * 2 ^ 149 in round-fits binary32 false (2 * whole_root n + sticky (whole_root n) n) (2 ^ 150)
 
-  pub root-bits : of_bits binary32 ((g + 1) * 8388608 + (q + 1) / 2) ≡ rootOfUnits (t * 2 ^ k)
+  pub root-bits : of_bits binary32 ((g + 1) * 8388608 + (q + 1) / 2) ≡ root_of_units (t * 2 ^ k)
   root-bits =
       ap (of_bits binary32)
-      (sym (bits-value (rootOfUnits (t * 2 ^ k)) ((q + 1) / 2 * 2 ^ (g + 1)) root-value
+      (sym (bits-value (root_of_units (t * 2 ^ k)) ((q + 1) / 2 * 2 ^ (g + 1)) root-value
       ∙ bits_of ((q + 1) / 2) (g + 1) half-24.0 half-24.1))
-      ∙ of_bits-to_bits binary32 (rootOfUnits (t * 2 ^ k)) root-fits
+      ∙ of_bits-to_bits binary32 (root_of_units (t * 2 ^ k)) root-fits

@@ -6,7 +6,7 @@ use lib.Ieee.{Float, nan, inf, fin, down, up}
 use lib.Signed.{lt_z, mag, non_neg}
 use mir.Syntax.{Width}
 use mir.Val.{hbits}
-use Rattle.float.specs.Whole.{signed, sized, size_of, whole_of, wholeSize}
+use Rattle.float.specs.Whole.{signed, sized, size_of, whole_of, whole_size}
 use Rattle.float.specs.declared.whole.Rounding.{Rounding}
 use Rattle.float.specs.declared.whole.Rounding.TheVariants.{TowardZero}
 use Rattle.float.specs.declared.whole.Size.TheVariants as size
@@ -24,7 +24,7 @@ pub whole-mag : (r : Rounding) (max : ℕ) (x : Float) {z : ℤ} → Is z ≡ wh
 unfolding whole_of
 whole-mag r max nan e = no_whole e
 whole-mag r max (inf s) e = no_whole e
-whole-mag r max (fin s m e) h = within-mag max (signed s (wholeSize r s (m * up e) (down e))) h
+whole-mag r max (fin s m e) h = within-mag max (signed s (whole_size r s (m * up e) (down e))) h
 
 -- the answer fits the type of w bits, whose greatest whole is max
 pub whole-fits : (w : Width) (r : Rounding) (max : ℕ) (x : Float) {z : ℤ} → max < 2 ^ hbits w → Is z ≡ whole_of r max x → SFits w z

@@ -13,5 +13,5 @@ abbrev pub equals : Float → ℤ → Bool
 equals x z = eq x (exact z)
 
 -- Document 01: "NaN counts as not zero, −0 as zero."
-abbrev pub isZero : Float → Bool
-isZero x = equals x (pos 0)
+abbrev pub is_zero : Float → Bool
+is_zero x = equals x (pos 0)

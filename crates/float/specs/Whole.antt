@@ -12,8 +12,8 @@ use Rattle.float.specs.declared.whole.Whole.{Whole}
 use Rattle.float.specs.declared.whole.Whole.TheVariants.{Is, OutOfRange}
 
 -- n / d to the nearest whole number, a half to the next one up
-abbrev pub halfAway : ℕ → ℕ → ℕ
-halfAway n d = (2 * n + d) / (2 * d)
+abbrev pub half_away : ℕ → ℕ → ℕ
+half_away n d = (2 * n + d) / (2 * d)
 
 -- n / d to the next whole number up, or cut
 abbrev pub directed : Bool → ℕ → ℕ → ℕ
@@ -22,11 +22,11 @@ directed false n d = n / d
 
 -- Document 01: "TOINT and TOCHAR of a FLOAT cut toward zero; ROUND goes half away from zero." FLOOR goes down, CEIL up.
 -- The size of the whole number for ±n / d, where s says whether it is negative.
-abbrev pub wholeSize : Rounding → Bool → ℕ → ℕ → ℕ
-wholeSize TowardZero s n d = directed false n d
-wholeSize HalfAway s n d = halfAway n d
-wholeSize Down s n d = directed s n d
-wholeSize Up s n d = directed (not s) n d
+abbrev pub whole_size : Rounding → Bool → ℕ → ℕ → ℕ
+whole_size TowardZero s n d = directed false n d
+whole_size HalfAway s n d = half_away n d
+whole_size Down s n d = directed s n d
+whole_size Up s n d = directed (not s) n d
 
 abbrev pub signed : Bool → ℕ → ℤ
 signed false q = pos q
@@ -44,7 +44,7 @@ within max z = cond (in_range max z) (Is z) OutOfRange
 unfoldable pub whole_of : Rounding → ℕ → Float → Whole
 whole_of rounding max nan = OutOfRange
 whole_of rounding max (inf s) = OutOfRange
-whole_of rounding max (fin s m e) = within max (signed s (wholeSize rounding s (m * up e) (down e)))
+whole_of rounding max (fin s m e) = within max (signed s (whole_size rounding s (m * up e) (down e)))
 
 -- Document 01: "size (cut toward zero; NaN and infinities count as refused sizes)". A size is from 1 to max.
 abbrev pub sized : Whole → Size

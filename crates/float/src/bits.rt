@@ -1,7 +1,7 @@
 // A FLOAT as its bits and as its four bytes.
 ghost use Rattle.std.specs.Prelude.{◌≡◌, from_bits, to_bits};
 ghost use Rattle.std.specs.Float.{binary32};
-ghost use Rattle.float.specs.Bits.{bigEndian, floatBytes, joined};
+ghost use Rattle.float.specs.Bits.{big_endian, float_bytes, joined};
 
 // Document 01: "A NaN result is stored as hex 7FC00000."
 pub const NAN: u32 = 0x7fc0_0000;
@@ -24,7 +24,7 @@ pub fn from_bits(n: u32) -> f32
 }
 
 fn split(n: u32) -> [u8; 4]
-    ensures { result ≡ bigEndian n }
+    ensures { result ≡ big_endian n }
 {
     [
         (n / 0x100_0000) as u8,
@@ -35,7 +35,7 @@ fn split(n: u32) -> [u8; 4]
 }
 
 pub fn to_bytes(x: f32) -> [u8; 4]
-    ensures { result ≡ floatBytes x }
+    ensures { result ≡ float_bytes x }
 {
     split(to_bits(x))
 }

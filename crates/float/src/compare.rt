@@ -1,10 +1,10 @@
 // A FLOAT against a whole number, exactly.
 ghost use Rattle.std.specs.Prelude.{◌≡◌};
-ghost use Rattle.float.specs.Compare.{equals, isZero};
+ghost use Rattle.float.specs.Compare.{equals, is_zero};
 
 // Document 01: "NaN counts as not zero, −0 as zero."
 pub fn is_zero(x: f32) -> bool
-    ensures { result ≡ isZero x }
+    ensures { result ≡ is_zero x }
 {
     x == 0.0
 }

@@ -1,6 +1,6 @@
 // What PRINT shows of a FLOAT.
 ghost use Rattle.std.specs.Prelude.{◌≡◌};
-ghost use Rattle.float.specs.Print.{printedOf};
+ghost use Rattle.float.specs.Print.{printed_of};
 
 use crate::decode::{Decoded, LARGE, decode};
 use crate::whole::{Rounding, whole_size};
@@ -15,7 +15,7 @@ pub enum Printed {
 }
 
 pub fn to_printed(x: f32) -> Printed
-    ensures { result ≡ printedOf x }
+    ensures { result ≡ printed_of x }
 {
     match decode(x) {
         Decoded::NotANumber => Printed::NotANumber,

@@ -1,6 +1,6 @@
 // Quotients by a power of two, which may exceed the dividend's width.
 ghost use Rattle.std.specs.Prelude.{◌≡◌, ◌/◌, ◌^◌};
-ghost use Rattle.float.specs.Whole.{directed, halfAway};
+ghost use Rattle.float.specs.Whole.{directed, half_away};
 
 fn cut(a: u64, s: u64) -> u64
     ensures { result ≡ a / 2 ^ s }
@@ -21,7 +21,7 @@ pub fn divide(a: u64, s: u64, up: bool) -> u64
 
 // To the nearest whole number, a half up: by the quotient with one binary digit more.
 pub fn nearest(a: u64, s: u64) -> u64
-    ensures { result ≡ halfAway a (2 ^ s) }
+    ensures { result ≡ half_away a (2 ^ s) }
 {
     if s == 0 {
         return a;

@@ -1,6 +1,6 @@
 // The square root of a FLOAT, correctly rounded.
 ghost use Rattle.std.specs.Prelude.{◌≡◌, ◌*◌, ◌^◌, ◌<◌, ◌≤◌};
-ghost use Rattle.float.specs.Sqrt.{CorrectlyRounded, rootOfUnits, sqrtOf};
+ghost use Rattle.float.specs.Sqrt.{CorrectlyRounded, root_of_units, sqrt_of};
 ghost use Rattle.float.specs.Scale.{IsScaled};
 
 use crate::bits::{NAN, from_bits};
@@ -31,7 +31,7 @@ fn scale(significand: u64, exponent: u64) -> Scaled
 // odd root.
 fn positive_root(significand: u64, exponent: u64) -> f32
     requires { (0 < significand) × ((significand < 2 ^ 24) × (exponent < 254)) }
-    ensures { result ≡ rootOfUnits (significand * 2 ^ exponent) }
+    ensures { result ≡ root_of_units (significand * 2 ^ exponent) }
 {
     let scaled = scale(significand, exponent + UNIT);
     let radicand = scaled.radicand;
@@ -41,7 +41,7 @@ fn positive_root(significand: u64, exponent: u64) -> f32
 }
 
 pub fn sqrt(x: f32) -> f32
-    ensures { result ≡ sqrtOf x }
+    ensures { result ≡ sqrt_of x }
 {
     match decode(x) {
         Decoded::NotANumber => x,

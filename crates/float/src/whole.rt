@@ -1,6 +1,6 @@
 // Whole numbers out of a FLOAT.
 ghost use Rattle.std.specs.Prelude.{◌≡◌, ◌*◌, ◌^◌, ◌<◌};
-ghost use Rattle.float.specs.Whole.{signed, size_of, whole_of, wholeSize, within};
+ghost use Rattle.float.specs.Whole.{signed, size_of, whole_of, whole_size, within};
 
 use crate::decode::{Decoded, LARGE, UNIT, decode};
 use crate::quotient::{divide, nearest};
@@ -23,7 +23,7 @@ pub enum Whole {
 // The size of the whole number for a * 2^k smallest values.
 pub fn whole_size(rounding: Rounding, negative: bool, a: u64, k: u64) -> u64
     requires { (a < 2 ^ 32) × (k < 158) }
-    ensures { result ≡ wholeSize rounding negative (a * 2 ^ k) (2 ^ 149) }
+    ensures { result ≡ whole_size rounding negative (a * 2 ^ k) (2 ^ 149) }
 {
     if k >= UNIT {
         return a << (k - UNIT);

@@ -1,6 +1,6 @@
 // Which byte is which instruction.
 ghost use Rattle.std.specs.Prelude.{◌≡◌};
-ghost use Rattle.machine.specs.Instruction.{find, instructionOf, others};
+ghost use Rattle.machine.specs.Instruction.{find, instruction_of, others};
 
 use machine::instruction::{Instruction, Reach};
 use operator::operators::Operator;
@@ -42,9 +42,9 @@ fn other(n: u8) -> Instruction
 }
 
 // Document 01: "Numbered 1 to 69 by place in appendix C"
-#[tactic(auto, unfolding(machine::specs::Instruction::instructionOf))]
+#[tactic(auto, unfolding(machine::specs::Instruction::instruction_of))]
 pub fn instruction(n: u8) -> Instruction
-    ensures { result ≡ instructionOf n }
+    ensures { result ≡ instruction_of n }
 {
     match operator::instruction::operator(n) {
         Operator::OfOne(o) => Instruction::Operate(Operator::OfOne(o)),

@@ -1,10 +1,10 @@
 // One instruction.
 ghost use Rattle.std.specs.Prelude.{◌≡◌, ◌≤◌, length};
 ghost use Rattle.instruction.specs.Readable.{Readable};
-ghost use Rattle.machine.specs.Area.{kernelOf};
+ghost use Rattle.machine.specs.Area.{kernel_of};
 ghost use Rattle.machine.specs.Exec.{exec, performs};
-ghost use Rattle.machine.specs.Limits.{areaLength, stackSize};
-ghost use Rattle.stack.specs.Steps.{Means, Ready, maxCode, placed};
+ghost use Rattle.machine.specs.Limits.{area_length, stack_size};
+ghost use Rattle.stack.specs.Steps.{Means, Ready, max_code, placed};
 ghost use Rattle.variable.specs.Table.{owned};
 
 use crate::decode::instruction;
@@ -29,11 +29,11 @@ fn perform(
     owner: u16,
     i: Instruction,
 ) -> Step
-    requires { Ready code.now stack.now at × (length area.now ≡ areaLength)
-        × Readable (kernelOf area.now).variables }
+    requires { Ready code.now stack.now at × (length area.now ≡ area_length)
+        × Readable (kernel_of area.now).variables }
     ensures { Means stack.now result
         (performs code.now stack.now loopstart at clock i
-        (owned (kernelOf area.now).variables owner)) }
+        (owned (kernel_of area.now).variables owner)) }
 {
     match i {
         Instruction::Literal(kind) => push_literal(code, stack, at, loopstart, kind),
@@ -66,10 +66,10 @@ pub fn execute(
     area: &[u8],
     owner: u16,
 ) -> Step
-    requires { (length code.now ≤ maxCode) × (length stack.now ≤ stackSize) × (length area.now ≡ areaLength)
-        × Readable (kernelOf area.now).variables }
+    requires { (length code.now ≤ max_code) × (length stack.now ≤ stack_size) × (length area.now ≡ area_length)
+        × Readable (kernel_of area.now).variables }
     ensures { Means stack.now result (exec code.now clock
-        (placed stack.now at loopstart) (owned (kernelOf area.now).variables owner)) }
+        (placed stack.now at loopstart) (owned (kernel_of area.now).variables owner)) }
 {
     if code.len() <= at {
         return last_step(Action::Fault(2));

@@ -3,10 +3,10 @@ ghost use Rattle.std.specs.Prelude.{◌++◌, ◌≡◌, ◌≤◌, ◌<◌, len
 ghost use Rattle.instruction.specs.Printing.{Printable};
 ghost use Rattle.instruction.specs.Readable.{Readable};
 ghost use Rattle.machine.specs.Effect.{newline, printed};
-ghost use Rattle.machine.specs.Exec.{gets, prints, pushLiteral, pushText, sets};
-ghost use Rattle.machine.specs.Area.{kernelOf};
-ghost use Rattle.machine.specs.Limits.{areaLength, stackSize};
-ghost use Rattle.stack.specs.Steps.{Means, Ready, maxCode, step_of};
+ghost use Rattle.machine.specs.Exec.{gets, prints, push_literal, push_text, sets};
+ghost use Rattle.machine.specs.Area.{kernel_of};
+ghost use Rattle.machine.specs.Limits.{area_length, stack_size};
+ghost use Rattle.stack.specs.Steps.{Means, Ready, max_code, step_of};
 ghost use Rattle.variable.specs.Table.{owned};
 
 use area::variables::{find_in, variable_at};
@@ -21,7 +21,7 @@ use stack::{Action, STRING_KIND, Step, TopValue};
 pub fn push_literal(code: &[u8], stack: &[u8], at: usize, loopstart: u16, kind: u8) -> Step
     requires { Ready code.now stack.now at }
     ensures { Means stack.now result
-        (pushLiteral code.now stack.now loopstart at kind) }
+        (push_literal code.now stack.now loopstart at kind) }
 {
     let from = at + 1;
     let to = from + wide(kind);
@@ -44,7 +44,7 @@ pub fn push_literal(code: &[u8], stack: &[u8], at: usize, loopstart: u16, kind: 
 pub fn push_text(code: &[u8], stack: &[u8], at: usize, loopstart: u16) -> Step
     requires { Ready code.now stack.now at }
     ensures { Means stack.now result
-        (pushText code.now stack.now loopstart at) }
+        (push_text code.now stack.now loopstart at) }
 {
     let from = at + 1;
     let to = from + (text_length(&code[from..]) + 1);
@@ -92,10 +92,10 @@ pub fn get_variable(
     area: &[u8],
     owner: u16,
 ) -> Step
-    requires { Ready code.now stack.now at × (length area.now ≡ areaLength)
-        × Readable (kernelOf area.now).variables }
+    requires { Ready code.now stack.now at × (length area.now ≡ area_length)
+        × Readable (kernel_of area.now).variables }
     ensures { Means stack.now result (gets code.now stack.now loopstart at
-        (owned (kernelOf area.now).variables owner)) }
+        (owned (kernel_of area.now).variables owner)) }
 {
     let from = at + 1;
     let to = from + 1;
@@ -122,9 +122,9 @@ pub fn get_variable(
 }
 
 fn print_text(text: &[u8], ends: bool, kept: usize, pc: usize, loopstart: u16) -> Step
-    requires { (length text.now < stackSize) × (kept ≤ stackSize) × (pc ≤ maxCode) }
+    requires { (length text.now < stack_size) × (kept ≤ stack_size) × (pc ≤ max_code) }
     ensures { (result ≡ step_of Action.Print kept (text.now ++ newline ends) pc loopstart)
-        × (result.len ≤ stackSize) }
+        × (result.len ≤ stack_size) }
 {
     if ends {
         return with_bytes(Action::Print, kept, text, b"\n", pc, loopstart);
@@ -134,10 +134,10 @@ fn print_text(text: &[u8], ends: bool, kept: usize, pc: usize, loopstart: u16) -
 
 // Document 01: "PRINT: CHAR one byte; INT decimal; STRING without its zero; FLOAT to the nearest hundredth"
 fn print_value(kind: u8, bytes: &[u8], ends: bool, kept: usize, pc: usize, loopstart: u16) -> Step
-    requires { Printable kind bytes.now × (kept ≤ stackSize) × (pc ≤ maxCode) }
+    requires { Printable kind bytes.now × (kept ≤ stack_size) × (pc ≤ max_code) }
     ensures { (result ≡ step_of Action.Print kept
         (printed (record { kind = kind; bytes = bytes.now }) ++ newline ends) pc loopstart)
-        × (result.len ≤ stackSize) }
+        × (result.len ≤ stack_size) }
 {
     if kind == STRING_KIND {
         let n = text_length(bytes);

@@ -88,21 +88,21 @@ module _ (m : ℕ) (h : 0 < m) where
       regroup p q y = sym (add-mul p (q * m) y ∙ ap (λ (u : ℕ). p * y + u) (mul_right_comm q m y))
 
   -- the residue of one factor more, from that of one more in the residue
-  one_more : (a b : ℤ) → (residue m a * residue m b % m + residue m b) % m ≡ residue m (suc_ℤ a) * residue m b % m
-  one_more a b =
+  one-more : (a b : ℤ) → (residue m a * residue m b % m + residue m b) % m ≡ residue m (suc_ℤ a) * residue m b % m
+  one-more a b =
       mod-add-mod (residue m a * residue m b) m (residue m b) ∙ ap (λ (u : ℕ). u % m) (sym (suc-mul (residue m a) (residue m b)))
       ∙ sym (mod-mul (suc (residue m a)) (residue m b)) ∙ ap (λ (u : ℕ). u * residue m b % m) (sym (residue-suc a))
 
   mul-suc : (a b : ℤ) → residue m (a *ℤ b) ≡ residue m a * residue m b % m
       → residue m (suc_ℤ a *ℤ b) ≡ residue m (suc_ℤ a) * residue m b % m
-  mul-suc a b e = ap (residue m) (suc_ℤ-*ℤ a b) ∙ residue-add (a *ℤ b) b ∙ ap (λ (u : ℕ). (u + residue m b) % m) e ∙ one_more a b
+  mul-suc a b e = ap (residue m) (suc_ℤ-*ℤ a b) ∙ residue-add (a *ℤ b) b ∙ ap (λ (u : ℕ). (u + residue m b) % m) e ∙ one-more a b
 
   mul_pred : (a b : ℤ) → residue m (a *ℤ b) ≡ residue m a * residue m b % m
       → residue m (pred_ℤ a *ℤ b) ≡ residue m (pred_ℤ a) * residue m b % m
   mul_pred a b e =
       ap (residue m) (pred_ℤ-*ℤ a b)
       ∙ sym (residue-sub (a *ℤ b) b (residue m (pred_ℤ a) * residue m b % m) (mod-lt _ h)
-      (one_more (pred_ℤ a) b ∙ ap (λ (z : ℤ). residue m z * residue m b % m) (suc-pred a) ∙ sym e))
+      (one-more (pred_ℤ a) b ∙ ap (λ (z : ℤ). residue m z * residue m b % m) (suc-pred a) ∙ sym e))
 
   pub residue-mul : (a b : ℤ) → residue m (a *ℤ b) ≡ residue m a * residue m b % m
   residue-mul a b =

@@ -36,12 +36,12 @@ module _ (v : Width) {y : ℤ} {k : ℕ} (e : y ≡ pos k) (h : k < 2 ^ hbits v)
       (tt, Fits-of_z {z = pos k} (record { sfits = h }))
 
 -- ---- bits n read as a number: the top bit counts −(2 ^ hbits w), the bits below it as they stand
-abbrev topWeight : Width → ℕ → ℤ
-topWeight w n = negsuc (2 ^ hbits w - 1) *ℤ to_z w (n / 2 ^ hbits w)
+abbrev top_weight : Width → ℕ → ℤ
+top_weight w n = negsuc (2 ^ hbits w - 1) *ℤ to_z w (n / 2 ^ hbits w)
 
 record Weighed (w : Width) (n : ℕ) : Type 0 where
-  small : SFits w (topWeight w n)
-  sum : to_z w (n % 2 ^ hbits w) +ℤ topWeight w n ≡ to_z w n
+  small : SFits w (top_weight w n)
+  sum : to_z w (n % 2 ^ hbits w) +ℤ top_weight w n ≡ to_z w n
 
 times_zero : (k : ℕ) → negsuc k *ℤ pos 0 ≡ pos 0
 times_zero k = ap (λ (n : ℕ). neg_ℤ (pos n)) (mul-zero (suc k))
@@ -60,13 +60,13 @@ one_below w64 = search rules
 one_below w128 = search rules
 
 -- the weight of a top bit that the division gives as q
-weight-of : (w : Width) (n q : ℕ) → n / 2 ^ hbits w ≡ q → q < 2 ^ hbits w → topWeight w n ≡ negsuc (2 ^ hbits w - 1) *ℤ pos q
+weight-of : (w : Width) (n q : ℕ) → n / 2 ^ hbits w ≡ q → q < 2 ^ hbits w → top_weight w n ≡ negsuc (2 ^ hbits w - 1) *ℤ pos q
 weight-of w n q e h = ap (λ (z : ℤ). negsuc (2 ^ hbits w - 1) *ℤ z) (ap (to_z w) e ∙ to_z_pos w h)
 
 module _ (w : Width) (n : ℕ) (f : Fits w n) where
   clear : n < 2 ^ hbits w → Weighed w n
   clear h =
-      let weight : topWeight w n ≡ pos 0 = weight-of w n 0 (div-eq_of_lt h) (pow_pos (hbits w)) ∙ times_zero (2 ^ hbits w - 1) in
+      let weight : top_weight w n ≡ pos 0 = weight-of w n 0 (div-eq_of_lt h) (pow_pos (hbits w)) ∙ times_zero (2 ^ hbits w - 1) in
       record {
         small = subst⁻¹ (SFits w) weight (record { sfits = pow_pos (hbits w) });
         sum = ap₂ (λ (x y : ℤ). x +ℤ y) (ap (to_z w) (mod-eq_of_lt h) ∙ to_z_pos w h) weight ∙ ap pos (add-zero n) ∙ sym (to_z_pos w h);
@@ -80,7 +80,7 @@ module _ (w : Width) (n : ℕ) (f : Fits w n) where
       let rest : n - 2 ^ hbits w < 2 ^ hbits w = omega arith in
       let quotient : n / 2 ^ hbits w ≡ 1 = div-eq_of_lt-le {k = 1} (2 ^ hbits w) {m = n} (omega arith) (omega arith) in
       let remainder : n % 2 ^ hbits w ≡ n - 2 ^ hbits w = mod-eq-sub-mod h ∙ mod-eq_of_lt rest in
-      let weight : topWeight w n ≡ negsuc (2 ^ hbits w - 1) = weight-of w n 1 quotient (one_below w) ∙ times-one (2 ^ hbits w - 1) in
+      let weight : top_weight w n ≡ negsuc (2 ^ hbits w - 1) = weight-of w n 1 quotient (one_below w) ∙ times-one (2 ^ hbits w - 1) in
       record {
         small = subst⁻¹ (SFits w) weight (record { sfits = omega arith });
         sum = ap₂ (λ (x y : ℤ). x +ℤ y) (ap (to_z w) remainder ∙ to_z_pos w rest) weight
@@ -95,17 +95,17 @@ module _ (w : Width) (n : ℕ) (f : Fits w n) where
       by true e = clear (ltb-true n (2 ^ hbits w) e)
       by false e = set (ltb-false n (2 ^ hbits w) e)
 
-  pub weight-fits : SFits w (topWeight w n)
+  pub weight-fits : SFits w (top_weight w n)
   weight-fits = weighed.small
 
   -- the code adds the weight as the product's bits give it
-  sum_is : to_z w (n % 2 ^ hbits w) +ℤ to_z w (of_z w (topWeight w n)) ≡ to_z w n
+  sum_is : to_z w (n % 2 ^ hbits w) +ℤ to_z w (of_z w (top_weight w n)) ≡ to_z w n
   sum_is = ap (λ (z : ℤ). to_z w (n % 2 ^ hbits w) +ℤ z) (to_z-of_z weight-fits) ∙ weighed.sum
 
-  pub sum_fits : SFits w (to_z w (n % 2 ^ hbits w) +ℤ to_z w (of_z w (topWeight w n)))
+  pub sum_fits : SFits w (to_z w (n % 2 ^ hbits w) +ℤ to_z w (of_z w (top_weight w n)))
   sum_fits = subst⁻¹ (SFits w) sum_is (sfits_to_z f)
 
-  pub sum-reads : to_z w (of_z w (to_z w (n % 2 ^ hbits w) +ℤ to_z w (of_z w (topWeight w n)))) ≡ to_z w n
+  pub sum-reads : to_z w (of_z w (to_z w (n % 2 ^ hbits w) +ℤ to_z w (of_z w (top_weight w n)))) ≡ to_z w n
   sum-reads = to_z-of_z sum_fits ∙ sum_is
 
 -- ---- the bits of a number z: z + 2 ^ bits w is not negative, and modulo 2 ^ bits w it is those bits

@@ -12,46 +12,47 @@ use lib.Ieee.{of_bits, of_fields}
 use borrow.Author.Tests.{ltb-true}
 use Rattle.buffer.specs.Scattered.{gathered, scattered}
 use Rattle.buffer.specs.Lists.{all, any, flat, index, keep, pairs, same, tab}
-use Rattle.decimal.specs.Decimal.{lastDigits}
-use Rattle.float.specs.Print.{printedOf}
+use Rattle.decimal.specs.Decimal.{last_digits}
+use Rattle.float.specs.Print.{printed_of}
 use Rattle.float.specs.Whole.{whole_of}
 use Rattle.integer.specs.Modular.{wrapped}
 use Rattle.operator.specs.Arithmetic.{whole}
-use Rattle.operator.specs.Binary.{binary, wholeBits}
-use Rattle.operator.specs.Conversion.{convertedFloat}
-use Rattle.operator.specs.Instruction.{lookup as lookupOperator, operatorOf, includes}
+use Rattle.operator.specs.Binary.{binary, whole_bits}
+use Rattle.operator.specs.Conversion.{converted_float}
+use Rattle.operator.specs.Instruction.{lookup as lookup_operator, operator_of, includes}
 use Rattle.number.specs.Text.{text_of}
 use Rattle.operator.specs.Unary.{unary}
 use Rattle.number.specs.Value.{number_of}
-use Rattle.place.specs.Place.{apart, begins, fits, freeFrom, greatest, least, place}
-use Rattle.disc.specs.Directory.{beside as besideEntry, contents, entry_at, fileCount, goodDisc, goodEntry, goodFiles, isDiscLength, lookup}
+use Rattle.place.specs.Place.{apart, begins, fits, free_from, greatest, least, place}
+use Rattle.disc.specs.Directory.{beside as beside_entry, contents, entry_at, file_count, good_disc, good_entry, good_files, is_disc_length}
+use Rattle.disc.specs.Directory.{lookup}
 use Rattle.disc.specs.Directory.{location}
-use Rattle.disc.specs.Name.{goodField, goodName, trimmed}
-use Rattle.store.specs.Answer.{checked, storeAnswer}
-use Rattle.store.specs.File.{admission, entered, erased, place_of, readAt, roomOn, sizeLimit, writtenAt}
-use Rattle.variable.specs.Assign.{assignedCells, added, assigned, placeFor, placing}
-use Rattle.variable.specs.Good.{beside as besideVariable, goodSize, goodVariable, goodVariables}
+use Rattle.disc.specs.Name.{good_field, good_name, trimmed}
+use Rattle.store.specs.Answer.{checked, store_answer}
+use Rattle.store.specs.File.{admission, entered, erased, place_of, read_at, room_on, size_limit, written_at}
+use Rattle.variable.specs.Assign.{assigned_cells, added, assigned, place_for, placing}
+use Rattle.variable.specs.Good.{beside as beside_variable, good_size, good_variable, good_variables}
 use Rattle.variable.specs.Table.{freed, owned}
-use Rattle.variable.specs.Bytes.{variablesOf}
-use Rattle.machine.specs.Answer.{answer, files, goodArea, other, otherAnswer}
-use Rattle.machine.specs.Area.{kernelBytes, kernelOf}
+use Rattle.variable.specs.Bytes.{variables_of}
+use Rattle.machine.specs.Answer.{answer, files, good_area, other, other_answer}
+use Rattle.machine.specs.Area.{kernel_bytes, kernel_of}
 use Rattle.machine.specs.Beyond.{answered}
 use Rattle.machine.specs.Effect.{operates, settle}
-use Rattle.isolation_example.specs.Example.{Example, alone, beside, empty, fed, hours, printed, restAlone, restBeside}
+use Rattle.isolation_example.specs.Example.{Example, alone, beside, empty, fed, hours, printed, rest_alone, rest_beside}
 use Rattle.machine.specs.Exec.{exec, performs}
-use Rattle.machine.specs.GoodArea.{goodFile, goodHeader, goodKernel, goodLive, goodProcess, goodRegisters, isProgram, otherId}
-use Rattle.machine.specs.Instruction.{find, instructionOf}
-use Rattle.machine.specs.Isolation.{Isolation, Started, fileNamed, givesOut, startName}
-use Rattle.machine.specs.Suppositions.{Undisturbed, lacksSpace, turnDisturbs, writeLands}
-use Rattle.machine.specs.Observation.{place_in, Observation, declined, inputs, notRefused, observations, watch}
-use Rattle.machine.specs.Operations.{commanded, inOrder, inUse, shareOfTurns, shared, turnIfRunning}
+use Rattle.machine.specs.GoodArea.{good_file, good_header, good_kernel, good_live, good_process, good_registers, is_program, other_id}
+use Rattle.machine.specs.Instruction.{find, instruction_of}
+use Rattle.machine.specs.Isolation.{Isolation, Started, file_named, gives_out, start_name}
+use Rattle.machine.specs.Suppositions.{Undisturbed, lacks_space, turn_disturbs, write_lands}
+use Rattle.machine.specs.Observation.{place_in, Observation, declined, inputs, not_refused, observations, watch}
+use Rattle.machine.specs.Operations.{commanded, in_order, in_use, share_of_turns, shared, turn_if_running}
 use Rattle.machine.specs.Single.{single}
-use Rattle.machine.specs.Stack.{pop, popNumber, popString, wellFormed}
+use Rattle.machine.specs.Stack.{pop, pop_number, pop_string, well_formed}
 use Rattle.machine.specs.Start.{starting}
 use Rattle.machine.specs.Ended.{ended}
-use Rattle.machine.specs.State.{endedSlot, slotOf}
-use Rattle.machine.specs.Trace.{Event, Invocation, event, events, lastStorage, shareEvents, total, turnEvents}
-use Rattle.machine.specs.Turn.{carriedOut, turned}
+use Rattle.machine.specs.State.{ended_slot, slot_of}
+use Rattle.machine.specs.Trace.{Event, Invocation, event, events, last_storage, share_events, total, turn_events}
+use Rattle.machine.specs.Turn.{carried_out, turned}
 use Rattle.machine.proofs.Traces.Isolated.{isolated}
 
 -- ---- what is computed of a run: the n-th event starts the process i
@@ -61,11 +62,11 @@ none = event (other files) empty (record { number = negsuc 0; disc = []; area = 
 record Computed (i n : ℕ) (calls : List Invocation) (rest : List Event) : Type 0 where
   rest-is : rest ≡ drop (suc n) (events calls empty)
   inside : ltb n (length (events calls empty)) ≡ true
-  gives : givesOut i (get_or (events calls empty) n none) ≡ true
-  program : fileNamed (get_or (events calls empty) n none).before.disc
-      (startName (get_or (events calls empty) n none).call (get_or (events calls empty) n none).before) ≡ hours
+  gives : gives_out i (get_or (events calls empty) n none) ≡ true
+  program : file_named (get_or (events calls empty) n none).before.disc
+      (start_name (get_or (events calls empty) n none).call (get_or (events calls empty) n none).before) ≡ hours
   undisturbed : Undisturbed i rest
-  inputs_are : inputs (notRefused (watch i rest)) ≡ fed
+  inputs_are : inputs (not_refused (watch i rest)) ≡ fed
 
 started : (i n : ℕ) (calls : List Invocation) (rest : List Event) → Computed i n calls rest → Started i hours (events calls empty) rest
 started i n calls rest c =
@@ -80,18 +81,20 @@ started i n calls rest c =
       program = c.program;
     }
 
-runs : Computed 1 1 alone restAlone × Computed 5 21 beside restBeside × (length (watch 1 restAlone) ≡ 11)
-    × (get_or (observations (notRefused (watch 1 restAlone))) 7 (declined (pos 0)) ≡ printed)
-unfolding contents gathered location scattered sizeLimit roomOn fileCount none restAlone restBeside place_in givesOut lacksSpace
-    turnDisturbs writeLands events turnEvents shareEvents lastStorage
-    total watch answer otherAnswer storeAnswer checked isDiscLength lookup index entry_at tab goodDisc goodFiles goodEntry goodField
-    goodName besideEntry all pairs apart begins fits freeFrom greatest least place place_of admission entered erased writtenAt readAt
-    goodArea goodKernel goodHeader goodProcess goodLive goodRegisters goodFile isProgram otherId goodVariables goodVariable goodSize
-    besideVariable kernelOf kernelBytes variablesOf flat inUse any keep ended turned carriedOut answered owned freed assigned
-    placeFor placing added assignedCells exec performs find instructionOf operatorOf lookupOperator includes operates settle pop
-    popNumber popString wellFormed trimmed same unary binary whole wrapped wholeBits convertedFloat number_of text_of printedOf
-    whole_of lastDigits of_bits of_fields count_trailing_zeros commanded shared turnIfRunning shareOfTurns inOrder single starting endedSlot
-    slotOf
+runs : Computed 1 1 alone rest_alone × Computed 5 21 beside rest_beside × (length (watch 1 rest_alone) ≡ 11)
+    × (get_or (observations (not_refused (watch 1 rest_alone))) 7 (declined (pos 0)) ≡ printed)
+unfolding contents gathered location scattered size_limit room_on file_count none rest_alone rest_beside place_in gives_out lacks_space
+    turn_disturbs write_lands events turn_events share_events last_storage
+    total watch answer other_answer store_answer checked is_disc_length lookup index entry_at tab good_disc good_files good_entry good_field
+    good_name beside_entry all pairs apart begins fits free_from greatest least place place_of admission entered erased written_at read_at
+    good_area good_kernel good_header good_process good_live good_registers good_file is_program other_id good_variables good_variable
+    good_size
+    beside_variable kernel_of kernel_bytes variables_of flat in_use any keep ended turned carried_out answered owned freed assigned
+    place_for placing added assigned_cells exec performs find instruction_of operator_of lookup_operator includes operates settle pop
+    pop_number pop_string well_formed trimmed same unary binary whole wrapped whole_bits converted_float number_of text_of printed_of
+    whole_of last_digits of_bits of_fields count_trailing_zeros commanded shared turn_if_running share_of_turns in_order single starting
+    ended_slot
+    slot_of
 runs = (
   record { rest-is = refl; inside = refl; gives = refl; program = refl; undisturbed = refl; inputs_are = refl },
   record { rest-is = refl; inside = refl; gives = refl; program = refl; undisturbed = refl; inputs_are = refl },
@@ -100,18 +103,18 @@ runs = (
 )
 
 -- so the two are alike in all that is observed, by the theorem
-alike : observations (notRefused (watch 1 restAlone)) ≡ observations (notRefused (watch 5 restBeside))
+alike : observations (not_refused (watch 1 rest_alone)) ≡ observations (not_refused (watch 5 rest_beside))
 unfolding Isolation
 alike =
-    (isolated empty empty alone beside 1 5 hours restAlone restBeside (started 1 1 alone restAlone runs.0)
-    (started 5 21 beside restBeside runs.1) runs.0.undisturbed runs.1.undisturbed
+    (isolated empty empty alone beside 1 5 hours rest_alone rest_beside (started 1 1 alone rest_alone runs.0)
+    (started 5 21 beside rest_beside runs.1) runs.0.undisturbed runs.1.undisturbed
     (runs.0.inputs_are ∙ sym runs.1.inputs_are)).0
 
 pub example-holds : Example
 unfolding Example
 example-holds = (
-  started 1 1 alone restAlone runs.0,
-  started 5 21 beside restBeside runs.1,
+  started 1 1 alone rest_alone runs.0,
+  started 5 21 beside rest_beside runs.1,
   runs.0.undisturbed,
   runs.1.undisturbed,
   runs.0.inputs_are,

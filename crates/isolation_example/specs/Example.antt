@@ -2,12 +2,12 @@
 -- run, and the same program under another name, ID and slot, started by another's FORK within a round, beside
 -- neighbours with shares of their own that use its variable's name, print, fork and write a file.
 use Rattle.std.specs.Prelude.{ℕ, ◌≡◌, List, [], ◌∷◌, pos, drop, get_or, length, replicate}
-use Rattle.disc.specs.Layout.{shortDisc}
+use Rattle.disc.specs.Layout.{short_disc}
 use Rattle.machine.specs.Answer.{Call, turn, round, command, share, run, other, store, booted}
 use Rattle.machine.specs.Isolation.{Started}
-use Rattle.machine.specs.Limits.{roundRoom}
+use Rattle.machine.specs.Limits.{round_room}
 use Rattle.machine.specs.Suppositions.{Undisturbed}
-use Rattle.machine.specs.Observation.{Observation, declined, seen, inputs, notRefused, observations, watch}
+use Rattle.machine.specs.Observation.{Observation, declined, seen, inputs, not_refused, observations, watch}
 use Rattle.machine.specs.Operations.{suspend, resume, kill}
 use Rattle.machine.specs.Single.{Input, tick, given}
 use Rattle.machine.specs.Trace.{Event, Invocation, Storage, events}
@@ -29,10 +29,10 @@ abbrev pub starter : List ℕ
 starter = 3 ∷ 99 ∷ 0 ∷ 68 ∷ 67 ∷ []
 
 abbrev pub empty : Storage
-empty = record { disc = replicate shortDisc 0; area = booted }
+empty = record { disc = replicate short_disc 0; area = booted }
 
 abbrev pub lend : Call → Invocation
-lend c = record { call = c; out = replicate roundRoom 0 }
+lend c = record { call = c; out = replicate round_room 0 }
 
 abbrev pub storing : List ℕ → List ℕ → Invocation
 storing name bytes = lend (other (store name bytes))
@@ -56,11 +56,11 @@ beside =
     lend (command resume 5) ∷ lend (round 2) ∷ lend (round 3) ∷ []
 
 -- what follows the start
-unfoldable pub restAlone : List Event
-restAlone = drop 2 (events alone empty)
+unfoldable pub rest_alone : List Event
+rest_alone = drop 2 (events alone empty)
 
-unfoldable pub restBeside : List Event
-restBeside = drop 22 (events beside empty)
+unfoldable pub rest_beside : List Event
+rest_beside = drop 22 (events beside empty)
 
 -- what both are fed and do not refuse
 abbrev pub fed : List Input
@@ -84,12 +84,12 @@ printed =
 
 unfoldable pub Example : Type 0
 Example =
-    Started 1 hours (events alone empty) restAlone
-    × Started 5 hours (events beside empty) restBeside
-    × Undisturbed 1 restAlone
-    × Undisturbed 5 restBeside
-    × (inputs (notRefused (watch 1 restAlone)) ≡ fed)
-    × (inputs (notRefused (watch 5 restBeside)) ≡ fed)
-    × (observations (notRefused (watch 1 restAlone)) ≡ observations (notRefused (watch 5 restBeside)))
-    × (length (watch 1 restAlone) ≡ 11)
-    × (get_or (observations (notRefused (watch 5 restBeside))) 7 (declined (pos 0)) ≡ printed)
+    Started 1 hours (events alone empty) rest_alone
+    × Started 5 hours (events beside empty) rest_beside
+    × Undisturbed 1 rest_alone
+    × Undisturbed 5 rest_beside
+    × (inputs (not_refused (watch 1 rest_alone)) ≡ fed)
+    × (inputs (not_refused (watch 5 rest_beside)) ≡ fed)
+    × (observations (not_refused (watch 1 rest_alone)) ≡ observations (not_refused (watch 5 rest_beside)))
+    × (length (watch 1 rest_alone) ≡ 11)
+    × (get_or (observations (not_refused (watch 5 rest_beside))) 7 (declined (pos 0)) ≡ printed)

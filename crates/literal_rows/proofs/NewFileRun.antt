@@ -8,48 +8,51 @@ use lib.Seq.{split_at}
 use borrow.Author.Tests.{ltb-true}
 use Rattle.buffer.specs.Scattered.{gathered, scattered}
 use Rattle.buffer.specs.Lists.{all, any, flat, index, keep, pairs, same, tab}
-use Rattle.operator.specs.Instruction.{lookup as lookupOperator, operatorOf, includes}
+use Rattle.operator.specs.Instruction.{lookup as lookup_operator, operator_of, includes}
 use Rattle.number.specs.Value.{number_of}
-use Rattle.place.specs.Place.{apart, begins, fits, freeFrom, greatest, least, place}
-use Rattle.disc.specs.Directory.{beside as besideEntry, contents, entry_at, fileCount, goodDisc, goodEntry, goodFiles, isDiscLength, lookup}
+use Rattle.place.specs.Place.{apart, begins, fits, free_from, greatest, least, place}
+use Rattle.disc.specs.Directory.{beside as beside_entry, contents, entry_at, file_count, good_disc, good_entry, good_files, is_disc_length}
+use Rattle.disc.specs.Directory.{lookup}
 use Rattle.disc.specs.Directory.{location}
-use Rattle.disc.specs.Name.{goodField, goodName, trimmed}
-use Rattle.store.specs.Answer.{checked, storeAnswer}
-use Rattle.store.specs.File.{admission, entered, erased, place_of, roomOn, sizeLimit, writtenAt}
-use Rattle.variable.specs.Good.{goodVariables}
+use Rattle.disc.specs.Name.{good_field, good_name, trimmed}
+use Rattle.store.specs.Answer.{checked, store_answer}
+use Rattle.store.specs.File.{admission, entered, erased, place_of, room_on, size_limit, written_at}
+use Rattle.variable.specs.Good.{good_variables}
 use Rattle.variable.specs.Table.{owned}
-use Rattle.variable.specs.Bytes.{variablesOf}
-use Rattle.machine.specs.Answer.{answer, formatAnswer, goodArea, otherAnswer}
-use Rattle.machine.specs.Area.{kernelBytes, kernelOf}
+use Rattle.variable.specs.Bytes.{variables_of}
+use Rattle.machine.specs.Answer.{answer, format_answer, good_area, other_answer}
+use Rattle.machine.specs.Area.{kernel_bytes, kernel_of}
 use Rattle.machine.specs.Beyond.{answered}
 use Rattle.machine.specs.Effect.{settle}
 use Rattle.machine.specs.Exec.{exec, performs}
-use Rattle.machine.specs.GoodArea.{goodFile, goodHeader, goodKernel, goodLive, goodProcess, goodRegisters, isProgram, otherId}
-use Rattle.machine.specs.Instruction.{find, instructionOf}
-use Rattle.machine.specs.Operations.{commanded, inOrder, inUse, shareOfTurns, shared, turnIfRunning}
-use Rattle.machine.specs.Stack.{pop, popNumber, popString, wellFormed}
+use Rattle.machine.specs.GoodArea.{good_file, good_header, good_kernel, good_live, good_process, good_registers, is_program, other_id}
+use Rattle.machine.specs.Instruction.{find, instruction_of}
+use Rattle.machine.specs.Operations.{commanded, in_order, in_use, share_of_turns, shared, turn_if_running}
+use Rattle.machine.specs.Stack.{pop, pop_number, pop_string, well_formed}
 use Rattle.machine.specs.Start.{starting}
 use Rattle.machine.specs.Ended.{ended}
-use Rattle.machine.specs.State.{endedSlot, slotOf}
-use Rattle.machine.specs.Turn.{carriedOut, turned}
+use Rattle.machine.specs.State.{ended_slot, slot_of}
+use Rattle.machine.specs.Turn.{carried_out, turned}
 use Rattle.machine.specs.NewFile.{Executes, NoneInterferes, NewFileReadsEmpty, OpensNew}
 use Rattle.machine.specs.Observation.{place_in}
 use Rattle.machine.specs.Refusals.{Passes}
-use Rattle.machine.specs.Suppositions.{writeLands}
-use Rattle.machine.specs.Trace.{Event, events, lastStorage, shareEvents, total, turnEvents}
+use Rattle.machine.specs.Suppositions.{write_lands}
+use Rattle.machine.specs.Trace.{Event, events, last_storage, share_events, total, turn_events}
 use Rattle.machine.proofs.NewFiles.Turns.{new-file-reads-empty}
 use Rattle.literal_rows.specs.Calls.{formatted}
 use Rattle.literal_rows.specs.NewFileExample.{NewFileExample, between, calls, none, opening, reading, trace}
 
 computed : Passes formatted.disc formatted.area × (ltb 6 (length trace) ≡ true) × (ltb 6 (length (drop 7 trace)) ≡ true)
     × OpensNew 1 0 opening × NoneInterferes 1 between × Executes 1 0 59 reading
-unfolding contents gathered location scattered sizeLimit roomOn fileCount trace events turnEvents shareEvents lastStorage total place_in
-    writeLands inOrder shareOfTurns turnIfRunning answer
-    otherAnswer formatAnswer storeAnswer checked isDiscLength lookup index entry_at tab goodDisc goodFiles goodEntry goodField
-    goodName besideEntry all pairs apart begins fits freeFrom greatest least place place_of admission entered erased writtenAt
-    goodArea goodKernel goodHeader goodProcess goodLive goodRegisters goodFile isProgram otherId goodVariables kernelOf kernelBytes
-    variablesOf flat any keep ended turned carriedOut answered owned exec performs find instructionOf operatorOf lookupOperator
-    includes settle pop popNumber popString wellFormed trimmed same number_of commanded shared starting endedSlot slotOf inUse
+unfolding contents gathered location scattered size_limit room_on file_count trace events turn_events share_events last_storage total
+    place_in
+    write_lands in_order share_of_turns turn_if_running answer
+    other_answer format_answer store_answer checked is_disc_length lookup index entry_at tab good_disc good_files good_entry good_field
+    good_name beside_entry all pairs apart begins fits free_from greatest least place place_of admission entered erased written_at
+    good_area good_kernel good_header good_process good_live good_registers good_file is_program other_id good_variables kernel_of
+    kernel_bytes
+    variables_of flat any keep ended turned carried_out answered owned exec performs find instruction_of operator_of lookup_operator
+    includes settle pop pop_number pop_string well_formed trimmed same number_of commanded shared starting ended_slot slot_of in_use
 computed = (
   record { sizes = refl; disc-good = refl; area-good = refl },
   refl,

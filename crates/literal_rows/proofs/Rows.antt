@@ -4,60 +4,63 @@ use lib.Count.{count_trailing_zeros}
 use lib.Ieee.{of_bits, of_fields}
 use Rattle.buffer.specs.Scattered.{gathered, scattered}
 use Rattle.buffer.specs.Lists.{all, any, flat, index, keep, pairs, same, tab}
-use Rattle.decimal.specs.Decimal.{lastDigits}
-use Rattle.float.specs.Print.{printedOf}
+use Rattle.decimal.specs.Decimal.{last_digits}
+use Rattle.float.specs.Print.{printed_of}
 use Rattle.float.specs.Whole.{whole_of}
 use Rattle.integer.specs.Modular.{wrapped}
 use Rattle.operator.specs.Arithmetic.{whole}
-use Rattle.operator.specs.Binary.{binary, wholeBits}
-use Rattle.operator.specs.Conversion.{convertedFloat}
-use Rattle.operator.specs.Instruction.{lookup as lookupOperator, operatorOf, includes}
+use Rattle.operator.specs.Binary.{binary, whole_bits}
+use Rattle.operator.specs.Conversion.{converted_float}
+use Rattle.operator.specs.Instruction.{lookup as lookup_operator, operator_of, includes}
 use Rattle.number.specs.Text.{text_of}
 use Rattle.operator.specs.Unary.{unary}
 use Rattle.number.specs.Value.{number_of}
-use Rattle.place.specs.Place.{apart, begins, fits, freeFrom, greatest, least, place}
-use Rattle.disc.specs.Directory.{beside as besideEntry, contents, entry_at, fileCount, goodDisc, goodEntry, goodFiles, isDiscLength, lookup}
+use Rattle.place.specs.Place.{apart, begins, fits, free_from, greatest, least, place}
+use Rattle.disc.specs.Directory.{beside as beside_entry, contents, entry_at, file_count, good_disc, good_entry, good_files, is_disc_length}
+use Rattle.disc.specs.Directory.{lookup}
 use Rattle.disc.specs.Directory.{location}
-use Rattle.disc.specs.Name.{goodField, goodName, trimmed}
-use Rattle.store.specs.Answer.{checked, fileLine, filesAnswer, storeAnswer}
-use Rattle.store.specs.File.{admission, entered, erased, place_of, readAt, roomOn, sizeLimit, writtenAt}
-use Rattle.variable.specs.Assign.{added, assigned, placeFor, placing}
-use Rattle.variable.specs.Good.{beside as besideVariable, goodSize, goodVariable, goodVariables}
+use Rattle.disc.specs.Name.{good_field, good_name, trimmed}
+use Rattle.store.specs.Answer.{checked, file_line, files_answer, store_answer}
+use Rattle.store.specs.File.{admission, entered, erased, place_of, read_at, room_on, size_limit, written_at}
+use Rattle.variable.specs.Assign.{added, assigned, place_for, placing}
+use Rattle.variable.specs.Good.{beside as beside_variable, good_size, good_variable, good_variables}
 use Rattle.variable.specs.Table.{freed, owned}
-use Rattle.variable.specs.Bytes.{variablesOf}
-use Rattle.machine.specs.Answer.{answer, formatAnswer, goodArea, otherAnswer}
-use Rattle.machine.specs.Area.{kernelBytes, kernelOf}
+use Rattle.variable.specs.Bytes.{variables_of}
+use Rattle.machine.specs.Answer.{answer, format_answer, good_area, other_answer}
+use Rattle.machine.specs.Area.{kernel_bytes, kernel_of}
 use Rattle.machine.specs.Beyond.{answered}
 use Rattle.machine.specs.Effect.{operates, settle}
 use Rattle.machine.specs.Exec.{exec, performs}
-use Rattle.machine.specs.GoodArea.{goodFile, goodHeader, goodKernel, goodLive, goodProcess, goodRegisters, isProgram, otherId}
-use Rattle.machine.specs.Instruction.{find, instructionOf}
-use Rattle.machine.specs.Operations.{commanded, inUse, listText, processLine}
-use Rattle.machine.specs.Stack.{pop, popNumber, popString, wellFormed}
+use Rattle.machine.specs.GoodArea.{good_file, good_header, good_kernel, good_live, good_process, good_registers, is_program, other_id}
+use Rattle.machine.specs.Instruction.{find, instruction_of}
+use Rattle.machine.specs.Operations.{commanded, in_use, list_text, process_line}
+use Rattle.machine.specs.Stack.{pop, pop_number, pop_string, well_formed}
 use Rattle.machine.specs.Start.{starting}
 use Rattle.machine.specs.Ended.{ended}
-use Rattle.machine.specs.State.{endedSlot, slotOf}
-use Rattle.machine.specs.Turn.{carriedOut, turned}
+use Rattle.machine.specs.State.{ended_slot, slot_of}
+use Rattle.machine.specs.Turn.{carried_out, turned}
 use Rattle.rows.specs.Bench.{turns}
-use Rattle.literal_rows.specs.Calls.{laid, leftBy, numbers}
+use Rattle.literal_rows.specs.Calls.{laid, left_by, numbers}
 use Rattle.literal_rows.specs.Goodness.{AreaRows, DiscRows, LongDiscRows}
 use Rattle.literal_rows.specs.NewFiles.{NewFilesOnBytes}
 use Rattle.literal_rows.specs.Programs.{BenchOnBytes, WaitsOnBytes}
 use Rattle.literal_rows.specs.Run.{Listings, RunOnBytes}
 
 rows : RunOnBytes × Listings × AreaRows × DiscRows × LongDiscRows × BenchOnBytes × WaitsOnBytes × NewFilesOnBytes
-unfolding contents gathered location scattered sizeLimit roomOn fileCount RunOnBytes Listings AreaRows DiscRows LongDiscRows BenchOnBytes
-    WaitsOnBytes NewFilesOnBytes laid leftBy numbers turns
-    answer otherAnswer formatAnswer
-    storeAnswer checked isDiscLength filesAnswer fileLine lookup index entry_at tab goodDisc goodFiles goodEntry goodField goodName
-    besideEntry all pairs apart begins fits freeFrom greatest least place place_of admission
-    entered erased writtenAt readAt goodArea goodKernel goodHeader goodProcess goodLive
-    goodRegisters goodFile isProgram otherId goodVariables goodVariable goodSize besideVariable kernelOf kernelBytes variablesOf flat any
-    keep ended turned carriedOut answered owned freed assigned placeFor placing added exec performs find instructionOf operatorOf
-    lookupOperator includes operates settle pop popNumber popString wellFormed trimmed same unary binary whole wrapped wholeBits
-    convertedFloat number_of text_of printedOf whole_of lastDigits of_bits of_fields count_trailing_zeros commanded starting endedSlot
-    slotOf listText
-    processLine inUse
+unfolding contents gathered location scattered size_limit room_on file_count RunOnBytes Listings AreaRows DiscRows LongDiscRows BenchOnBytes
+    WaitsOnBytes NewFilesOnBytes laid left_by numbers turns
+    answer other_answer format_answer
+    store_answer checked is_disc_length files_answer file_line lookup index entry_at tab good_disc good_files good_entry good_field
+    good_name
+    beside_entry all pairs apart begins fits free_from greatest least place place_of admission
+    entered erased written_at read_at good_area good_kernel good_header good_process good_live
+    good_registers good_file is_program other_id good_variables good_variable good_size beside_variable kernel_of kernel_bytes variables_of
+    flat any
+    keep ended turned carried_out answered owned freed assigned place_for placing added exec performs find instruction_of operator_of
+    lookup_operator includes operates settle pop pop_number pop_string well_formed trimmed same unary binary whole wrapped whole_bits
+    converted_float number_of text_of printed_of whole_of last_digits of_bits of_fields count_trailing_zeros commanded starting ended_slot
+    slot_of list_text
+    process_line in_use
 rows = (
   (refl, refl, refl),
   (refl, refl, refl, refl),

@@ -1,9 +1,9 @@
 -- Bytes written out at their offsets, and calls one after another.
 use Rattle.std.specs.Prelude.{ℕ, List, [], ◌∷◌, ℤ, replicate}
 use Rattle.buffer.specs.Buffer.{overwrite}
-use Rattle.machine.specs.Answer.{Call, answer, formatAnswer}
-use Rattle.machine.specs.Limits.{roundRoom}
-use Rattle.machine.specs.Trace.{Storage, lending, storageOf}
+use Rattle.machine.specs.Answer.{Call, answer, format_answer}
+use Rattle.machine.specs.Limits.{round_room}
+use Rattle.machine.specs.Trace.{Storage, lending, storage_of}
 
 -- each run of bytes laid over a list at its offset
 unfoldable pub laid : List ℕ → List (ℕ × List ℕ) → List ℕ
@@ -12,16 +12,16 @@ laid l (run ∷ runs) = laid (overwrite l run.0 run.1) runs
 
 -- what every call is lent
 abbrev pub room : List ℕ
-room = replicate roundRoom 0
+room = replicate round_room 0
 
 -- Document 01: "Format zeroes the disc, then boots." It takes any bytes.
 abbrev pub formatted : Storage
-formatted = storageOf (formatAnswer (lending (record { disc = replicate 1024 255; area = replicate 1056 255 }) []))
+formatted = storage_of (format_answer (lending (record { disc = replicate 1024 255; area = replicate 1056 255 }) []))
 
 unfoldable pub numbers : List Call → Storage → List ℤ
 numbers [] s = []
-numbers (c ∷ cs) s = let a = answer c (lending s room) in a.number ∷ numbers cs (storageOf a)
+numbers (c ∷ cs) s = let a = answer c (lending s room) in a.number ∷ numbers cs (storage_of a)
 
-unfoldable pub leftBy : List Call → Storage → Storage
-leftBy [] s = s
-leftBy (c ∷ cs) s = leftBy cs (storageOf (answer c (lending s room)))
+unfoldable pub left_by : List Call → Storage → Storage
+left_by [] s = s
+left_by (c ∷ cs) s = left_by cs (storage_of (answer c (lending s room)))

@@ -2,20 +2,20 @@
 use Rattle.std.specs.Prelude.{ℕ, ◌-◌, ◌≡◌, Bool, true, not, List, [], ◌∷◌, ◌++◌, replicate, set}
 use Rattle.buffer.specs.Buffer.{overwrite}
 use Rattle.buffer.specs.Lists.{all}
-use Rattle.disc.specs.Directory.{goodDisc}
-use Rattle.disc.specs.Layout.{longDisc, shortDisc}
-use Rattle.machine.specs.Answer.{goodArea}
-use Rattle.literal_rows.specs.Run.{area_bytes, discBytes}
+use Rattle.disc.specs.Directory.{good_disc}
+use Rattle.disc.specs.Layout.{long_disc, short_disc}
+use Rattle.machine.specs.Answer.{good_area}
+use Rattle.literal_rows.specs.Run.{area_bytes, disc_bytes}
 
-abbrev pub areaWith : ℕ × ℕ → Bool
-areaWith row = goodArea discBytes (set area_bytes row.0 row.1)
+abbrev pub area_with : ℕ × ℕ → Bool
+area_with row = good_area disc_bytes (set area_bytes row.0 row.1)
 
-abbrev pub discWith : ℕ × ℕ → Bool
-discWith row = goodDisc (set discBytes row.0 row.1)
+abbrev pub disc_with : ℕ × ℕ → Bool
+disc_with row = good_disc (set disc_bytes row.0 row.1)
 
 -- ---- the work area: offset and byte
-abbrev pub areaGood : List (ℕ × ℕ)
-areaGood =
+abbrev pub area_good : List (ℕ × ℕ)
+area_good =
     -- memory; a name of another's; the last address that fits; an owner who has no such name; an entry beyond the count
     (100, 200) ∷ (256, 115) ∷ (258, 254) ∷ (260, 2) ∷ (268, 255) ∷
     -- fewer variables; a next ID that no live process has
@@ -29,8 +29,8 @@ areaGood =
     -- all of an ended record but its state
     (544, 255) ∷ (556, 1) ∷ (559, 13) ∷ (564, 255) ∷ (574, 99) ∷ (575, 9) ∷ (607, 255) ∷ []
 
-abbrev pub areaBad : List (ℕ × ℕ)
-areaBad =
+abbrev pub area_bad : List (ℕ × ℕ)
+area_bad =
     -- "at most 25 variables"; of what is counted beyond the two, nobody is the owner
     (406, 26) ∷ (406, 3) ∷
     -- "known states"
@@ -51,17 +51,17 @@ areaBad =
     (558, 114) ∷ []
 
 unfoldable pub AreaRows : Type 0
-AreaRows = (all areaWith areaGood ≡ true) × (all (λ row. not (areaWith row)) areaBad ≡ true)
+AreaRows = (all area_with area_good ≡ true) × (all (λ row. not (area_with row)) area_bad ≡ true)
 
 -- ---- the disc
-abbrev pub discGood : List (ℕ × ℕ)
-discGood =
+abbrev pub disc_good : List (ℕ × ℕ)
+disc_good =
     -- data, entries beyond the count, fewer files; a shorter file; the last bytes of a name
     (161, 255) ∷ (1023, 255) ∷ (48, 255) ∷ (159, 255) ∷ (160, 2) ∷ (160, 0) ∷
     (14, 1) ∷ (46, 255) ∷ (2, 33) ∷ (2, 126) ∷ []
 
-abbrev pub discBad : List (ℕ × ℕ)
-discBad =
+abbrev pub disc_bad : List (ℕ × ℕ)
+disc_bad =
     -- "at most 10"; an entry of zeros counted
     (160, 11) ∷ (160, 4) ∷
     -- "A name is 1 to 11 bytes of 33 to 126, zero-filled."
@@ -70,24 +70,24 @@ discBad =
     (14, 0) ∷ (14, 10) ∷ (12, 160) ∷ (28, 169) ∷ (47, 4) ∷ (13, 4) ∷ []
 
 unfoldable pub DiscRows : Type 0
-DiscRows = (all discWith discGood ≡ true) × (all (λ row. not (discWith row)) discBad ≡ true)
+DiscRows = (all disc_with disc_good ≡ true) × (all (λ row. not (disc_with row)) disc_bad ≡ true)
 
 -- ---- the same files on a long disc, with these bytes from that offset on. Document 02, Q-2: "data ending at 1023 or
 -- 4095"
-abbrev pub longWith : ℕ × List ℕ → Bool
-longWith row = goodDisc (overwrite (discBytes ++ replicate (longDisc - shortDisc) 0) row.0 row.1)
+abbrev pub long_with : ℕ × List ℕ → Bool
+long_with row = good_disc (overwrite (disc_bytes ++ replicate (long_disc - short_disc) 0) row.0 row.1)
 
-abbrev pub longGood : List (ℕ × List ℕ)
-longGood =
+abbrev pub long_good : List (ℕ × List ℕ)
+long_good =
     -- the length of the last file, from 188 on: up to byte 4095, and one byte less
     (46, 68 ∷ 15 ∷ []) ∷ (46, 67 ∷ 15 ∷ []) ∷
     -- start and length of the first: from 1024 on, and byte 4095 alone
     (12, 0 ∷ 4 ∷ 9 ∷ 0 ∷ []) ∷ (12, 255 ∷ 15 ∷ 1 ∷ 0 ∷ []) ∷ []
 
-abbrev pub longBad : List (ℕ × List ℕ)
-longBad =
+abbrev pub long_bad : List (ℕ × List ℕ)
+long_bad =
     (46, 69 ∷ 15 ∷ []) ∷ (46, 255 ∷ 255 ∷ []) ∷
     (12, 255 ∷ 15 ∷ 2 ∷ 0 ∷ []) ∷ (12, 0 ∷ 16 ∷ 1 ∷ 0 ∷ []) ∷ []
 
 unfoldable pub LongDiscRows : Type 0
-LongDiscRows = (all longWith longGood ≡ true) × (all (λ row. not (longWith row)) longBad ≡ true)
+LongDiscRows = (all long_with long_good ≡ true) × (all (λ row. not (long_with row)) long_bad ≡ true)

@@ -4,7 +4,7 @@ use Rattle.std.specs.Prelude.{ℕ, ◌≡◌, List, [], ◌∷◌, ◌++◌}
 use Rattle.buffer.specs.Buffer.{part}
 use Rattle.machine.specs.Answer.{Call, erase, other, run, store, turn}
 use Rattle.machine.specs.Trace.{Storage}
-use Rattle.literal_rows.specs.Calls.{formatted, leftBy}
+use Rattle.literal_rows.specs.Calls.{formatted, left_by}
 use Rattle.literal_rows.specs.Run.{log}
 
 -- STRING "log", CHAR 4, OPEN, READSTRING
@@ -27,8 +27,8 @@ seen s = part s.disc 170 5 ++ part s.area 440 13
 unfoldable pub NewFilesOnBytes : Type 0
 NewFilesOnBytes =
     -- "OPEN now fills a file it creates with zeros": four, the fifth byte is no file's; the empty string is read
-    (seen (leftBy (files ++ (other (erase log) ∷ reads)) formatted)
+    (seen (left_by (files ++ (other (erase log) ∷ reads)) formatted)
     ≡ 0 ∷ 0 ∷ 0 ∷ 0 ∷ 100 ∷ 170 ∷ 0 ∷ 4 ∷ 0 ∷ 1 ∷ 0 ∷ 3 ∷ 0 ∷ 0 ∷ 1 ∷ 3 ∷ 0 ∷ 0 ∷ [])
     -- "they must open without erasing": "ab" is read
-    × (seen (leftBy (files ++ reads) formatted)
+    × (seen (left_by (files ++ reads) formatted)
     ≡ 97 ∷ 98 ∷ 0 ∷ 99 ∷ 100 ∷ 170 ∷ 0 ∷ 5 ∷ 0 ∷ 3 ∷ 0 ∷ 5 ∷ 0 ∷ 97 ∷ 98 ∷ 0 ∷ 3 ∷ 3 ∷ [])

@@ -11,7 +11,7 @@ use mir.Syntax.{w16}
 use mir.Val.{to_z}
 use Rattle.integer.specs.Modular.{residue, wrapped}
 use Rattle.integer.proofs.Modular.{residue-add, residue-read, residue-sub, residue-wrapped}
-use Rattle.number.specs.Clock.{aheadBy, isAhead, maxAhead, wholeIsAhead}
+use Rattle.number.specs.Clock.{ahead_by, is_ahead, max_ahead, whole_is_ahead}
 use Rattle.number.specs.Value.{number_of}
 use Rattle.number.specs.declared.Number.{Number}
 use Rattle.number.specs.declared.Number.TheVariants.{Int}
@@ -21,10 +21,10 @@ use Rattle.machine.specs.Waiting.{GoesOn, Stays, Waits, reading}
 
 -- ---- DELAYUNTIL by its test
 module _ (x : Number) (clock : ℕ) where
-  stays-ahead : isAhead x clock ≡ true → Stays x clock
+  stays-ahead : is_ahead x clock ≡ true → Stays x clock
   stays-ahead h prog stack loopstart at item rest pops is = rw (pops, is, h)
 
-  goes-on-past : isAhead x clock ≡ false → GoesOn x clock
+  goes-on-past : is_ahead x clock ≡ false → GoesOn x clock
   goes-on-past h prog stack loopstart at item rest pops is = rw (pops, is, h)
 
 -- ---- the clock's low 16 bits
@@ -51,26 +51,26 @@ module _ (time d : ℕ) where
       ∙ two_bytes (reading time) ∙ reading-low time) ∙ sym (add-mod time d 65536)
 
   -- r milliseconds before the target, modulo 65,536
-  ahead : (now r : ℕ) → r < 65536 → (r + now) % 65536 ≡ (time + d) % 65536 → r ≡ aheadBy target (reading now)
+  ahead : (now r : ℕ) → r < 65536 → (r + now) % 65536 ≡ (time + d) % 65536 → r ≡ ahead_by target (reading now)
   ahead now r k e =
       residue-sub 65536 (omega arith) target (pos (reading now)) r k
       (ap (λ (n : ℕ). (r + n) % 65536) (reading-low now) ∙ add-mod-mod r now 65536 ∙ e ∙ sym target-residue)
 
   tested : (now r : ℕ) → r < 65536 → (r + now) % 65536 ≡ (time + d) % 65536
-      → wholeIsAhead target (reading now) ≡ (leb 1 r && leb r maxAhead)
-  tested now r k e = sym (ap (λ (n : ℕ). leb 1 n && leb n maxAhead) (ahead now r k e))
+      → whole_is_ahead target (reading now) ≡ (leb 1 r && leb r max_ahead)
+  tested now r k e = sym (ap (λ (n : ℕ). leb 1 n && leb n max_ahead) (ahead now r k e))
 
-  module _ (h : d ≤ maxAhead) where
-    before : (e : ℕ) → e < d → wholeIsAhead target (reading (time + e)) ≡ true
+  module _ (h : d ≤ max_ahead) where
+    before : (e : ℕ) → e < d → whole_is_ahead target (reading (time + e)) ≡ true
     before e k =
         tested (time + e) (d - e) (omega arith) (omega arith)
-        ∙ ap₂ ◌&&◌ (le-leb 1 (d - e) (omega arith)) (le-leb (d - e) maxAhead (omega arith))
+        ∙ ap₂ ◌&&◌ (le-leb 1 (d - e) (omega arith)) (le-leb (d - e) max_ahead (omega arith))
 
-    after : (e : ℕ) → e ≤ maxAhead + 1 → wholeIsAhead target (reading (time + d + e)) ≡ false
+    after : (e : ℕ) → e ≤ max_ahead + 1 → whole_is_ahead target (reading (time + d + e)) ≡ false
     after zero k = tested (time + d + 0) 0 (omega arith) (omega arith)
     after (suc e) k =
         tested (time + d + suc e) (65536 - suc e) (omega arith) (omega arith)
-        ∙ ap₂ ◌&&◌ (le-leb 1 (65536 - suc e) (omega arith)) (lt-leb (65536 - suc e) maxAhead (omega arith))
+        ∙ ap₂ ◌&&◌ (le-leb 1 (65536 - suc e) (omega arith)) (lt-leb (65536 - suc e) max_ahead (omega arith))
 
     pub waits : Waits time d
     unfolding binary whole number_of

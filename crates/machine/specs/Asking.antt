@@ -3,8 +3,8 @@
 use Rattle.std.specs.Prelude.{ℕ, ◌+◌, List}
 use Rattle.operator.specs.declared.instruction.Types.TheVariants.{AnyNumber, AnyString, AnyValue}
 use Rattle.disc.specs.Name.{trimmed}
-use Rattle.machine.specs.Effect.{opens, closes, writes, reads, readsString, forks, awaits, Effect, asks}
-use Rattle.machine.specs.Effect.{with_number, withPopped}
+use Rattle.machine.specs.Effect.{opens, closes, writes, reads, reads_string, forks, awaits, Effect, asks}
+use Rattle.machine.specs.Effect.{with_number, with_popped}
 use Rattle.machine.specs.Stack.{pop}
 use Rattle.machine.specs.State.{Local}
 use Rattle.machine.specs.declared.instruction.Reach.{Reach}
@@ -21,13 +21,13 @@ module _ (prog stack : List ℕ) (loopstart at : ℕ) where
   abbrev pub reaches : Reach → Effect
   reaches OpenFile =
       with_number (pop AnyNumber stack) λ size rest.
-      withPopped (pop AnyString rest) λ name rest.
+      with_popped (pop AnyString rest) λ name rest.
       asks (opens (trimmed name.bytes) size (past rest))
   reaches CloseFile = asks (closes (past stack))
-  reaches WriteFile = withPopped (pop AnyValue stack) λ x rest. asks (writes x.bytes (past rest))
+  reaches WriteFile = with_popped (pop AnyValue stack) λ x rest. asks (writes x.bytes (past rest))
   reaches (ReadNumber kind) = asks (reads kind (past stack))
-  reaches ReadString = asks (readsString (past stack))
-  reaches Fork = withPopped (pop AnyString stack) λ name rest. asks (forks (trimmed name.bytes) (past rest))
+  reaches ReadString = asks (reads_string (past stack))
+  reaches Fork = with_popped (pop AnyString stack) λ name rest. asks (forks (trimmed name.bytes) (past rest))
   reaches WaitUntilDone =
       with_number (pop AnyNumber stack) λ x rest.
       asks (awaits x (record { stack = stack; pc = at; loopstart = loopstart }) (past rest))

@@ -5,28 +5,28 @@ use Rattle.std.specs.Float.Ieee.{up, down}
 use Rattle.float.specs.declared.whole.Size.{Size}
 use Rattle.float.specs.declared.whole.Size.TheVariants.{Is, Refused}
 use Rattle.number.specs.declared.Number.TheVariants.{Int, Float}
-use Rattle.disc.specs.Directory.{DiscLength, fileCount, isDiscLength}
-use Rattle.disc.specs.Layout.{longDisc, shortDisc}
-use Rattle.store.specs.File.{sizeLimit}
+use Rattle.disc.specs.Directory.{DiscLength, file_count, is_disc_length}
+use Rattle.disc.specs.Layout.{long_disc, short_disc}
+use Rattle.store.specs.File.{size_limit}
 use Rattle.machine.specs.Answer.{Buffers, answer, other, store}
-use Rattle.machine.specs.Beyond.{newFileSize}
+use Rattle.machine.specs.Beyond.{new_file_size}
 use Rattle.machine.specs.Fields.{IsName}
 
 -- "data ending at 1023 or 4095, so *store* takes up to 863 or 3,935"
 abbrev pub BothSizes : Type 0
 BothSizes =
     (disc : List ℕ)
-    → (length disc ≡ shortDisc → sizeLimit disc ≡ 863)
-    × (length disc ≡ longDisc → sizeLimit disc ≡ 3935)
+    → (length disc ≡ short_disc → size_limit disc ≡ 863)
+    × (length disc ≡ long_disc → size_limit disc ≡ 3935)
 
 abbrev pub Fitting : (disc : List ℕ) (n : ℕ) → Type 0
-Fitting disc n = (1 ≤ n) × (n ≤ sizeLimit disc)
+Fitting disc n = (1 ≤ n) × (n ≤ size_limit disc)
 
 -- a disc without files, whatever its other bytes, takes any file that fits under any good name, and refuses every other
 -- by 6
 abbrev pub EmptyDiscTakes : Type 0
 EmptyDiscTakes =
-    (b : Buffers) (name bytes : List ℕ) → DiscLength (length b.disc) → fileCount b.disc ≡ 0 → IsName name
+    (b : Buffers) (name bytes : List ℕ) → DiscLength (length b.disc) → file_count b.disc ≡ 0 → IsName name
     → let a = answer (other (store name bytes)) b in let fitting = Fitting b.disc (length bytes) in
     (fitting × (a.number ≡ pos 0)) ⊎ ((fitting → ⊥) × (a.number ≡ neg_ℤ (pos 6)))
 
@@ -36,13 +36,13 @@ Taken disc n size = (Fitting disc n × (size ≡ Is n)) ⊎ ((Fitting disc n →
 
 abbrev pub OpenTakes : Type 0
 OpenTakes =
-    (disc : List ℕ) → ((n : ℕ) → Taken disc n (newFileSize disc (Int (pos n))))
-    × ((m : ℕ) (e : ℤ) → Taken disc (m * up e / down e) (newFileSize disc (Float (fin false m e))))
+    (disc : List ℕ) → ((n : ℕ) → Taken disc n (new_file_size disc (Int (pos n))))
+    × ((m : ℕ) (e : ℤ) → Taken disc (m * up e / down e) (new_file_size disc (Float (fin false m e))))
 
 -- "Discs already in the field are read unchanged": of every length but the new one the test says what document 01's
 -- said
 abbrev pub ReadAsBefore : Type 0
-ReadAsBefore = (n : ℕ) → (n ≡ longDisc → ⊥) → isDiscLength n ≡ eqb n shortDisc
+ReadAsBefore = (n : ℕ) → (n ≡ long_disc → ⊥) → is_disc_length n ≡ eqb n short_disc
 
 unfoldable pub EitherLength : Type 0
 EitherLength = BothSizes × EmptyDiscTakes × OpenTakes × ReadAsBefore

@@ -5,15 +5,15 @@ use Rattle.buffer.specs.Buffer.{overwrite}
 use Rattle.store.specs.Room.{HasRoom, NoRoom, Placed}
 use Rattle.disc.specs.Offsets.{bytes_of, size_of}
 use Rattle.machine.specs.Answer.{Answer, Buffers, command, share, run, other, store, retrieve, erase, files}
-use Rattle.machine.specs.Answer.{freeSpace, list, answer, bootAnswer, formatAnswer}
-use Rattle.machine.specs.Area.{kernelOf}
+use Rattle.machine.specs.Answer.{free_space, list, answer, boot_answer, format_answer}
+use Rattle.machine.specs.Area.{kernel_of}
 use Rattle.machine.specs.Changed.{Enters, Leaves, Starts}
 use Rattle.machine.specs.Ending.{Touched}
-use Rattle.machine.specs.Fields.{HasId, Named, filesText, nextId, processesText}
-use Rattle.machine.specs.Limits.{areaLength, next_at}
+use Rattle.machine.specs.Fields.{HasId, Named, files_text, next_id, processes_text}
+use Rattle.machine.specs.Limits.{area_length, next_at}
 use Rattle.machine.specs.Operations.{Command, suspend, resume, kill}
 use Rattle.machine.specs.Refusals.{state_of}
-use Rattle.machine.specs.State.{paused, processAt, running, withProcess, withShare, withState}
+use Rattle.machine.specs.State.{paused, process_at, running, with_process, with_share, with_state}
 use Rattle.machine.specs.declared.Kernel.{Kernel}
 
 -- ---- files
@@ -43,12 +43,12 @@ abbrev pub Lists : List ℕ → Buffers → Answer → Type 0
 Lists text b a = (n : ℕ) → a.number ≡ pos n → (n ≡ length text) × (a.out ≡ overwrite b.out 0 text)
 
 abbrev pub FilesDone : Type 0
-FilesDone = (b : Buffers) → Lists (filesText b.disc) b (answer (other files) b)
+FilesDone = (b : Buffers) → Lists (files_text b.disc) b (answer (other files) b)
 
 -- a file that long has room, no longer one has
 abbrev pub FreeSpaceDone : Type 0
 FreeSpaceDone =
-    (b : Buffers) (n : ℕ) → (answer (other freeSpace) b).number ≡ pos n
+    (b : Buffers) (n : ℕ) → (answer (other free_space) b).number ≡ pos n
     → (0 < n → HasRoom b.disc n) × ((m : ℕ) → n < m → NoRoom b.disc m)
 
 -- ---- processes
@@ -57,22 +57,22 @@ abbrev pub RunDone : Type 0
 RunDone =
     (b : Buffers) (name : List ℕ) (n : ℕ) → let a = answer (run name) b in
     a.number ≡ pos n
-    → (n ≡ nextId b.area) × ((slot : ℕ) × Starts b.disc b.area name slot (kernelOf a.area))
+    → (n ≡ next_id b.area) × ((slot : ℕ) × Starts b.disc b.area name slot (kernel_of a.area))
 
 abbrev pub ListDone : Type 0
-ListDone = (b : Buffers) → Lists (processesText b.area) b (answer (other list) b)
+ListDone = (b : Buffers) → Lists (processes_text b.area) b (answer (other list) b)
 
 -- what a command makes of the kernel's state, the process being in slot i
 abbrev pub Commanded : Command → ℕ → Kernel → Kernel → Type 0
-Commanded suspend i before after = processAt after i ≡ withState (processAt before i) paused
-Commanded resume i before after = processAt after i ≡ withState (processAt before i) running
+Commanded suspend i before after = process_at after i ≡ with_state (process_at before i) paused
+Commanded resume i before after = process_at after i ≡ with_state (process_at before i) running
 Commanded kill i before after = Touched before i 0 after
 
 abbrev pub CommandDone : Type 0
 CommandDone =
     (b : Buffers) (c : Command) (id n : ℕ) → let a = answer (command c id) b in
     a.number ≡ pos n
-    → (n ≡ 0) × ((i : ℕ) × HasId b.area id i × Commanded c i (state_of b) (kernelOf a.area))
+    → (n ≡ 0) × ((i : ℕ) × HasId b.area id i × Commanded c i (state_of b) (kernel_of a.area))
 
 -- Document 02, Q-9: "A new operation sets it by ID." The rest of the state stays.
 abbrev pub ShareDone : Type 0
@@ -81,7 +81,7 @@ ShareDone =
     a.number ≡ pos n
     → (n ≡ 0)
     × ((i : ℕ) × HasId b.area id i
-    × (kernelOf a.area ≡ withProcess (state_of b) i (withShare (processAt (state_of b) i) turns)))
+    × (kernel_of a.area ≡ with_process (state_of b) i (with_share (process_at (state_of b) i) turns)))
 
 -- ---- format and boot
 abbrev pub Zeroed : List ℕ → Type 0
@@ -89,18 +89,18 @@ Zeroed buffer = (j : ℕ) → get_or buffer j 0 ≡ 0
 
 -- "Boot zeroes the work area and sets next ID to 1."
 pub record Booted (area : List ℕ) : Type 0 where
-  pub long : length area ≡ areaLength
-  pub next : nextId area ≡ 1
+  pub long : length area ≡ area_length
+  pub next : next_id area ≡ 1
   pub zeros : (j : ℕ) → (j ≡ next_at → ⊥) → get_or area j 0 ≡ 0
 
 abbrev pub BootDone : Type 0
-BootDone = (b : Buffers) (n : ℕ) → (bootAnswer b).number ≡ pos n → (n ≡ 0) × Booted (bootAnswer b).area
+BootDone = (b : Buffers) (n : ℕ) → (boot_answer b).number ≡ pos n → (n ≡ 0) × Booted (boot_answer b).area
 
 -- "Format zeroes the disc, then boots."
 abbrev pub FormatDone : Type 0
 FormatDone =
-    (b : Buffers) (n : ℕ) → (formatAnswer b).number ≡ pos n
-    → (n ≡ 0) × Zeroed (formatAnswer b).disc × Booted (formatAnswer b).area
+    (b : Buffers) (n : ℕ) → (format_answer b).number ≡ pos n
+    → (n ≡ 0) × Zeroed (format_answer b).disc × Booted (format_answer b).area
 
 unfoldable pub DoneExactly : Type 0
 DoneExactly = StoreDone × RetrieveDone × EraseDone × FilesDone × FreeSpaceDone × RunDone × ListDone × CommandDone

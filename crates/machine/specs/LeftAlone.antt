@@ -3,12 +3,12 @@ use Rattle.std.specs.Prelude.{ℕ, ◌≤◌, ◌≡◌, true, List, pos, get_or
 use Rattle.disc.specs.Offsets.{bytes_of, size_of, start_of}
 use Rattle.variable.specs.Table.{owned}
 use Rattle.machine.specs.Answer.{Answer, Buffers, Call, Other, turn, round, command, share, run, other, store}
-use Rattle.machine.specs.Answer.{retrieve, erase, files, freeSpace, list, answer, bootAnswer, formatAnswer}
-use Rattle.machine.specs.Area.{kernelOf}
-use Rattle.machine.specs.AtPc.{byteAhead, processIn}
-use Rattle.machine.specs.Fields.{Named, openSize, openStart}
+use Rattle.machine.specs.Answer.{retrieve, erase, files, free_space, list, answer, boot_answer, format_answer}
+use Rattle.machine.specs.Area.{kernel_of}
+use Rattle.machine.specs.AtPc.{byte_ahead, process_in}
+use Rattle.machine.specs.Fields.{Named, open_size, open_start}
 use Rattle.machine.specs.Refusals.{state_of}
-use Rattle.machine.specs.State.{isLive, processAt}
+use Rattle.machine.specs.State.{is_live, process_at}
 use Rattle.machine.specs.Tests.{Unchanged}
 
 -- ---- which of disc, area and output an operation never touches
@@ -26,7 +26,7 @@ OtherKeeps (store name bytes) a b = SameArea a b × SameOut a b
 OtherKeeps (retrieve name) a b = SameDisc a b × SameArea a b
 OtherKeeps (erase name) a b = SameArea a b × SameOut a b
 OtherKeeps files a b = SameDisc a b × SameArea a b
-OtherKeeps freeSpace a b = Unchanged a b
+OtherKeeps free_space a b = Unchanged a b
 OtherKeeps list a b = SameDisc a b × SameArea a b
 
 abbrev pub Keeps : Call → Answer → Buffers → Type 0
@@ -39,8 +39,8 @@ Keeps (other o) a b = OtherKeeps o a b
 
 abbrev pub BuffersKept : Type 0
 BuffersKept = ((c : Call) (b : Buffers) → Keeps c (answer c b) b)
-    × ((b : Buffers) → SameOut (formatAnswer b) b)
-    × ((b : Buffers) → SameDisc (bootAnswer b) b × SameOut (bootAnswer b) b)
+    × ((b : Buffers) → SameOut (format_answer b) b)
+    × ((b : Buffers) → SameDisc (boot_answer b) b × SameOut (boot_answer b) b)
 
 -- Document 01: "the rest of the output is untouched"
 abbrev pub OutputBehindKept : Type 0
@@ -53,18 +53,18 @@ OutputBehindKept =
 abbrev pub Concerns : Call → Buffers → ℕ → Type 0
 Concerns (turn slot clock) b own = own ≡ slot
 Concerns (round clock) b own = Unit {0}
-Concerns (command c id) b own = (processIn b own).id ≡ id
-Concerns (share id turns) b own = (processIn b own).id ≡ id
+Concerns (command c id) b own = (process_in b own).id ≡ id
+Concerns (share id turns) b own = (process_in b own).id ≡ id
 Concerns (run name) b own = ⊥
 Concerns (other o) b own = ⊥
 
 -- every other live process keeps its record, the open file's fields with it, and its variables
 abbrev pub ProcessesKept : Type 0
 ProcessesKept =
-    (c : Call) (b : Buffers) (own : ℕ) → isLive (processIn b own) ≡ true → (Concerns c b own → ⊥)
-    → let after = kernelOf (answer c b).area in
-    (processAt after own ≡ processIn b own)
-    × (owned after.variables (processIn b own).id ≡ owned (state_of b).variables (processIn b own).id)
+    (c : Call) (b : Buffers) (own : ℕ) → is_live (process_in b own) ≡ true → (Concerns c b own → ⊥)
+    → let after = kernel_of (answer c b).area in
+    (process_at after own ≡ process_in b own)
+    × (owned after.variables (process_in b own).id ≡ owned (state_of b).variables (process_in b own).id)
 
 -- ---- other files
 -- the call erases file i, which has that name, or is the turn of a process that has it open and is at a WRITE
@@ -73,12 +73,12 @@ OtherChanges (store title bytes) name = ⊥
 OtherChanges (retrieve title) name = ⊥
 OtherChanges (erase title) name = title ≡ name
 OtherChanges files name = ⊥
-OtherChanges freeSpace name = ⊥
+OtherChanges free_space name = ⊥
 OtherChanges list name = ⊥
 
 abbrev pub MayChange : Call → Buffers → (name : List ℕ) → ℕ → Type 0
-MayChange (turn slot clock) b name i = (byteAhead b slot 0 ≡ 55)
-    × (openStart b.area slot ≡ start_of b.disc i) × (openSize b.area slot ≡ size_of b.disc i)
+MayChange (turn slot clock) b name i = (byte_ahead b slot 0 ≡ 55)
+    × (open_start b.area slot ≡ start_of b.disc i) × (open_size b.area slot ≡ size_of b.disc i)
 MayChange (round clock) b name i = Unit {0}
 MayChange (command c id) b name i = ⊥
 MayChange (share id turns) b name i = ⊥

@@ -3,13 +3,13 @@ use Rattle.std.specs.Prelude.{ℕ, ◌+◌, ◌≡◌, Bool, true, false, ◌||�
 use Rattle.buffer.specs.Lists.{all}
 use Rattle.buffer.specs.declared.Found.{Found}
 use Rattle.buffer.specs.declared.Found.TheVariants.{At, Nowhere}
-use Rattle.disc.specs.Directory.{fileCount}
+use Rattle.disc.specs.Directory.{file_count}
 use Rattle.machine.specs.Answer.{Call, turn}
-use Rattle.machine.specs.Beyond.{advanced, fileRun}
+use Rattle.machine.specs.Beyond.{advanced, file_run}
 use Rattle.machine.specs.Observation.{place_in}
 use Rattle.machine.specs.Refusals.{Passes}
-use Rattle.machine.specs.State.{localOf, withFile, withLocal, withShare}
-use Rattle.machine.specs.Suppositions.{executedBy, isDoneBy, ofDoneTurn, processIn, writeLands}
+use Rattle.machine.specs.State.{local_of, with_file, with_local, with_share}
+use Rattle.machine.specs.Suppositions.{executed_by, is_done_by, of_done_turn, process_in, write_lands}
 use Rattle.machine.specs.Trace.{Event, Invocation, Storage, events}
 use Rattle.machine.specs.declared.Process.{Process}
 
@@ -17,40 +17,40 @@ use Rattle.machine.specs.declared.Process.{Process}
 pub record Executes (i slot byte : ℕ) (e : Event) : Type 0 where
   pub clock : ℕ
   pub call : e.call ≡ turn slot clock
-  pub done : isDoneBy e.number ≡ true
+  pub done : is_done_by e.number ≡ true
   pub own : place_in e.before i ≡ At slot
-  pub found : executedBy e.before slot ≡ byte
+  pub found : executed_by e.before slot ≡ byte
 
 -- an OPEN that leaves a file more on the disc
 pub record OpensNew (i slot : ℕ) (e : Event) : Type 0 where
   pub opens : Executes i slot 53 e
-  pub more : fileCount e.after.disc ≡ fileCount e.before.disc + 1
+  pub more : file_count e.after.disc ≡ file_count e.before.disc + 1
 
 -- ---- what may not come between: an instruction of the process, and a write into the file that it has open
-abbrev pub turnInterferes : Found → ℕ → Event → Bool
-turnInterferes Nowhere slot e = false
-turnInterferes (At own) slot e = eqb own slot || writeLands (fileRun (processIn e.before own).file) slot e
+abbrev pub turn_interferes : Found → ℕ → Event → Bool
+turn_interferes Nowhere slot e = false
+turn_interferes (At own) slot e = eqb own slot || write_lands (file_run (process_in e.before own).file) slot e
 
 abbrev pub interferes : ℕ → Call → Event → Bool
-interferes i c e = ofDoneTurn c e λ slot clock. turnInterferes (place_in e.before i) slot e
+interferes i c e = of_done_turn c e λ slot clock. turn_interferes (place_in e.before i) slot e
 
 abbrev pub NoneInterferes : ℕ → List Event → Type 0
 NoneInterferes i es = all (λ e. not (interferes i e.call e)) es ≡ true
 
 -- ---- what READSTRING then gives
 -- behind the instruction, a byte further in the file, the empty string on the stack: its zero, the length 1, the type 3
-abbrev pub withEmptyString : Process → Process
-withEmptyString p =
-    withFile (withLocal p
-    (record { stack = (localOf p).stack ++ (0 ∷ 1 ∷ 3 ∷ []); pc = p.pc + 1; loopstart = p.loopstart }))
+abbrev pub with_empty_string : Process → Process
+with_empty_string p =
+    with_file (with_local p
+    (record { stack = (local_of p).stack ++ (0 ∷ 1 ∷ 3 ∷ []); pc = p.pc + 1; loopstart = p.loopstart }))
     (advanced p.file 1)
 
 -- the process is as OPEN left it but for its share, and goes on with the empty string; nothing is printed, the disc
 -- stays
 pub record ReadsEmpty (slot : ℕ) (opening reading : Event) : Type 0 where
   pub share : ℕ
-  pub before : processIn reading.before slot ≡ withShare (processIn opening.after slot) share
-  pub after : processIn reading.after slot ≡ withEmptyString (processIn reading.before slot)
+  pub before : process_in reading.before slot ≡ with_share (process_in opening.after slot) share
+  pub after : process_in reading.after slot ≡ with_empty_string (process_in reading.before slot)
   pub number : reading.number ≡ pos 0
   pub disc : reading.after.disc ≡ reading.before.disc
 

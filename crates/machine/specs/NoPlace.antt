@@ -4,10 +4,10 @@ use Rattle.float.specs.declared.whole.Size.{Size}
 use Rattle.float.specs.declared.whole.Size.TheVariants.{Is, Refused}
 use Rattle.place.specs.Place.{fits}
 use Rattle.place.specs.declared.Run.{Run}
-use Rattle.disc.specs.Layout.{maxFiles}
-use Rattle.disc.specs.Directory.{fileCount}
+use Rattle.disc.specs.Layout.{max_files}
+use Rattle.disc.specs.Directory.{file_count}
 use Rattle.store.specs.Room.{NoRoom}
-use Rattle.variable.specs.Assign.{entryLimit, highEnd, low_end, takenRuns}
+use Rattle.variable.specs.Assign.{entry_limit, high_end, low_end, taken_runs}
 use Rattle.variable.specs.declared.Variables.{Variables}
 use Rattle.machine.specs.Fields.{IsName}
 
@@ -17,11 +17,11 @@ NoneFits runs lo hi n = (s : ℕ) → fits runs lo hi n s ≡ false
 
 -- Document 01, fault 10: "no variable entry or run"
 abbrev pub Lacking : Variables → ℕ → Type 0
-Lacking v n = (entryLimit ≤ v.count) ⊎ NoneFits (takenRuns v) low_end highEnd n
+Lacking v n = (entry_limit ≤ v.count) ⊎ NoneFits (taken_runs v) low_end high_end n
 
 -- Document 01, fault 13: "OPEN's new file refused by name, size or store's 8 or 9"
 pub data NewFileRefused (disc name : List ℕ) (size : Size) : Type 0 where
   by_name : (IsName name → ⊥) → NewFileRefused disc name size
   by_size : size ≡ Refused → NewFileRefused disc name size
-  by-full : fileCount disc ≡ maxFiles → NewFileRefused disc name size
+  by-full : file_count disc ≡ max_files → NewFileRefused disc name size
   by-no-run : (n : ℕ) → size ≡ Is n → NoRoom disc n → NewFileRefused disc name size

@@ -4,14 +4,14 @@ use Rattle.buffer.specs.declared.Found.{Found}
 use Rattle.buffer.specs.declared.Found.TheVariants.{At, Nowhere}
 use Rattle.disc.specs.Directory.{entry_at, lookup}
 use Rattle.disc.specs.declared.Entry.{Entry}
-use Rattle.machine.specs.Limits.{idLimit, stackSize}
-use Rattle.machine.specs.State.{endedSlot, noFile, noLoop, running, withProcess}
+use Rattle.machine.specs.Limits.{id_limit, stack_size}
+use Rattle.machine.specs.State.{ended_slot, no_file, no_loop, running, with_process}
 use Rattle.machine.specs.declared.Kernel.{Kernel}
 use Rattle.machine.specs.declared.Process.{Process}
 
 -- Document 01: "state 'r', no loop, name, ID and code filled in, all else of the record zero"
-abbrev pub startedProcess : Entry → ℕ → Process
-startedProcess e id =
+abbrev pub started_process : Entry → ℕ → Process
+started_process e id =
     record {
       name = e.name;
       id = id;
@@ -19,16 +19,16 @@ startedProcess e id =
       fault = 0;
       code = record { start = e.start; len = e.len };
       pc = 0;
-      loopstart = noLoop;
-      file = noFile;
+      loopstart = no_loop;
+      file = no_file;
       sp = 0;
       share = 0;
-      stack = replicate stackSize 0;
+      stack = replicate stack_size 0;
     }
 
 abbrev pub started : Kernel → ℕ → Entry → Kernel
 started k slot e =
-    let w = withProcess k slot (startedProcess e k.next) in
+    let w = with_process k slot (started_process e k.next) in
     record { variables = w.variables; next = k.next + 1; zeros = w.zeros; processes = w.processes }
 
 -- where a program is started: the slot and the file, or the refusal
@@ -44,4 +44,4 @@ start_in (At slot) (At i) false disc = starts slot (entry_at disc i)
 
 -- Document 01, Run: "12 no ended slot, 10, 13 next ID is 32768. Takes the lowest ended slot"
 unfoldable pub starting : Kernel → List ℕ → List ℕ → Starting
-starting k disc name = start_in (endedSlot k) (lookup disc name) (eqb k.next idLimit) disc
+starting k disc name = start_in (ended_slot k) (lookup disc name) (eqb k.next id_limit) disc

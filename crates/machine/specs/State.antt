@@ -5,7 +5,7 @@ use Rattle.buffer.specs.Lists.{index, keep}
 use Rattle.buffer.specs.declared.Found.{Found}
 use Rattle.place.specs.Place.{no_run}
 use Rattle.variable.specs.declared.Variables.{Variables}
-use Rattle.machine.specs.Limits.{stackSize}
+use Rattle.machine.specs.Limits.{stack_size}
 use Rattle.machine.specs.declared.Kernel.{Kernel}
 use Rattle.machine.specs.declared.OpenFile.{OpenFile}
 use Rattle.machine.specs.declared.Process.{Process}
@@ -18,22 +18,22 @@ abbrev pub paused : ℕ
 paused = 112
 
 -- Document 01: "loop 2 (hex FFFF: none)"
-abbrev pub noLoop : ℕ
-noLoop = 65535
+abbrev pub no_loop : ℕ
+no_loop = 65535
 
-abbrev pub isRunning : Process → Bool
-isRunning p = eqb p.state running
+abbrev pub is_running : Process → Bool
+is_running p = eqb p.state running
 
 -- Document 01: "Live means running or paused."
-abbrev pub isLive : Process → Bool
-isLive p = eqb p.state running || eqb p.state paused
+abbrev pub is_live : Process → Bool
+is_live p = eqb p.state running || eqb p.state paused
 
-abbrev pub noFile : OpenFile
-noFile = record { start = 0; len = 0; offset = 0 }
+abbrev pub no_file : OpenFile
+no_file = record { start = 0; len = 0; offset = 0 }
 
 -- what lies past the ten records: nothing live
-abbrev pub noProcess : Process
-noProcess = record {
+abbrev pub no_process : Process
+no_process = record {
   name = [];
   id = 0;
   state = 0;
@@ -41,25 +41,25 @@ noProcess = record {
   code = no_run;
   pc = 0;
   loopstart = 0;
-  file = noFile;
+  file = no_file;
   sp = 0;
   share = 0;
   stack = [];
 }
 
-abbrev pub processAt : Kernel → ℕ → Process
-processAt k i = get_or k.processes i noProcess
+abbrev pub process_at : Kernel → ℕ → Process
+process_at k i = get_or k.processes i no_process
 
-abbrev pub withProcess : Kernel → ℕ → Process → Kernel
-withProcess k i p = record {
+abbrev pub with_process : Kernel → ℕ → Process → Kernel
+with_process k i p = record {
   variables = k.variables;
   next = k.next;
   zeros = k.zeros;
   processes = set k.processes i p;
 }
 
-abbrev pub withVariables : Kernel → Variables → Kernel
-withVariables k v = record { variables = v; next = k.next; zeros = k.zeros; processes = k.processes }
+abbrev pub with_variables : Kernel → Variables → Kernel
+with_variables k v = record { variables = v; next = k.next; zeros = k.zeros; processes = k.processes }
 
 -- ---- a process's own state in its record: the stack is the list of the bytes below SP
 pub record Local : Type 0 where
@@ -67,15 +67,15 @@ pub record Local : Type 0 where
   pub pc : ℕ
   pub loopstart : ℕ
 
-abbrev pub localOf : Process → Local
-localOf p = record { stack = take p.sp p.stack; pc = p.pc; loopstart = p.loopstart }
+abbrev pub local_of : Process → Local
+local_of p = record { stack = take p.sp p.stack; pc = p.pc; loopstart = p.loopstart }
 
 -- the stack as a record holds it. Document 01: "After its turn, stack bytes above SP are zero."
-abbrev pub stackBytes : List ℕ → List ℕ
-stackBytes stack = stack ++ replicate (stackSize - length stack) 0
+abbrev pub stack_bytes : List ℕ → List ℕ
+stack_bytes stack = stack ++ replicate (stack_size - length stack) 0
 
-abbrev pub withLocal : Process → Local → Process
-withLocal p l =
+abbrev pub with_local : Process → Local → Process
+with_local p l =
     record {
       name = p.name;
       id = p.id;
@@ -87,11 +87,11 @@ withLocal p l =
       file = p.file;
       sp = length l.stack;
       share = p.share;
-      stack = stackBytes l.stack;
+      stack = stack_bytes l.stack;
     }
 
-abbrev pub withFile : Process → OpenFile → Process
-withFile p f =
+abbrev pub with_file : Process → OpenFile → Process
+with_file p f =
     record {
       name = p.name;
       id = p.id;
@@ -106,8 +106,8 @@ withFile p f =
       stack = p.stack;
     }
 
-abbrev pub withState : Process → ℕ → Process
-withState p state =
+abbrev pub with_state : Process → ℕ → Process
+with_state p state =
     record {
       name = p.name;
       id = p.id;
@@ -122,8 +122,8 @@ withState p state =
       stack = p.stack;
     }
 
-abbrev pub withShare : Process → ℕ → Process
-withShare p share =
+abbrev pub with_share : Process → ℕ → Process
+with_share p share =
     record {
       name = p.name;
       id = p.id;
@@ -139,15 +139,15 @@ withShare p share =
     }
 
 -- ---- IDs and slots
-abbrev pub hasId : ℕ → Process → Bool
-hasId id p = isLive p && eqb p.id id
+abbrev pub has_id : ℕ → Process → Bool
+has_id id p = is_live p && eqb p.id id
 
-unfoldable pub slotOf : Kernel → ℕ → Found
-slotOf k id = index (hasId id) k.processes
+unfoldable pub slot_of : Kernel → ℕ → Found
+slot_of k id = index (has_id id) k.processes
 
 -- Document 01: "Takes the lowest ended slot"
-unfoldable pub endedSlot : Kernel → Found
-endedSlot k = index (λ p. not (isLive p)) k.processes
+unfoldable pub ended_slot : Kernel → Found
+ended_slot k = index (λ p. not (is_live p)) k.processes
 
-abbrev pub liveIds : Kernel → List ℕ
-liveIds k = map (λ p. p.id) (keep isLive k.processes)
+abbrev pub live_ids : Kernel → List ℕ
+live_ids k = map (λ p. p.id) (keep is_live k.processes)

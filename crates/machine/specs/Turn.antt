@@ -1,16 +1,16 @@
 -- A turn: the instruction of one process, on the kernel's state and the disc.
 use Rattle.std.specs.Prelude.{ℕ, List, []}
 use Rattle.disc.specs.Directory.{contents}
-use Rattle.variable.specs.Assign.{assigned, placingFault, value_of}
+use Rattle.variable.specs.Assign.{assigned, placing_fault, value_of}
 use Rattle.variable.specs.Table.{owned}
 use Rattle.variable.specs.declared.Placing.{Placing}
 use Rattle.variable.specs.declared.Placing.TheVariants.{Address, NoEntry, NoRun}
 use Rattle.variable.specs.declared.Variables.{Variables}
-use Rattle.machine.specs.Beyond.{Answered, carriesOn, breaks, answered}
+use Rattle.machine.specs.Beyond.{Answered, carries_on, breaks, answered}
 use Rattle.machine.specs.Effect.{Effect, goes, assigns, stops, faults, asks}
 use Rattle.machine.specs.Exec.{exec}
 use Rattle.machine.specs.Ended.{ended}
-use Rattle.machine.specs.State.{Local, processAt, withLocal, localOf, withProcess, withVariables}
+use Rattle.machine.specs.State.{Local, process_at, with_local, local_of, with_process, with_variables}
 use Rattle.machine.specs.declared.Kernel.{Kernel}
 use Rattle.machine.specs.declared.Process.{Process}
 
@@ -26,28 +26,32 @@ module _ (k : Kernel) (slot : ℕ) (disc : List ℕ) where
   finished fault = record { kernel = ended k slot fault; disc = disc; out = [] }
 
   abbrev pub moved : Process → List ℕ → List ℕ → Turned
-  moved p after out = record { kernel = withProcess k slot p; disc = after; out = out }
+  moved p after out = record { kernel = with_process k slot p; disc = after; out = out }
 
   -- Document 01, fault 10: "no variable entry or run"
   abbrev pub setting : Placing → Variables → Local → Turned
   setting (Address a) v l =
-      record { kernel = withVariables (withProcess k slot (withLocal (processAt k slot) l)) v; disc = disc; out = [] }
-  setting NoEntry v l = finished (placingFault NoEntry)
-  setting NoRun v l = finished (placingFault NoRun)
+      record {
+        kernel = with_variables (with_process k slot (with_local (process_at k slot) l)) v;
+        disc = disc;
+        out = [];
+      }
+  setting NoEntry v l = finished (placing_fault NoEntry)
+  setting NoRun v l = finished (placing_fault NoRun)
 
   abbrev pub answering : Answered → Turned
-  answering (carriesOn kernel after) = record { kernel = kernel; disc = after; out = [] }
+  answering (carries_on kernel after) = record { kernel = kernel; disc = after; out = [] }
   answering (breaks fault) = finished fault
 
   -- the kernel's reading of what an instruction does
-  unfoldable pub carriedOut : Effect → Turned
-  carriedOut (goes l out) = moved (withLocal (processAt k slot) l) disc out
-  carriedOut (assigns name kind bytes l) =
-      let a = assigned k.variables name (processAt k slot).id (value_of kind bytes) in
+  unfoldable pub carried_out : Effect → Turned
+  carried_out (goes l out) = moved (with_local (process_at k slot) l) disc out
+  carried_out (assigns name kind bytes l) =
+      let a = assigned k.variables name (process_at k slot).id (value_of kind bytes) in
       setting a.placing a.variables l
-  carriedOut stops = finished 0
-  carriedOut (faults n) = finished n
-  carriedOut (asks r) = answering (answered k slot disc r)
+  carried_out stops = finished 0
+  carried_out (faults n) = finished n
+  carried_out (asks r) = answering (answered k slot disc r)
 
 -- the bytes of a process's program: the part of the disc that its record names
 -- Document 01: "An instruction reads its argument bytes from the program's own part of the disc."; "PC and loop are
@@ -56,12 +60,12 @@ abbrev pub program_of : List ℕ → Process → List ℕ
 program_of disc p = contents disc p.code
 
 -- what the instruction of the process in that slot does
-abbrev pub effectAt : Kernel → ℕ → ℕ → List ℕ → Effect
-effectAt k slot clock disc =
-    exec (program_of disc (processAt k slot)) clock (localOf (processAt k slot))
-    (owned k.variables (processAt k slot).id)
+abbrev pub effect_at : Kernel → ℕ → ℕ → List ℕ → Effect
+effect_at k slot clock disc =
+    exec (program_of disc (process_at k slot)) clock (local_of (process_at k slot))
+    (owned k.variables (process_at k slot).id)
 
 -- Document 01: "Turn, one instruction of one slot"
 unfoldable pub turned : Kernel → ℕ → ℕ → List ℕ → Turned
-unfolding carriedOut
-turned k slot clock disc = carriedOut k slot disc (effectAt k slot clock disc)
+unfolding carried_out
+turned k slot clock disc = carried_out k slot disc (effect_at k slot clock disc)

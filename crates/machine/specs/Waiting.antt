@@ -1,6 +1,6 @@
 -- A wait as programs write it: MILLIS, INT d, PLUS, DELAYUNTIL.
 use Rattle.std.specs.Prelude.{ℕ, ◌+◌, ◌%◌, ◌≤◌, ◌<◌, List, [], ◌≡◌, pos}
-use Rattle.number.specs.Clock.{maxAhead}
+use Rattle.number.specs.Clock.{max_ahead}
 use Rattle.number.specs.Value.{number_of}
 use Rattle.number.specs.declared.Number.{Number}
 use Rattle.number.specs.declared.Number.TheVariants.{Int}
@@ -9,7 +9,7 @@ use Rattle.operator.specs.declared.Outcome.TheVariants.{Value}
 use Rattle.operator.specs.declared.instruction.Types.TheVariants.{CharOrInt}
 use Rattle.operator.specs.declared.operators.Arithmetic.TheVariants.{Plus}
 use Rattle.operator.specs.declared.operators.Binary.TheVariants.{Arithmetic}
-use Rattle.machine.specs.Effect.{Effect, clockBytes, goes, number}
+use Rattle.machine.specs.Effect.{Effect, clock_bytes, goes, number}
 use Rattle.machine.specs.Exec.{behind, delays, here, onward}
 use Rattle.machine.specs.Stack.{Item, pop, popped}
 
@@ -35,10 +35,10 @@ module _ (x : Number) (clock : ℕ) where
 -- at their end, and in the 32,768 milliseconds after it.
 pub record Waits (time d : ℕ) : Type 0 where
   pub x : Number
-  pub sum : binary (Arithmetic Plus) (number_of 2 (clockBytes (reading time))) (Int (pos d)) ≡ Value x
+  pub sum : binary (Arithmetic Plus) (number_of 2 (clock_bytes (reading time))) (Int (pos d)) ≡ Value x
   pub stays : (e : ℕ) → e < d → Stays x (reading (time + e))
-  pub over : (e : ℕ) → e ≤ maxAhead + 1 → GoesOn x (reading (time + d + e))
+  pub over : (e : ℕ) → e ≤ max_ahead + 1 → GoesOn x (reading (time + d + e))
 
 -- Document 02, Q-4, "Longer waits": from every time on, across the end of the clock and of its low 16 bits
 unfoldable pub WaitsKeepTime : Type 0
-WaitsKeepTime = (time d : ℕ) → d ≤ maxAhead → Waits time d
+WaitsKeepTime = (time d : ℕ) → d ≤ max_ahead → Waits time d

@@ -7,14 +7,14 @@ use mir.Val.{bits}
 use mir.ValLaws.{half_full}
 use Rattle.integer.proofs.Representation.{true-not-false}
 
-pub not_negative : {X : Type 0} (n : ℕ) → lt_z (pos n) (pos 0) ≡ true → X
-not_negative n h = absurd (below (ltb-true n 0 h))
+pub not-negative : {X : Type 0} (n : ℕ) → lt_z (pos n) (pos 0) ≡ true → X
+not-negative n h = absurd (below (ltb-true n 0 h))
   where
     below : n < 0 → ⊥
     below k = omega arith
 
 pub size-negated : (x : ℤ) → lt_z x (pos 0) ≡ true → neg_ℤ x ≡ pos (nat_abs x)
-size-negated (pos n) h = not_negative n h
+size-negated (pos n) h = not-negative n h
 size-negated (negsuc n) h = refl
 
 pub size_same : (x : ℤ) → lt_z x (pos 0) ≡ false → x ≡ pos (nat_abs x)
@@ -22,7 +22,7 @@ size_same (pos n) h = refl
 size_same (negsuc n) h = true-not-false refl h
 
 negative-size : (w : Width) (x : ℤ) → SFits w x → lt_z x (pos 0) ≡ true → 2 ^ bits w - of_z w x ≡ nat_abs x
-negative-size w (pos n) f h = not_negative n h
+negative-size w (pos n) f h = not-negative n h
 negative-size w (negsuc n) f h = omega (arith, half_full w f.sfits)
 
 module _ (w : Width) (x : ℤ) (f : SFits w x) where

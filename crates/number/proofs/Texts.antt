@@ -6,12 +6,12 @@ use lib.Seq.{take-append_seam, drop-append-add}
 use lib.Signed.{lt_z}
 use mir.Syntax.{Width}
 use Rattle.buffer.specs.Buffer.{overwrite}
-use Rattle.decimal.specs.Decimal.{decimal, maxDigits}
+use Rattle.decimal.specs.Decimal.{decimal, max_digits}
 use Rattle.decimal.proofs.Laws.{digits-few}
-use Rattle.float.specs.Print.{printedOf}
+use Rattle.float.specs.Print.{printed_of}
 use Rattle.float.specs.declared.print.Printed.{Printed}
 use Rattle.float.specs.declared.print.Printed.TheVariants.{NotANumber, Infinite, Overflow, Hundredths}
-use Rattle.number.specs.Text.{sign, wholeText, decimals, printedText, text_of, zeros, laid}
+use Rattle.number.specs.Text.{sign, whole_text, decimals, printed_text, text_of, zeros, laid}
 use Rattle.number.specs.declared.Number.{Number}
 use Rattle.number.specs.declared.Number.TheVariants.{Char, Int, Float}
 use Rattle.number.specs.declared.text.Text.{Text}
@@ -49,17 +49,17 @@ module _ (h b t : List ℕ) {x y z : List ℕ} (ex : x ≡ overwrite zeros 0 h) 
   unfolding padded
   laid_out = ap₂ (λ (l : List ℕ) (n : ℕ). record { bytes = l; len = n }) three total
 
-pub decimal-short : (n : ℕ) → length (decimal n) ≤ maxDigits
-decimal-short n = digits-few maxDigits n
+pub decimal-short : (n : ℕ) → length (decimal n) ≤ max_digits
+decimal-short n = digits-few max_digits n
 
 -- the text of a whole number from its sign and its size
-whole-text : (x : ℤ) → sign (lt_z x (pos 0)) ++ (decimal (nat_abs x) ++ []) ≡ wholeText x
+whole-text : (x : ℤ) → sign (lt_z x (pos 0)) ++ (decimal (nat_abs x) ++ []) ≡ whole_text x
 whole-text (pos n) = ap₂ (λ (s : Bool) (l : List ℕ). sign s ++ l) (le-ltb n 0 (omega arith)) (append-nil (decimal n))
 whole-text (negsuc n) = ap (λ (l : List ℕ). 45 ∷ l) (append-nil (decimal (suc n)))
 
 -- the same as the machine reads x, m its size as a call gives it
 pub whole-text-laid : (w : Width) (x : ℤ) → SFits w x → (m : ℕ) → m ≡ nat_abs (to_z w (of_z w x))
-    → laid (sign (lt_z (to_z w (of_z w x)) (pos 0)) ++ (decimal m ++ [])) ≡ laid (wholeText x)
+    → laid (sign (lt_z (to_z w (of_z w x)) (pos 0)) ++ (decimal m ++ [])) ≡ laid (whole_text x)
 whole-text-laid w x f m e =
     ap (λ (n : ℕ). laid (sign (lt_z (to_z w (of_z w x)) (pos 0)) ++ (decimal n ++ []))) e
     ∙ ap (λ (z : ℤ). laid (sign (lt_z z (pos 0)) ++ (decimal (nat_abs z) ++ []))) (to_z-of_z f) ∙ ap laid (whole-text x)
@@ -69,7 +69,7 @@ sign-short : (s : Bool) (l : List ℕ) → length (sign s ++ l) ≤ 1 + length l
 sign-short true l = omega arith
 sign-short false l = omega arith
 
-printed-short : (p : Printed) → length (printedText p) ≤ 14
+printed-short : (p : Printed) → length (printed_text p) ≤ 14
 printed-short NotANumber = omega arith
 printed-short (Infinite s) = omega (arith, sign-short s (105 ∷ 110 ∷ 102 ∷ []))
 printed-short (Overflow s) = omega (arith, sign-short s (111 ∷ 118 ∷ 102 ∷ []))
@@ -81,4 +81,4 @@ unfolding text_of
 text-short (Char x) = omega arith
 text-short (Int (pos n)) = omega (arith, decimal-short n)
 text-short (Int (negsuc n)) = omega (arith, decimal-short (suc n))
-text-short (Float x) = printed-short (printedOf x)
+text-short (Float x) = printed-short (printed_of x)

@@ -1,6 +1,6 @@
 -- A number against a whole number, exactly.
 use Rattle.std.specs.Prelude.{ℕ, Bool, ℤ}
-use Rattle.float.specs.Compare.{equals as equalsFloat}
+use Rattle.float.specs.Compare.{equals as equals_float}
 use Rattle.float.specs.Whole.{within, sized, size_of}
 use Rattle.float.specs.declared.whole.Size.{Size}
 use Rattle.number.specs.Whole.{equal}
@@ -11,10 +11,10 @@ use Rattle.number.specs.declared.Number.TheVariants.{Char, Int, Float}
 abbrev pub equals : Number → ℤ → Bool
 equals (Char x) z = equal x z
 equals (Int x) z = equal x z
-equals (Float x) z = equalsFloat x z
+equals (Float x) z = equals_float x z
 
 -- Document 01: "size (cut toward zero; NaN and infinities count as refused sizes)". A size is from 1 to max.
-abbrev pub sizeWithin : ℕ → Number → Size
-sizeWithin max (Char x) = sized (within max x)
-sizeWithin max (Int x) = sized (within max x)
-sizeWithin max (Float x) = size_of max x
+abbrev pub size_within : ℕ → Number → Size
+size_within max (Char x) = sized (within max x)
+size_within max (Int x) = sized (within max x)
+size_within max (Float x) = size_of max x

@@ -3,8 +3,8 @@ use Rattle.std.specs.Prelude.{ℕ, ◌+◌, ◌*◌, ◌/◌, ◌%◌, Bool, con
 use Rattle.std.specs.Float.{binary32}
 use Rattle.std.specs.Int.{w8, w16}
 use Rattle.std.proofs.Common.{to_z, of_z}
-use Rattle.float.specs.Bits.{floatBytes, joined}
-use Rattle.float.specs.Compare.{isZero as isZeroFloat}
+use Rattle.float.specs.Bits.{float_bytes, joined}
+use Rattle.float.specs.Compare.{is_zero as is_zero_float}
 use Rattle.number.specs.Whole.{equal}
 use Rattle.number.specs.declared.Number.{Number}
 use Rattle.number.specs.declared.Number.TheVariants.{Char, Int, Float}
@@ -17,10 +17,10 @@ type_of (Int x) = 2
 type_of (Float x) = 4
 
 -- Document 01: "A value lies as its bytes, high byte first".
-abbrev pub valueBytes : Number → List ℕ
-valueBytes (Char x) = of_z w8 x ∷ []
-valueBytes (Int x) = of_z w16 x / 256 ∷ of_z w16 x % 256 ∷ []
-valueBytes (Float x) = floatBytes x
+abbrev pub value_bytes : Number → List ℕ
+value_bytes (Char x) = of_z w8 x ∷ []
+value_bytes (Int x) = of_z w16 x / 256 ∷ of_z w16 x % 256 ∷ []
+value_bytes (Float x) = float_bytes x
 
 -- zeros up to four bytes
 abbrev pub padding : Number → List ℕ
@@ -29,7 +29,7 @@ padding (Int x) = 0 ∷ 0 ∷ []
 padding (Float x) = []
 
 unfoldable pub encoded : Number → Encoded
-encoded a = record { bytes = valueBytes a ++ padding a; kind = type_of a }
+encoded a = record { bytes = value_bytes a ++ padding a; kind = type_of a }
 
 -- The number of a type and its bytes. Type 3, a STRING, is never asked.
 unfoldable pub number_of : ℕ → List ℕ → Number
@@ -41,7 +41,7 @@ number_of kind bytes =
     (joined (slice_index bytes 0) (slice_index bytes 1) (slice_index bytes 2) (slice_index bytes 3)))))
 
 -- Document 01: "NaN counts as not zero, −0 as zero."
-abbrev pub isZero : Number → Bool
-isZero (Char x) = equal x (pos 0)
-isZero (Int x) = equal x (pos 0)
-isZero (Float x) = isZeroFloat x
+abbrev pub is_zero : Number → Bool
+is_zero (Char x) = equal x (pos 0)
+is_zero (Int x) = equal x (pos 0)
+is_zero (Float x) = is_zero_float x

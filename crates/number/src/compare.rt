@@ -1,7 +1,7 @@
 // A number against a whole number, exactly.
 ghost use Rattle.std.specs.Prelude.{◌≡◌};
 ghost use Rattle.float.specs.Whole.{within, sized};
-ghost use Rattle.number.specs.Compare.{equals, sizeWithin};
+ghost use Rattle.number.specs.Compare.{equals, size_within};
 
 use crate::Number;
 use float::whole::{Size, to_size};
@@ -32,7 +32,7 @@ fn whole_size(z: i32, max: u16) -> Size
 
 // Document 01: "size (cut toward zero; NaN and infinities count as refused sizes)". OPEN's sizes are from 1 to `max`.
 pub fn size_within(a: Number, max: u16) -> Size
-    ensures { result ≡ sizeWithin max a }
+    ensures { result ≡ size_within max a }
 {
     match a {
         Number::Char(x) => whole_size(x as i32, max),

@@ -1,8 +1,8 @@
 // What PRINT writes of a number.
 ghost use Rattle.std.specs.Prelude.{◌≡◌, ◌+◌, ◌/◌, ◌<◌, ◌≤◌, ◌++◌, length, unsigned_abs};
 ghost use Rattle.decimal.specs.Decimal.{decimal};
-ghost use Rattle.float.specs.Print.{printedOf};
-ghost use Rattle.number.specs.Text.{sign, decimals, wholeText, printedText, text_of, laid};
+ghost use Rattle.float.specs.Print.{printed_of};
+ghost use Rattle.number.specs.Text.{sign, decimals, whole_text, printed_text, text_of, laid};
 
 use crate::Number;
 use buffer::bytes::overwrite_at;
@@ -61,7 +61,7 @@ fn magnitude(x: i16) -> u32
 }
 
 fn int_text(x: i16) -> Text
-    ensures { result ≡ laid (wholeText x) }
+    ensures { result ≡ laid (whole_text x) }
 {
     signed_decimal(x < 0, magnitude(x), b"")
 }
@@ -78,14 +78,14 @@ fn decimals_of(hundredths: u64) -> [u8; 3]
 
 fn hundredths_text(negative: bool, hundredths: u64) -> Text
     requires { hundredths / 100 < 4294967296 }
-    ensures { result ≡ laid (printedText (Printed.Hundredths negative hundredths)) }
+    ensures { result ≡ laid (printed_text (Printed.Hundredths negative hundredths)) }
 {
     let tail = decimals_of(hundredths);
     signed_decimal(negative, (hundredths / 100) as u32, &tail)
 }
 
 fn float_text(x: f32) -> Text
-    ensures { result ≡ laid (printedText (printedOf x)) }
+    ensures { result ≡ laid (printed_text (printed_of x)) }
 {
     match to_printed(x) {
         Printed::NotANumber => signed(false, b"nan", b""),

@@ -1,6 +1,6 @@
 // A number as the bytes and the type byte under which it lies on the stack.
 ghost use Rattle.std.specs.Prelude.{◌≡◌, [], ◌∷◌};
-ghost use Rattle.number.specs.Value.{encoded, number_of, isZero};
+ghost use Rattle.number.specs.Value.{encoded, number_of, is_zero};
 
 use crate::Number;
 
@@ -45,7 +45,7 @@ pub fn decode(kind: u8, a: u8, b: u8, c: u8, d: u8) -> Number
 
 // Document 01: "NaN counts as not zero, −0 as zero."
 pub fn is_zero(a: Number) -> bool
-    ensures { result ≡ isZero a }
+    ensures { result ≡ is_zero a }
 {
     match a {
         Number::Char(x) => x == 0,

@@ -7,14 +7,14 @@ use native.Mathlib.Omega.{arith}
 use lib.ListN.{length}
 use borrow.Author.Tests.{le-leb, lt-leb}
 use Rattle.buffer.specs.declared.Found.TheVariants.{At}
-use Rattle.disc.specs.Directory.{goodDisc, isDiscLength}
+use Rattle.disc.specs.Directory.{good_disc, is_disc_length}
 use Rattle.store.specs.File.{unless}
-use Rattle.machine.specs.Answer.{goodArea, onGood, refused, withRoom}
+use Rattle.machine.specs.Answer.{good_area, on_good, refused, with_room}
 use Rattle.machine.specs.Answer.{Answer as Expected}
-use Rattle.machine.specs.Area.{isAreaLength, kernelOf}
-use Rattle.machine.specs.Limits.{areaLength, slotCount}
+use Rattle.machine.specs.Area.{is_area_length, kernel_of}
+use Rattle.machine.specs.Limits.{area_length, slot_count}
 use Rattle.machine.specs.Refusals.{Passes}
-use Rattle.machine.specs.State.{slotOf}
+use Rattle.machine.specs.State.{slot_of}
 use Rattle.machine.proofs.Bytes.Sizes.{decoded-sized}
 use Rattle.machine.proofs.Changes.Slots.{slot_at}
 use Rattle.machine.proofs.Demands.GoodCalls.{on-good}
@@ -31,10 +31,10 @@ use Rattle.operation.specs.declared.Refusal.TheVariants.{WrongLength, BadDisc, B
 module _ (disc area : List ℕ) {told : Checked} (e : told ≡ checked disc area) where
   -- refused, whatever else the operation does
   pub first-refused : {refusal : Refusal} → told ≡ Unusable refusal → (out : List ℕ) (rest : Expected)
-      → answered (Refused refusal) disc area out ≡ onGood (lent disc area out) rest
+      → answered (Refused refusal) disc area out ≡ on_good (lent disc area out) rest
   unfolding tested
   first-refused {refusal} u out rest =
-      go (isDiscLength (length disc) && isAreaLength (length area)) (goodDisc disc) (goodArea disc area) (sym e ∙ u)
+      go (is_disc_length (length disc) && is_area_length (length area)) (good_disc disc) (good_area disc area) (sym e ∙ u)
     where
       named : (r : Refusal) → Unusable r ≡ Unusable refusal → answered (Refused refusal) disc area out ≡ answered (Refused r) disc area out
       named r h = let q : refusal ≡ r = cc in ap (λ (x : Refusal). answered (Refused x) disc area out) q
@@ -52,10 +52,10 @@ module _ (disc area : List ℕ) {told : Checked} (e : told ≡ checked disc area
   pub first-passed : told ≡ Usable → Passes disc area
   unfolding tested
   first-passed u =
-      go (isDiscLength (length disc) && isAreaLength (length area)) refl (goodDisc disc) refl (goodArea disc area) refl (sym e ∙ u)
+      go (is_disc_length (length disc) && is_area_length (length area)) refl (good_disc disc) refl (good_area disc area) refl (sym e ∙ u)
     where
-      go : (a : Bool) → isDiscLength (length disc) && isAreaLength (length area) ≡ a → (b : Bool) → goodDisc disc ≡ b
-          → (c : Bool) → goodArea disc area ≡ c
+      go : (a : Bool) → is_disc_length (length disc) && is_area_length (length area) ≡ a → (b : Bool) → good_disc disc ≡ b
+          → (c : Bool) → good_area disc area ≡ c
           → usable (unless a tests.WrongLength (unless b tests.BadDisc (unless c tests.BadArea tests.Pass))) ≡ Usable → Passes disc area
       go false p b q c r h = absurd (let z : ◌≡◌ {A = ℕ} 0 1 = cc in omega arith)
       go true p false q c r h = absurd (let z : ◌≡◌ {A = ℕ} 0 1 = cc in omega arith)
@@ -63,19 +63,19 @@ module _ (disc area : List ℕ) {told : Checked} (e : told ≡ checked disc area
       go true p true q true r h = record { sizes = p; disc-good = q; area-good = r }
 
   -- passed, so that the rest is the answer
-  pub first_done : told ≡ Usable → (out : List ℕ) {given rest : Expected} → given ≡ rest → given ≡ onGood (lent disc area out) rest
+  pub first_done : told ≡ Usable → (out : List ℕ) {given rest : Expected} → given ≡ rest → given ≡ on_good (lent disc area out) rest
   first_done u out h = h ∙ sym (on-good _ _ (first-passed u))
 
   -- then the room of the output
   module _ (u : told ≡ Usable) (out : List ℕ) (n : ℕ) (rest : Expected) where
     pub first_short : length out < n
-        → answered (Refused ShortOutput) disc area out ≡ onGood (lent disc area out) (withRoom n (lent disc area out) rest)
+        → answered (Refused ShortOutput) disc area out ≡ on_good (lent disc area out) (with_room n (lent disc area out) rest)
     first_short h = first_done u out (rw (lt-leb n (length out) h))
 
     pub first-roomy : n ≤ length out → {given : Expected} → given ≡ rest
-        → given ≡ onGood (lent disc area out) (withRoom n (lent disc area out) rest)
+        → given ≡ on_good (lent disc area out) (with_room n (lent disc area out) rest)
     first-roomy h g = first_done u out (rw (le-leb n (length out) h) g)
 
 -- the slot of an ID is one of the ten
-pub slot-low : (area : List ℕ) (id : ℕ) {slot : ℕ} → length area ≡ areaLength → slotOf (kernelOf area) id ≡ At slot → slot < slotCount
-slot-low area id {slot} h e = omega (arith, (slot_at (kernelOf area) id slot e).0, (decoded-sized area h).processes)
+pub slot-low : (area : List ℕ) (id : ℕ) {slot : ℕ} → length area ≡ area_length → slot_of (kernel_of area) id ≡ At slot → slot < slot_count
+slot-low area id {slot} h e = omega (arith, (slot_at (kernel_of area) id slot e).0, (decoded-sized area h).processes)

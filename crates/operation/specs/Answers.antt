@@ -18,28 +18,28 @@ use Rattle.operation.specs.declared.Refusal.TheVariants.{NotRunning, BadShare}
 -- needed."; Erase: "10; 11 a live process runs it or has it open."; Run: "12 no ended slot, 10, 13 next ID is 32768.";
 -- Suspend, resume: "14 no live process of that ID, 15 already in that state."; Turn: "16 slot above 9 or not running."
 -- Document 02, Q-9: "22 a share outside 1 to 8"
-abbrev pub refusalNumber : Refusal → ℕ
-refusalNumber WrongLength = 1
-refusalNumber BadDisc = 2
-refusalNumber BadArea = 3
-refusalNumber ShortOutput = 4
-refusalNumber NoSuchFile = 10
-refusalNumber FileInUse = 11
-refusalNumber NoSlot = 12
-refusalNumber NoId = 13
-refusalNumber NoProcess = 14
-refusalNumber SameState = 15
-refusalNumber NotRunning = 16
-refusalNumber BadShare = 22
+abbrev pub refusal_number : Refusal → ℕ
+refusal_number WrongLength = 1
+refusal_number BadDisc = 2
+refusal_number BadArea = 3
+refusal_number ShortOutput = 4
+refusal_number NoSuchFile = 10
+refusal_number FileInUse = 11
+refusal_number NoSlot = 12
+refusal_number NoId = 13
+refusal_number NoProcess = 14
+refusal_number SameState = 15
+refusal_number NotRunning = 16
+refusal_number BadShare = 22
 
 -- Document 01: "0 or more is done [..], −n is refusal n"
-abbrev pub answerNumber : Answer → ℤ
-answerNumber (Done n) = pos n
-answerNumber (Refused r) = neg_ℤ (pos (refusalNumber r))
+abbrev pub answer_number : Answer → ℤ
+answer_number (Done n) = pos n
+answer_number (Refused r) = neg_ℤ (pos (refusal_number r))
 
 -- an answer with the buffers as they are then
 abbrev pub answered : Answer → (disc area out : List ℕ) → Expected
-answered r disc area out = record { number = answerNumber r; disc = disc; area = area; out = out }
+answered r disc area out = record { number = answer_number r; disc = disc; area = area; out = out }
 
 abbrev pub lent : (disc area out : List ℕ) → Buffers
 lent disc area out = record { disc = disc; area = area; out = out }

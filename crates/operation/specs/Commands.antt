@@ -3,12 +3,12 @@ use Rattle.std.specs.Prelude.{ℕ}
 use Rattle.buffer.specs.declared.Found.{Found}
 use Rattle.buffer.specs.declared.Found.TheVariants.{At, Nowhere}
 use Rattle.machine.specs.Operations.{Commanded, changed, refused}
-use Rattle.machine.specs.State.{slotOf}
+use Rattle.machine.specs.State.{slot_of}
 use Rattle.machine.specs.declared.Kernel.{Kernel}
 
-abbrev pub turnedAt : Found → ℕ → Kernel → Commanded
-turnedAt Nowhere state k = refused 14
-turnedAt (At slot) state k = changed k slot state
+abbrev pub turned_at : Found → ℕ → Kernel → Commanded
+turned_at Nowhere state k = refused 14
+turned_at (At slot) state k = changed k slot state
 
-abbrev pub turnedTo : (state id : ℕ) → Kernel → Commanded
-turnedTo state id k = turnedAt (slotOf k id) state k
+abbrev pub turned_to : (state id : ℕ) → Kernel → Commanded
+turned_to state id k = turned_at (slot_of k id) state k

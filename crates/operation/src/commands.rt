@@ -1,11 +1,11 @@
 // Suspend, resume, kill and share: the operations on a process by its ID.
 ghost use Rattle.std.specs.Prelude.{◌≡◌, List, ℕ};
-ghost use Rattle.machine.specs.Answer.{answer, command, commandAnswer, share};
-ghost use Rattle.machine.specs.Area.{kernelOf};
+ghost use Rattle.machine.specs.Answer.{answer, command, command_answer, share};
+ghost use Rattle.machine.specs.Area.{kernel_of};
 ghost use Rattle.machine.specs.Operations.{commanded, kill, resume, shared, suspend};
 ghost use Rattle.machine.specs.Refusals.{Passes};
 ghost use Rattle.operation.specs.Answers.{answered, lent};
-ghost use Rattle.operation.specs.Commands.{turnedTo};
+ghost use Rattle.operation.specs.Commands.{turned_to};
 
 use crate::checks::check;
 use crate::{Answer, Checked, Refusal};
@@ -20,7 +20,7 @@ use process::ending::finish;
 fn change_state(disc: &[u8], area: &mut [u8], id: u32, state: u8) -> Answer
     requires { Passes disc.now area.old }
     ensures { (out : List ℕ) → answered result disc.now area.new out
-        ≡ commandAnswer (turnedTo state id (kernelOf area.old))
+        ≡ command_answer (turned_to state id (kernel_of area.old))
         (lent disc.now area.old out) }
 {
     match slot_of(area, id) {
@@ -61,7 +61,7 @@ pub fn resume(disc: &[u8], area: &mut [u8], id: u32) -> Answer
 fn end_by_id(disc: &[u8], area: &mut [u8], id: u32) -> Answer
     requires { Passes disc.now area.old }
     ensures { (out : List ℕ) → answered result disc.now area.new out
-        ≡ commandAnswer (commanded kill id (kernelOf area.old))
+        ≡ command_answer (commanded kill id (kernel_of area.old))
         (lent disc.now area.old out) }
 {
     match slot_of(area, id) {
@@ -87,7 +87,7 @@ pub fn kill(disc: &[u8], area: &mut [u8], id: u32) -> Answer
 fn set_share(disc: &[u8], area: &mut [u8], id: u32, turns: u32) -> Answer
     requires { Passes disc.now area.old }
     ensures { (out : List ℕ) → answered result disc.now area.new out
-        ≡ commandAnswer (shared id turns (kernelOf area.old))
+        ≡ command_answer (shared id turns (kernel_of area.old))
         (lent disc.now area.old out) }
 {
     match slot_of(area, id) {

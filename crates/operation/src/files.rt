@@ -1,7 +1,7 @@
 // Erase, and run: the operations on both buffers that take a name.
 ghost use Rattle.std.specs.Prelude.{◌≡◌, List, ℕ};
-ghost use Rattle.machine.specs.Answer.{answer, erase, eraseAt, other, run, run_at};
-ghost use Rattle.machine.specs.Area.{kernelOf};
+ghost use Rattle.machine.specs.Answer.{answer, erase, erase_at, other, run, run_at};
+ghost use Rattle.machine.specs.Area.{kernel_of};
 ghost use Rattle.machine.specs.Refusals.{Passes};
 ghost use Rattle.machine.specs.Start.{starting};
 ghost use Rattle.operation.specs.Answers.{answered, lent};
@@ -16,7 +16,7 @@ use request::Starting;
 fn erase_file(disc: &mut [u8], area: &[u8], name: &[u8]) -> Answer
     requires { Passes disc.old area.now }
     ensures { (out : List ℕ) → answered result disc.new area.now out
-        ≡ eraseAt (lookup disc.old name.now) (kernelOf area.now)
+        ≡ erase_at (lookup disc.old name.now) (kernel_of area.now)
         (lent disc.old area.now out) }
 {
     match disc::directory::find(disc, name) {
@@ -45,8 +45,8 @@ pub fn erase(disc: &mut [u8], area: &[u8], name: &[u8]) -> Answer
 fn run_file(disc: &[u8], area: &mut [u8], name: &[u8]) -> Answer
     requires { Passes disc.now area.old }
     ensures { (out : List ℕ) → answered result disc.now area.new out
-        ≡ run_at (starting (kernelOf area.old) disc.now name.now)
-        (kernelOf area.old) (lent disc.now area.old out) }
+        ≡ run_at (starting (kernel_of area.old) disc.now name.now)
+        (kernel_of area.old) (lent disc.now area.old out) }
 {
     match request::start::find_start(disc, area, name) {
         Starting::Starts(slot, i) => {

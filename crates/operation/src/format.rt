@@ -1,7 +1,7 @@
 // Format and boot: they take any bytes of the right length.
 ghost use Rattle.std.specs.Prelude.{◌≡◌, List, ℕ, length, replicate};
-ghost use Rattle.machine.specs.Answer.{bootAnswer, booted, formatAnswer};
-ghost use Rattle.machine.specs.Limits.{areaLength};
+ghost use Rattle.machine.specs.Answer.{boot_answer, booted, format_answer};
+ghost use Rattle.machine.specs.Limits.{area_length};
 ghost use Rattle.operation.specs.Answers.{answered, lent};
 
 use crate::{Answer, Refusal};
@@ -19,7 +19,7 @@ fn fill_zeros(bytes: &mut [u8])
 
 // Document 01: "Boot zeroes the work area and sets next ID to 1."
 fn clear_area(area: &mut [u8])
-    requires { length area.old ≡ areaLength }
+    requires { length area.old ≡ area_length }
     ensures { area.new ≡ booted }
 {
     fill_zeros(area);
@@ -28,7 +28,7 @@ fn clear_area(area: &mut [u8])
 
 pub fn boot(area: &mut [u8]) -> Answer
     ensures { (disc out : List ℕ) → answered result disc area.new out
-        ≡ bootAnswer (lent disc area.old out) }
+        ≡ boot_answer (lent disc area.old out) }
 {
     if area.len() != AREA_LENGTH {
         return Answer::Refused(Refusal::WrongLength);
@@ -40,7 +40,7 @@ pub fn boot(area: &mut [u8]) -> Answer
 // Document 01: "Format zeroes the disc, then boots."
 pub fn format(disc: &mut [u8], area: &mut [u8]) -> Answer
     ensures { (out : List ℕ) → answered result disc.new area.new out
-        ≡ formatAnswer (lent disc.old area.old out) }
+        ≡ format_answer (lent disc.old area.old out) }
 {
     if !disc::good::is_disc_length(disc.len()) {
         return Answer::Refused(Refusal::WrongLength);

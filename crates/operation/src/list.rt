@@ -2,9 +2,9 @@
 ghost use Rattle.std.specs.Prelude.{◌≡◌, ◌+◌, ◌≤◌, length};
 ghost use Rattle.buffer.specs.Laid.{Laid};
 ghost use Rattle.machine.specs.Answer.{answer, list, other};
-ghost use Rattle.machine.specs.Area.{kernelOf, processOf};
-ghost use Rattle.machine.specs.Limits.{areaLength, recordSize};
-ghost use Rattle.machine.specs.Operations.{listText};
+ghost use Rattle.machine.specs.Area.{kernel_of, process_of};
+ghost use Rattle.machine.specs.Limits.{area_length, record_size};
+ghost use Rattle.machine.specs.Operations.{list_text};
 ghost use Rattle.operation.specs.Answers.{answered, lent};
 ghost use Rattle.operation.specs.Lines.{line_of};
 
@@ -17,8 +17,8 @@ use machine::limits::SLOT_COUNT;
 
 // Document 01, List: "ID, space, 'r' or 'p', space, name, newline per live process". Nothing for one that has ended.
 fn line_length(bytes: &[u8]) -> usize
-    requires { length bytes.now ≡ recordSize }
-    ensures { result ≡ length (line_of (processOf bytes.now)) }
+    requires { length bytes.now ≡ record_size }
+    ensures { result ≡ length (line_of (process_of bytes.now)) }
 {
     if !is_live(bytes) {
         return 0;
@@ -28,9 +28,9 @@ fn line_length(bytes: &[u8]) -> usize
 }
 
 fn put_line(out: &mut [u8], at: usize, bytes: &[u8]) -> usize
-    requires bytes_len { length bytes.now ≡ recordSize }
-    requires bytes_in_bounds { at + length (line_of (processOf bytes.now)) ≤ length out.old }
-    ensures { Laid out.old at (line_of (processOf bytes.now)) out.new result }
+    requires bytes_len { length bytes.now ≡ record_size }
+    requires bytes_in_bounds { at + length (line_of (process_of bytes.now)) ≤ length out.old }
+    ensures { Laid out.old at (line_of (process_of bytes.now)) out.new result }
 {
     if !is_live(bytes) {
         return at;
@@ -45,8 +45,8 @@ fn put_line(out: &mut [u8], at: usize, bytes: &[u8]) -> usize
 
 // Document 01, List: "in slot order".
 fn list_length(area: &[u8]) -> usize
-    requires { length area.now ≡ areaLength }
-    ensures { result ≡ length (listText (kernelOf area.now)) }
+    requires { length area.now ≡ area_length }
+    ensures { result ≡ length (list_text (kernel_of area.now)) }
 {
     let mut len: usize = 0;
     let mut slot: usize = 0;
@@ -58,9 +58,9 @@ fn list_length(area: &[u8]) -> usize
 }
 
 fn put_list(area: &[u8], out: &mut [u8]) -> usize
-    requires area_len { length area.now ≡ areaLength }
-    requires area_in_bounds { length (listText (kernelOf area.now)) ≤ length out.old }
-    ensures { Laid out.old 0 (listText (kernelOf area.now)) out.new result }
+    requires area_len { length area.now ≡ area_length }
+    requires area_in_bounds { length (list_text (kernel_of area.now)) ≤ length out.old }
+    ensures { Laid out.old 0 (list_text (kernel_of area.now)) out.new result }
 {
     let mut at: usize = 0;
     let mut slot: usize = 0;

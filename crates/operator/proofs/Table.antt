@@ -35,14 +35,14 @@ absent n (entry ∷ table) other U u =
     ∙ ap (λ (t : Bool). cond t entry.1 (lookup n table other)) (sym (ne_eqb n entry.0 (first n table W u).1))
 
 -- the operators that take whole numbers alone, with the places at which they do
-abbrev wholeOperands : List (Operator × ℕ)
-wholeOperands =
+abbrev whole_operands : List (Operator × ℕ)
+whole_operands =
     (OfTwo (Calculates Modulus), 0) ∷ (OfTwo (Calculates Modulus), 1) ∷ (OfTwo (Bitwise And), 0) ∷ (OfTwo (Bitwise And), 1) ∷
     (OfTwo (Bitwise Or), 0) ∷ (OfTwo (Bitwise Or), 1) ∷ (OfTwo (Bitwise Xor), 0) ∷ (OfTwo (Bitwise Xor), 1) ∷
     (OfOne BitwiseNot, 0) ∷ (Scale Power, 1) ∷ []
 
 -- Document 01: "Bitwise and MODULUS refuse FLOAT"; document 02, Q-3, of POW: "a FLOAT y is fault 6". The pop refuses it, so `real Modulus`,
 -- `bitwise` of FLOATs and `exponent` of a FLOAT are never asked
-pub float-refused : (x : Binary32) → all (λ o. not (includes (types_of o.0 o.1) (type_of (Float x)))) wholeOperands ≡ true
+pub float-refused : (x : Binary32) → all (λ o. not (includes (types_of o.0 o.1) (type_of (Float x)))) whole_operands ≡ true
 unfolding all includes
 float-refused x = refl

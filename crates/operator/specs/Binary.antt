@@ -9,7 +9,7 @@ use Rattle.std.proofs.Common.{to_z, of_z}
 use Rattle.operator.specs.Arithmetic.{arithmetic}
 use Rattle.operator.specs.Outcome.{flag}
 use Rattle.number.specs.Promotion.{promoted, first, second}
-use Rattle.number.specs.Value.{isZero}
+use Rattle.number.specs.Value.{is_zero}
 use Rattle.number.specs.Whole.{equal}
 use Rattle.number.specs.declared.Number.{Number}
 use Rattle.number.specs.declared.Number.TheVariants.{Char, Int}
@@ -37,18 +37,18 @@ ordered GreaterThan x y = lt_z y x
 ordered GreaterOrEqual x y = le_z y x
 
 -- with a NaN only `ne` holds
-unfoldable pub orderedFloats : Comparison → Binary32 → Binary32 → Bool
-orderedFloats Equals x y = eq x y
-orderedFloats NotEquals x y = ne x y
-orderedFloats LessThan x y = lt x y
-orderedFloats LessOrEqual x y = le x y
-orderedFloats GreaterThan x y = lt y x
-orderedFloats GreaterOrEqual x y = le y x
+unfoldable pub ordered_floats : Comparison → Binary32 → Binary32 → Bool
+ordered_floats Equals x y = eq x y
+ordered_floats NotEquals x y = ne x y
+ordered_floats LessThan x y = lt x y
+ordered_floats LessOrEqual x y = le x y
+ordered_floats GreaterThan x y = lt y x
+ordered_floats GreaterOrEqual x y = le y x
 
 abbrev pub compared : Comparison → Pair → Bool
 compared o (Chars x y) = ordered o x y
 compared o (Ints x y) = ordered o x y
-compared o (Floats x y) = orderedFloats o x y
+compared o (Floats x y) = ordered_floats o x y
 
 unfoldable pub connected : Connective → Bool → Bool → Bool
 connected And x y = x && y
@@ -56,15 +56,15 @@ connected Or x y = x || y
 connected Xor x y = not (beq x y)
 
 -- on the bits of two whole numbers of the width w
-unfoldable pub wholeBits : Width → Connective → ℤ → ℤ → ℤ
-wholeBits w And x y = to_z w (bit_and (of_z w x) (of_z w y))
-wholeBits w Or x y = to_z w (bit_or (of_z w x) (of_z w y))
-wholeBits w Xor x y = to_z w (bit_xor (of_z w x) (of_z w y))
+unfoldable pub whole_bits : Width → Connective → ℤ → ℤ → ℤ
+whole_bits w And x y = to_z w (bit_and (of_z w x) (of_z w y))
+whole_bits w Or x y = to_z w (bit_or (of_z w x) (of_z w y))
+whole_bits w Xor x y = to_z w (bit_xor (of_z w x) (of_z w y))
 
 -- Document 01: "Bitwise and MODULUS refuse FLOAT": the pop refuses it first, so two FLOATs are never asked here.
 abbrev pub bitwise : Connective → Pair → Outcome
-bitwise o (Chars x y) = Value (Char (wholeBits w8 o x y))
-bitwise o (Ints x y) = Value (Int (wholeBits w16 o x y))
+bitwise o (Chars x y) = Value (Char (whole_bits w8 o x y))
+bitwise o (Ints x y) = Value (Int (whole_bits w16 o x y))
 bitwise o (Floats x y) = OutOfRange
 
 -- Document 01: "MIN gives the operand pushed first unless the second is less, MAX unless it is greater."
@@ -79,6 +79,6 @@ extremum o pair = cond (replaces o pair) (second pair) (first pair)
 unfoldable pub binary : Binary → Number → Number → Outcome
 binary (Arithmetic o) a b = arithmetic o (promoted a b)
 binary (Comparing o) a b = flag (compared o (promoted a b))
-binary (Logical o) a b = flag (connected o (not (isZero a)) (not (isZero b)))
+binary (Logical o) a b = flag (connected o (not (is_zero a)) (not (is_zero b)))
 binary (Bitwise o) a b = bitwise o (promoted a b)
 binary (Choosing o) a b = Value (extremum o (promoted a b))

@@ -17,30 +17,30 @@ use Rattle.operator.specs.declared.operators.Conversion.TheVariants.{ToChar, ToI
 
 -- Document 01: "TOCHAR of an INT keeps the low byte." The guide, table 2: ROUND, FLOOR and CEIL push an INT; of a whole
 -- number it is that number.
-unfoldable pub convertedWhole : Conversion → ℤ → Outcome
-convertedWhole ToChar x = Value (Char (to_z w8 (of_z w16 x % 256)))
-convertedWhole ToInt x = Value (Int x)
-convertedWhole ToFloat x = Value (Float (of_int binary32 x))
-convertedWhole Round x = Value (Int x)
-convertedWhole Floor x = Value (Int x)
-convertedWhole Ceil x = Value (Int x)
+unfoldable pub converted_whole : Conversion → ℤ → Outcome
+converted_whole ToChar x = Value (Char (to_z w8 (of_z w16 x % 256)))
+converted_whole ToInt x = Value (Int x)
+converted_whole ToFloat x = Value (Float (of_int binary32 x))
+converted_whole Round x = Value (Int x)
+converted_whole Floor x = Value (Int x)
+converted_whole Ceil x = Value (Int x)
 
 -- Document 01: "8 conversion of NaN or to a whole outside the type's range". k is the type.
-abbrev pub valueOr : (ℤ → Number) → Whole → Outcome
-valueOr k (Is z) = Value (k z)
-valueOr k Beyond = OutOfRange
+abbrev pub value_or : (ℤ → Number) → Whole → Outcome
+value_or k (Is z) = Value (k z)
+value_or k Beyond = OutOfRange
 
 -- Document 01: "TOINT and TOCHAR of a FLOAT cut toward zero; ROUND goes half away from zero." TOFLOAT of a FLOAT is
 -- never asked: the pop refuses it.
-unfoldable pub convertedFloat : Conversion → Binary32 → Outcome
-convertedFloat ToChar x = valueOr Char (whole_of TowardZero 127 x)
-convertedFloat ToInt x = valueOr Int (whole_of TowardZero 32767 x)
-convertedFloat ToFloat x = Value (Float x)
-convertedFloat Round x = valueOr Int (whole_of HalfAway 32767 x)
-convertedFloat Floor x = valueOr Int (whole_of Down 32767 x)
-convertedFloat Ceil x = valueOr Int (whole_of Up 32767 x)
+unfoldable pub converted_float : Conversion → Binary32 → Outcome
+converted_float ToChar x = value_or Char (whole_of TowardZero 127 x)
+converted_float ToInt x = value_or Int (whole_of TowardZero 32767 x)
+converted_float ToFloat x = Value (Float x)
+converted_float Round x = value_or Int (whole_of HalfAway 32767 x)
+converted_float Floor x = value_or Int (whole_of Down 32767 x)
+converted_float Ceil x = value_or Int (whole_of Up 32767 x)
 
 abbrev pub converted : Conversion → Number → Outcome
-converted o (Char x) = convertedWhole o x
-converted o (Int x) = convertedWhole o x
-converted o (Float x) = convertedFloat o x
+converted o (Char x) = converted_whole o x
+converted o (Int x) = converted_whole o x
+converted o (Float x) = converted_float o x

@@ -25,8 +25,8 @@ use Rattle.operator.specs.declared.operators.Unary.TheVariants.{Increment, Decre
 use Rattle.operator.specs.declared.operators.Unary.TheVariants.{BitwiseNot, Convert, Abs, Sq, Sqrt}
 
 -- Document 01: "Numbered 1 to 69 by place in appendix C".
-abbrev pub binaryTable : List (ℕ × Operator)
-binaryTable =
+abbrev pub binary_table : List (ℕ × Operator)
+binary_table =
     (9, OfTwo (Calculates Plus)) ∷ (10, OfTwo (Calculates Minus)) ∷ (11, OfTwo (Calculates Times)) ∷
     (12, OfTwo (Calculates DividedBy)) ∷
     (13, OfTwo (Calculates Modulus)) ∷ (15, OfTwo (Compares Equals)) ∷ (16, OfTwo (Compares NotEquals)) ∷
@@ -36,8 +36,8 @@ binaryTable =
     (26, OfTwo (Bitwise Or)) ∷
     (27, OfTwo (Bitwise Xor)) ∷ (35, OfTwo (Chooses Min)) ∷ (36, OfTwo (Chooses Max)) ∷ []
 
-abbrev pub unaryTable : List (ℕ × Operator)
-unaryTable =
+abbrev pub unary_table : List (ℕ × Operator)
+unary_table =
     (7, OfOne Increment) ∷ (8, OfOne Decrement) ∷ (14, OfOne UnaryMinus) ∷ (24, OfOne LogicalNot) ∷
     (28, OfOne BitwiseNot) ∷
     (29, OfOne (Convert ToChar)) ∷ (30, OfOne (Convert ToInt)) ∷ (31, OfOne (Convert ToFloat)) ∷
@@ -45,63 +45,63 @@ unaryTable =
     (33, OfOne (Convert Floor)) ∷ (34, OfOne (Convert Ceil)) ∷ (37, OfOne Abs) ∷ (41, OfOne Sq) ∷ (42, OfOne Sqrt) ∷ []
 
 -- Document 02, Q-3: "CONSTRAIN, MAP and POW".
-abbrev pub scalingTable : List (ℕ × Operator)
-scalingTable = (38, Scale Constrain) ∷ (39, Scale Map) ∷ (40, Scale Power) ∷ []
+abbrev pub scaling_table : List (ℕ × Operator)
+scaling_table = (38, Scale Constrain) ∷ (39, Scale Map) ∷ (40, Scale Power) ∷ []
 
 unfoldable pub lookup : ℕ → List (ℕ × Operator) → Operator → Operator
 lookup n [] other = other
 lookup n (entry ∷ table) other = cond (eqb n entry.0) entry.1 (lookup n table other)
 
-unfoldable pub operatorOf : ℕ → Operator
+unfoldable pub operator_of : ℕ → Operator
 unfolding lookup
-operatorOf n = lookup n binaryTable (lookup n unaryTable (lookup n scalingTable NotAnOperator))
+operator_of n = lookup n binary_table (lookup n unary_table (lookup n scaling_table NotAnOperator))
 
 -- Document 01: "TOCHAR, TOINT, TOFLOAT take only the types of the guide's table 2."
-abbrev pub conversionTypes : Conversion → Types
-conversionTypes ToChar = IntOrFloat
-conversionTypes ToInt = CharOrFloat
-conversionTypes ToFloat = CharOrInt
-conversionTypes Round = AnyNumber
-conversionTypes Floor = AnyNumber
-conversionTypes Ceil = AnyNumber
+abbrev pub conversion_types : Conversion → Types
+conversion_types ToChar = IntOrFloat
+conversion_types ToInt = CharOrFloat
+conversion_types ToFloat = CharOrInt
+conversion_types Round = AnyNumber
+conversion_types Floor = AnyNumber
+conversion_types Ceil = AnyNumber
 
-abbrev pub unaryTypes : Unary → Types
-unaryTypes Increment = AnyNumber
-unaryTypes Decrement = AnyNumber
-unaryTypes UnaryMinus = AnyNumber
-unaryTypes LogicalNot = AnyNumber
-unaryTypes BitwiseNot = CharOrInt
-unaryTypes (Convert o) = conversionTypes o
-unaryTypes Abs = AnyNumber
-unaryTypes Sq = AnyNumber
-unaryTypes Sqrt = AnyNumber
+abbrev pub unary_types : Unary → Types
+unary_types Increment = AnyNumber
+unary_types Decrement = AnyNumber
+unary_types UnaryMinus = AnyNumber
+unary_types LogicalNot = AnyNumber
+unary_types BitwiseNot = CharOrInt
+unary_types (Convert o) = conversion_types o
+unary_types Abs = AnyNumber
+unary_types Sq = AnyNumber
+unary_types Sqrt = AnyNumber
 
 -- Document 01: "Bitwise and MODULUS refuse FLOAT".
-abbrev pub arithmeticTypes : Arithmetic → Types
-arithmeticTypes Plus = AnyNumber
-arithmeticTypes Minus = AnyNumber
-arithmeticTypes Times = AnyNumber
-arithmeticTypes DividedBy = AnyNumber
-arithmeticTypes Modulus = CharOrInt
+abbrev pub arithmetic_types : Arithmetic → Types
+arithmetic_types Plus = AnyNumber
+arithmetic_types Minus = AnyNumber
+arithmetic_types Times = AnyNumber
+arithmetic_types DividedBy = AnyNumber
+arithmetic_types Modulus = CharOrInt
 
-abbrev pub binaryTypes : Binary → Types
-binaryTypes (Calculates o) = arithmeticTypes o
-binaryTypes (Compares o) = AnyNumber
-binaryTypes (Logical o) = AnyNumber
-binaryTypes (Bitwise o) = CharOrInt
-binaryTypes (Chooses o) = AnyNumber
+abbrev pub binary_types : Binary → Types
+binary_types (Calculates o) = arithmetic_types o
+binary_types (Compares o) = AnyNumber
+binary_types (Logical o) = AnyNumber
+binary_types (Bitwise o) = CharOrInt
+binary_types (Chooses o) = AnyNumber
 
 -- Document 02, Q-3: "POW takes a whole y [..]; a FLOAT y is fault 6." y is pushed second.
-abbrev pub scalingTypes : Scaling → ℕ → Types
-scalingTypes Constrain place = AnyNumber
-scalingTypes Map place = AnyNumber
-scalingTypes Power place = cond (eqb place 0) AnyNumber CharOrInt
+abbrev pub scaling_types : Scaling → ℕ → Types
+scaling_types Constrain place = AnyNumber
+scaling_types Map place = AnyNumber
+scaling_types Power place = cond (eqb place 0) AnyNumber CharOrInt
 
 -- The types that an operator takes at a place: 0 is that of the operand pushed first.
 abbrev pub types_of : Operator → ℕ → Types
-types_of (OfOne o) place = unaryTypes o
-types_of (OfTwo o) place = binaryTypes o
-types_of (Scale o) place = scalingTypes o place
+types_of (OfOne o) place = unary_types o
+types_of (OfTwo o) place = binary_types o
+types_of (Scale o) place = scaling_types o place
 types_of NotAnOperator place = Nothing
 
 -- the type bytes: 1 CHAR, 2 INT, 3 STRING, 4 FLOAT

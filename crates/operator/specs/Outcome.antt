@@ -6,10 +6,10 @@ use Rattle.operator.specs.declared.Outcome.TheVariants.{Value, DivisionByZero, O
 
 -- Document 01: "7 whole divisor zero; 8 conversion of NaN or to a whole outside the type's range, negative whole root".
 -- 0: no fault.
-abbrev pub faultOf : Outcome → ℕ
-faultOf (Value a) = 0
-faultOf DivisionByZero = 7
-faultOf OutOfRange = 8
+abbrev pub fault_of : Outcome → ℕ
+fault_of (Value a) = 0
+fault_of DivisionByZero = 7
+fault_of OutOfRange = 8
 
 -- The guide, tables 2 and 3: comparisons and logical operators push a CHAR; appendix C: 1 where it holds, else 0.
 abbrev pub flag : Bool → Outcome

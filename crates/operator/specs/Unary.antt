@@ -4,12 +4,12 @@ use Rattle.std.specs.Float.{nan, inf, fin}
 use Rattle.std.specs.Float.Ieee.{neg}
 use Rattle.std.specs.Int.{w8, w16}
 use Rattle.integer.specs.Modular.{wrapped}
-use Rattle.root.specs.Root.{wholeRoot}
-use Rattle.float.specs.Sqrt.{sqrtOf}
+use Rattle.root.specs.Root.{whole_root}
+use Rattle.float.specs.Sqrt.{sqrt_of}
 use Rattle.operator.specs.Binary.{binary}
 use Rattle.operator.specs.Conversion.{converted}
 use Rattle.operator.specs.Outcome.{flag}
-use Rattle.number.specs.Value.{isZero}
+use Rattle.number.specs.Value.{is_zero}
 use Rattle.number.specs.declared.Number.{Number}
 use Rattle.number.specs.declared.Number.TheVariants.{Char, Int, Float}
 use Rattle.operator.specs.declared.Outcome.{Outcome}
@@ -38,15 +38,15 @@ absolute (Int x) = Int (wrapped w16 (pos (nat_abs x)))
 absolute (Float x) = Float (magnitude x)
 
 -- Document 01: "of a whole number it is the whole root"; "8 [..] negative whole root".
-abbrev pub wholeSquareRoot : (ℤ → Number) → ℤ → Outcome
-wholeSquareRoot k (pos n) = Value (k (pos (wholeRoot n)))
-wholeSquareRoot k (negsuc n) = OutOfRange
+abbrev pub whole_square_root : (ℤ → Number) → ℤ → Outcome
+whole_square_root k (pos n) = Value (k (pos (whole_root n)))
+whole_square_root k (negsuc n) = OutOfRange
 
 -- Document 01: "SQRT of a FLOAT is correctly rounded".
-abbrev pub squareRoot : Number → Outcome
-squareRoot (Char x) = wholeSquareRoot Char x
-squareRoot (Int x) = wholeSquareRoot Int x
-squareRoot (Float x) = Value (Float (sqrtOf x))
+abbrev pub square_root : Number → Outcome
+square_root (Char x) = whole_square_root Char x
+square_root (Int x) = whole_square_root Int x
+square_root (Float x) = Value (Float (sqrt_of x))
 
 -- Document 01: "INCREMENT adds 1." A CHAR operand leaves the other's type as it is, and CHAR −1 has every bit set at
 -- either width.
@@ -54,9 +54,9 @@ unfoldable pub unary : Unary → Number → Outcome
 unary Increment a = binary (Arithmetic Plus) a (Char (pos 1))
 unary Decrement a = binary (Arithmetic Minus) a (Char (pos 1))
 unary UnaryMinus a = Value (negated a)
-unary LogicalNot a = flag (isZero a)
+unary LogicalNot a = flag (is_zero a)
 unary BitwiseNot a = binary (Bitwise Xor) a (Char (negsuc 0))
 unary (Convert o) a = converted o a
 unary Abs a = Value (absolute a)
 unary Sq a = binary (Arithmetic Times) a a
-unary Sqrt a = squareRoot a
+unary Sqrt a = square_root a

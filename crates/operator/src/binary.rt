@@ -2,7 +2,7 @@
 ghost use Rattle.std.specs.Prelude.{◌≡◌};
 ghost use Rattle.std.specs.Int.{w8, w16};
 ghost use Rattle.operator.specs.Arithmetic.{whole, real, arithmetic};
-ghost use Rattle.operator.specs.Binary.{ordered, orderedFloats, compared, connected, wholeBits, bitwise};
+ghost use Rattle.operator.specs.Binary.{ordered, ordered_floats, compared, connected, whole_bits, bitwise};
 ghost use Rattle.operator.specs.Binary.{replaces, extremum, binary};
 ghost use Rattle.operator.specs.Outcome.{flag};
 
@@ -110,9 +110,9 @@ fn compare_wholes(operator: Comparison, x: i16, y: i16) -> bool
     }
 }
 
-#[tactic(auto, unfolding(crate::specs::Binary::orderedFloats))]
+#[tactic(auto, unfolding(crate::specs::Binary::ordered_floats))]
 fn compare_floats(operator: Comparison, x: f32, y: f32) -> bool
-    ensures { result ≡ orderedFloats operator x y }
+    ensures { result ≡ ordered_floats operator x y }
 {
     match operator {
         Comparison::Equals => x == y,
@@ -145,9 +145,9 @@ fn connect(operator: Connective, x: bool, y: bool) -> bool
     }
 }
 
-#[tactic(auto, unfolding(crate::specs::Binary::wholeBits))]
+#[tactic(auto, unfolding(crate::specs::Binary::whole_bits))]
 fn combine8(operator: Connective, x: i8, y: i8) -> i8
-    ensures { result ≡ wholeBits w8 operator x y }
+    ensures { result ≡ whole_bits w8 operator x y }
 {
     match operator {
         Connective::And => x & y,
@@ -156,9 +156,9 @@ fn combine8(operator: Connective, x: i8, y: i8) -> i8
     }
 }
 
-#[tactic(auto, unfolding(crate::specs::Binary::wholeBits))]
+#[tactic(auto, unfolding(crate::specs::Binary::whole_bits))]
 fn combine16(operator: Connective, x: i16, y: i16) -> i16
-    ensures { result ≡ wholeBits w16 operator x y }
+    ensures { result ≡ whole_bits w16 operator x y }
 {
     match operator {
         Connective::And => x & y,

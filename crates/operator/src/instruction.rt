@@ -1,8 +1,8 @@
 // Which instruction is which operator, and which types an operator takes at which place.
 ghost use Rattle.std.specs.Prelude.{◌≡◌};
-ghost use Rattle.operator.specs.Instruction.{lookup, scalingTable, unaryTable, operatorOf};
-ghost use Rattle.operator.specs.Instruction.{conversionTypes, unaryTypes, arithmeticTypes, binaryTypes};
-ghost use Rattle.operator.specs.Instruction.{scalingTypes, types_of, includes};
+ghost use Rattle.operator.specs.Instruction.{lookup, scaling_table, unary_table, operator_of};
+ghost use Rattle.operator.specs.Instruction.{conversion_types, unary_types, arithmetic_types, binary_types};
+ghost use Rattle.operator.specs.Instruction.{scaling_types, types_of, includes};
 
 use crate::operators::{
     Arithmetic, Binary, Comparison, Connective, Conversion, Extremum, Operator, Scaling, Unary,
@@ -22,7 +22,7 @@ pub enum Types {
 
 #[tactic(auto, unfolding(crate::specs::Instruction::lookup))]
 fn scaling_operator(instruction: u8) -> Operator
-    ensures { result ≡ lookup instruction scalingTable Operator.NotAnOperator }
+    ensures { result ≡ lookup instruction scaling_table Operator.NotAnOperator }
 {
     match instruction {
         38 => Operator::Scale(Scaling::Constrain),
@@ -34,8 +34,8 @@ fn scaling_operator(instruction: u8) -> Operator
 
 #[tactic(auto, unfolding(crate::specs::Instruction::lookup))]
 fn unary_operator(instruction: u8) -> Operator
-    ensures { result ≡ lookup instruction unaryTable
-        (lookup instruction scalingTable Operator.NotAnOperator) }
+    ensures { result ≡ lookup instruction unary_table
+        (lookup instruction scaling_table Operator.NotAnOperator) }
 {
     match instruction {
         7 => Operator::OfOne(Unary::Increment),
@@ -56,9 +56,9 @@ fn unary_operator(instruction: u8) -> Operator
     }
 }
 
-#[tactic(auto, unfolding(crate::specs::Instruction::operatorOf, crate::specs::Instruction::lookup))]
+#[tactic(auto, unfolding(crate::specs::Instruction::operator_of, crate::specs::Instruction::lookup))]
 pub fn operator(instruction: u8) -> Operator
-    ensures { result ≡ operatorOf instruction }
+    ensures { result ≡ operator_of instruction }
 {
     match instruction {
         9 => Operator::OfTwo(Binary::Arithmetic(Arithmetic::Plus)),
@@ -85,7 +85,7 @@ pub fn operator(instruction: u8) -> Operator
 }
 
 fn conversion_types(conversion: Conversion) -> Types
-    ensures { result ≡ conversionTypes conversion }
+    ensures { result ≡ conversion_types conversion }
 {
     match conversion {
         Conversion::ToChar => Types::IntOrFloat,
@@ -98,7 +98,7 @@ fn conversion_types(conversion: Conversion) -> Types
 }
 
 fn unary_types(operator: Unary) -> Types
-    ensures { result ≡ unaryTypes operator }
+    ensures { result ≡ unary_types operator }
 {
     match operator {
         Unary::Increment => Types::AnyNumber,
@@ -114,7 +114,7 @@ fn unary_types(operator: Unary) -> Types
 }
 
 fn arithmetic_types(operator: Arithmetic) -> Types
-    ensures { result ≡ arithmeticTypes operator }
+    ensures { result ≡ arithmetic_types operator }
 {
     match operator {
         Arithmetic::Plus => Types::AnyNumber,
@@ -126,7 +126,7 @@ fn arithmetic_types(operator: Arithmetic) -> Types
 }
 
 fn binary_types(operator: Binary) -> Types
-    ensures { result ≡ binaryTypes operator }
+    ensures { result ≡ binary_types operator }
 {
     match operator {
         Binary::Arithmetic(o) => arithmetic_types(o),
@@ -139,7 +139,7 @@ fn binary_types(operator: Binary) -> Types
 
 // Document 02, Q-3: "a FLOAT y is fault 6".
 fn scaling_types(operator: Scaling, place: u8) -> Types
-    ensures { result ≡ scalingTypes operator place }
+    ensures { result ≡ scaling_types operator place }
 {
     match operator {
         Scaling::Constrain => Types::AnyNumber,

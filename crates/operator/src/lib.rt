@@ -8,7 +8,7 @@ pub mod unary;
 
 use number::Number;
 
-// What an operator answers. `faultOf` of specs/Outcome.antt gives document 01's fault numbers.
+// What an operator answers. `fault_of` of specs/Outcome.antt gives document 01's fault numbers.
 #[derive(Clone, Copy)]
 pub enum Outcome {
     Value(Number),

@@ -1,8 +1,8 @@
 // The operators of one operand.
 ghost use Rattle.std.specs.Prelude.{◌≡◌};
 ghost use Rattle.float.specs.Whole.{whole_of};
-ghost use Rattle.operator.specs.Conversion.{convertedWhole, convertedFloat, converted, valueOr};
-ghost use Rattle.operator.specs.Unary.{negated, magnitude, absolute, squareRoot, unary};
+ghost use Rattle.operator.specs.Conversion.{converted_whole, converted_float, converted, value_or};
+ghost use Rattle.operator.specs.Unary.{negated, magnitude, absolute, square_root, unary};
 
 use crate::binary::flagged;
 use crate::operators::{Arithmetic, Binary, Connective, Conversion, Unary};
@@ -45,9 +45,9 @@ fn absolute_value(a: Number) -> Number
     }
 }
 
-#[tactic(auto, unfolding(crate::specs::Conversion::convertedWhole))]
+#[tactic(auto, unfolding(crate::specs::Conversion::converted_whole))]
 fn convert_whole(conversion: Conversion, x: i16) -> Outcome
-    ensures { result ≡ convertedWhole conversion x }
+    ensures { result ≡ converted_whole conversion x }
 {
     match conversion {
         Conversion::ToChar => Outcome::Value(Number::Char(integer::signed8(integer::low_byte(x)))),
@@ -60,7 +60,7 @@ fn convert_whole(conversion: Conversion, x: i16) -> Outcome
 }
 
 fn float_to_char(x: f32) -> Outcome
-    ensures { result ≡ valueOr Number.Char (whole_of Rounding.TowardZero 127 x) }
+    ensures { result ≡ value_or Number.Char (whole_of Rounding.TowardZero 127 x) }
 {
     match to_whole(x, Rounding::TowardZero, LARGEST_CHAR) {
         Whole::Is(z) => Outcome::Value(Number::Char(z as i8)),
@@ -69,7 +69,7 @@ fn float_to_char(x: f32) -> Outcome
 }
 
 fn float_to_int(x: f32, rounding: Rounding) -> Outcome
-    ensures { result ≡ valueOr Number.Int (whole_of rounding 32767 x) }
+    ensures { result ≡ value_or Number.Int (whole_of rounding 32767 x) }
 {
     match to_whole(x, rounding, LARGEST_INT) {
         Whole::Is(z) => Outcome::Value(Number::Int(z as i16)),
@@ -77,9 +77,9 @@ fn float_to_int(x: f32, rounding: Rounding) -> Outcome
     }
 }
 
-#[tactic(auto, unfolding(crate::specs::Conversion::convertedFloat))]
+#[tactic(auto, unfolding(crate::specs::Conversion::converted_float))]
 fn convert_float(conversion: Conversion, x: f32) -> Outcome
-    ensures { result ≡ convertedFloat conversion x }
+    ensures { result ≡ converted_float conversion x }
 {
     match conversion {
         Conversion::ToChar => float_to_char(x),
@@ -102,7 +102,7 @@ fn convert(conversion: Conversion, a: Number) -> Outcome
 }
 
 fn root_of(a: Number) -> Outcome
-    ensures { result ≡ squareRoot a }
+    ensures { result ≡ square_root a }
 {
     match a {
         Number::Char(x) => {

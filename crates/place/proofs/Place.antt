@@ -17,7 +17,7 @@ use Rattle.buffer.specs.declared.Found.TheVariants.{At, Nowhere}
 use Rattle.buffer.proofs.Bools.{and_both, and_left, and_right, not-is-true, not-true-is-false, true-not-false}
 use Rattle.buffer.proofs.Lists.{all_both, all_weaker, tab-length, tab-more}
 use Rattle.buffer.proofs.Tables.{all_map}
-use Rattle.place.specs.Place.{run_from, no_run, maxRuns, filled, apart, fits, lowestFit, begins, freeFrom, starts, place, is_at, longest}
+use Rattle.place.specs.Place.{run_from, no_run, max_runs, filled, apart, fits, lowest_fit, begins, free_from, starts, place, is_at, longest}
 use Rattle.place.specs.declared.Run.{Run}
 use Rattle.place.proofs.Numbers.{Before, greatest-bound, greatest-holds, greatest-is, greatest-most, lacks, least_at, least-none}
 use Rattle.place.proofs.Numbers.{lowest-at, lowest-is, lowest-none, lowest-nowhere}
@@ -125,13 +125,13 @@ module _ (runs : List Run) (lo hi n s : ℕ) (e : fits runs lo hi n s ≡ true) 
 
 -- ---- the lowest start that fits
 module _ (runs : List Run) (lo hi n : ℕ) where
-  pub lowest-fit-fits : (s : ℕ) → lowestFit runs lo hi n ≡ At s → fits runs lo hi n s ≡ true
-  unfolding lowestFit
+  pub lowest-fit-fits : (s : ℕ) → lowest_fit runs lo hi n ≡ At s → fits runs lo hi n s ≡ true
+  unfolding lowest_fit
   lowest-fit-fits s e = (lowest-at (fits runs lo hi n) lo (suc hi - lo) s e).holds
 
   -- nothing lower fits
-  pub lowest-fit-first : (s j : ℕ) → lowestFit runs lo hi n ≡ At s → j < s → fits runs lo hi n j ≡ false
-  unfolding lowestFit
+  pub lowest-fit-first : (s j : ℕ) → lowest_fit runs lo hi n ≡ At s → j < s → fits runs lo hi n j ≡ false
+  unfolding lowest_fit
   lowest-fit-first s j e h = go (leb lo j) refl
     where
       go : (b : Bool) → leb lo j ≡ b → fits runs lo hi n j ≡ false
@@ -139,8 +139,8 @@ module _ (runs : List Run) (lo hi n : ℕ) where
       go false k = fits_below runs lo hi n j (leb-false _ _ k)
 
   -- none found: none fits
-  pub no-lowest-fit : lowestFit runs lo hi n ≡ Nowhere → (j : ℕ) → fits runs lo hi n j ≡ false
-  unfolding lowestFit
+  pub no-lowest-fit : lowest_fit runs lo hi n ≡ Nowhere → (j : ℕ) → fits runs lo hi n j ≡ false
+  unfolding lowest_fit
   no-lowest-fit e j = go (leb lo j) refl (leb (j + n) hi) refl
     where
       go : (b : Bool) → leb lo j ≡ b → (c : Bool) → leb (j + n) hi ≡ c → fits runs lo hi n j ≡ false
@@ -151,20 +151,20 @@ module _ (runs : List Run) (lo hi n : ℕ) where
 
   -- the other way round
   pub lowest-fit-is : (s : ℕ) → fits runs lo hi n s ≡ true → ((j : ℕ) → j < s → fits runs lo hi n j ≡ false)
-      → lowestFit runs lo hi n ≡ At s
-  unfolding lowestFit
+      → lowest_fit runs lo hi n ≡ At s
+  unfolding lowest_fit
   lowest-fit-is s e f =
       let x = fits-is runs lo hi n s e in
       lowest-is (fits runs lo hi n) lo (suc hi - lo) s x.low (omega (arith, x.low, x.high)) e f
 
-  pub lowest-fit-nowhere : ((j : ℕ) → fits runs lo hi n j ≡ false) → lowestFit runs lo hi n ≡ Nowhere
-  unfolding lowestFit
+  pub lowest-fit-nowhere : ((j : ℕ) → fits runs lo hi n j ≡ false) → lowest_fit runs lo hi n ≡ Nowhere
+  unfolding lowest_fit
   lowest-fit-nowhere f = lowest-nowhere (fits runs lo hi n) lo (suc hi - lo) f
 
-  pub lowest-fit-some : (s : ℕ) → fits runs lo hi n s ≡ true → is_at (lowestFit runs lo hi n) ≡ true
-  lowest-fit-some s e = go (lowestFit runs lo hi n) refl
+  pub lowest-fit-some : (s : ℕ) → fits runs lo hi n s ≡ true → is_at (lowest_fit runs lo hi n) ≡ true
+  lowest-fit-some s e = go (lowest_fit runs lo hi n) refl
     where
-      go : (f : Found) → lowestFit runs lo hi n ≡ f → is_at f ≡ true
+      go : (f : Found) → lowest_fit runs lo hi n ≡ f → is_at f ≡ true
       go (At k) h = refl
       go Nowhere h = absurd (true-not-false e (no-lowest-fit h s))
 
@@ -189,7 +189,7 @@ module _ (runs : List Run) (lo hi n : ℕ) where
   is-begins (suc s) e f = and_both (not-is-true (f s refl)) e
 
   -- at the lowest start that fits one begins
-  lowest-begins : (s : ℕ) → lowestFit runs lo hi n ≡ At s → begins runs lo hi n s ≡ true
+  lowest-begins : (s : ℕ) → lowest_fit runs lo hi n ≡ At s → begins runs lo hi n s ≡ true
   lowest-begins s e =
       is-begins s (lowest-fit-fits runs lo hi n s e) λ t w.
       not-true-is-false (fits runs lo hi (suc n) t) λ f.
@@ -234,18 +234,18 @@ module _ (runs : List Run) (lo hi n : ℕ) where
   -- of the starts at which a free run of n bytes or more begins the one of the shortest, the lowest of equals
   pub record IsPlace (s : ℕ) : Type 0 where
     pub begun : begins runs lo hi n s ≡ true
-    pub before : (j : ℕ) → begins runs lo hi n j ≡ true → Before (freeFrom runs hi) s j
+    pub before : (j : ℕ) → begins runs lo hi n j ≡ true → Before (free_from runs hi) s j
 
   pub place_at : (s : ℕ) → place runs lo hi n ≡ At s → IsPlace s
   unfolding place
   place_at s e =
-      let l = least_at (begins runs lo hi n) (freeFrom runs hi) (starts runs lo) s e in
+      let l = least_at (begins runs lo hi n) (free_from runs hi) (starts runs lo) s e in
       record { begun = l.holds; before = λ j b. l.before j (begins-at-start j b) b }
 
   no-place-none-begins : place runs lo hi n ≡ Nowhere → (s : ℕ) → begins runs lo hi n s ≡ false
   unfolding place
   no-place-none-begins e s = not-true-is-false (begins runs lo hi n s) λ b.
-      true-not-false b (least-none (begins runs lo hi n) (freeFrom runs hi) (starts runs lo) e s (begins-at-start s b))
+      true-not-false b (least-none (begins runs lo hi n) (free_from runs hi) (starts runs lo) e s (begins-at-start s b))
 
   -- there is only one such
   pub place_is : (s : ℕ) → IsPlace s → place runs lo hi n ≡ At s
@@ -267,9 +267,9 @@ module _ (runs : List Run) (lo hi n : ℕ) where
 
   -- none found: none fits
   pub no-place-none-fits : place runs lo hi n ≡ Nowhere → (j : ℕ) → fits runs lo hi n j ≡ false
-  no-place-none-fits e = go (lowestFit runs lo hi n) refl
+  no-place-none-fits e = go (lowest_fit runs lo hi n) refl
     where
-      go : (f : Found) → lowestFit runs lo hi n ≡ f → (j : ℕ) → fits runs lo hi n j ≡ false
+      go : (f : Found) → lowest_fit runs lo hi n ≡ f → (j : ℕ) → fits runs lo hi n j ≡ false
       go Nowhere h = no-lowest-fit runs lo hi n h
       go (At s) h = absurd (true-not-false (lowest-begins runs lo hi n s h) (no-place-none-begins e s))
 
@@ -281,20 +281,20 @@ module _ (runs : List Run) (lo hi n : ℕ) where
       go (At s) e = absurd (true-not-false (is-fits runs lo hi n s (place-fits s e)) (f s))
 
   -- document 02, Q-10: "'no run' is said as before"
-  pub place_found : is_at (place runs lo hi n) ≡ is_at (lowestFit runs lo hi n)
+  pub place_found : is_at (place runs lo hi n) ≡ is_at (lowest_fit runs lo hi n)
   place_found = go (place runs lo hi n) refl
     where
-      go : (f : Found) → place runs lo hi n ≡ f → is_at f ≡ is_at (lowestFit runs lo hi n)
+      go : (f : Found) → place runs lo hi n ≡ f → is_at f ≡ is_at (lowest_fit runs lo hi n)
       go Nowhere e = ap is_at (sym (lowest-fit-nowhere runs lo hi n (no-place-none-fits e)))
       go (At s) e = sym (lowest-fit-some runs lo hi n s (is-fits runs lo hi n s (place-fits s e)))
 
 -- ---- the longest free run
 -- a longer run fits nowhere where a shorter one fits nowhere
-pub longer-fits-nowhere : (runs : List Run) (lo hi m n : ℕ) → m ≤ n → is_at (lowestFit runs lo hi m) ≡ false
-    → is_at (lowestFit runs lo hi n) ≡ false
-longer-fits-nowhere runs lo hi m n h e = go (lowestFit runs lo hi n) refl
+pub longer-fits-nowhere : (runs : List Run) (lo hi m n : ℕ) → m ≤ n → is_at (lowest_fit runs lo hi m) ≡ false
+    → is_at (lowest_fit runs lo hi n) ≡ false
+longer-fits-nowhere runs lo hi m n h e = go (lowest_fit runs lo hi n) refl
   where
-    go : (f : Found) → lowestFit runs lo hi n ≡ f → is_at f ≡ false
+    go : (f : Found) → lowest_fit runs lo hi n ≡ f → is_at f ≡ false
     go Nowhere k = refl
     go (At s) k =
         absurd (true-not-false
@@ -302,19 +302,19 @@ longer-fits-nowhere runs lo hi m n h e = go (lowestFit runs lo hi n) refl
         (fits-inside runs lo hi n s (lowest-fit-fits runs lo hi n s k) m s (omega arith) (omega arith))) e)
 
 module _ (runs : List Run) (lo hi : ℕ) where
-  pub longest-is : (g : ℕ) → g ≤ hi - lo → (0 < g → is_at (lowestFit runs lo hi g) ≡ true)
-      → ((j : ℕ) → g < j → j ≤ hi - lo → is_at (lowestFit runs lo hi j) ≡ false) → longest runs lo hi ≡ g
+  pub longest-is : (g : ℕ) → g ≤ hi - lo → (0 < g → is_at (lowest_fit runs lo hi g) ≡ true)
+      → ((j : ℕ) → g < j → j ≤ hi - lo → is_at (lowest_fit runs lo hi j) ≡ false) → longest runs lo hi ≡ g
   unfolding longest
-  longest-is g a e f = greatest-is (λ n. is_at (lowestFit runs lo hi n)) (hi - lo) g a e f
+  longest-is g a e f = greatest-is (λ n. is_at (lowest_fit runs lo hi n)) (hi - lo) g a e f
 
   pub longest-bound : longest runs lo hi ≤ hi - lo
   unfolding longest
-  longest-bound = greatest-bound (λ n. is_at (lowestFit runs lo hi n)) (hi - lo)
+  longest-bound = greatest-bound (λ n. is_at (lowest_fit runs lo hi n)) (hi - lo)
 
   -- a run of that length has a place
   pub longest-fits : 0 < longest runs lo hi → is_at (place runs lo hi (longest runs lo hi)) ≡ true
   unfolding longest
-  longest-fits h = place_found runs lo hi (longest runs lo hi) ∙ greatest-holds (λ n. is_at (lowestFit runs lo hi n)) (hi - lo) h
+  longest-fits h = place_found runs lo hi (longest runs lo hi) ∙ greatest-holds (λ n. is_at (lowest_fit runs lo hi n)) (hi - lo) h
 
   -- no longer one has
   pub longest-most : lo ≤ hi → (n : ℕ) → longest runs lo hi < n → place runs lo hi n ≡ Nowhere
@@ -323,15 +323,15 @@ module _ (runs : List Run) (lo hi : ℕ) where
       not-true-is-false (fits runs lo hi n s) λ e.
       let x = fits-is runs lo hi n s e in
       true-not-false (lowest-fit-some runs lo hi n s e)
-      (greatest-most (λ k. is_at (lowestFit runs lo hi k)) (hi - lo) n h (omega (arith, x.low, x.high)))
+      (greatest-most (λ k. is_at (lowest_fit runs lo hi k)) (hi - lo) n h (omega (arith, x.low, x.high)))
 
 -- ---- runs in an array
 -- one more turn of a loop that puts the runs f 0, f 1, .. into it
-module _ (f : ℕ → Run) (i : ℕ) (h : i < maxRuns) where
+module _ (f : ℕ → Run) (i : ℕ) (h : i < max_runs) where
   pub filled_next : set (filled (tab f i)) i (f i) ≡ filled (tab f (i + 1))
   filled_next =
-      let m : maxRuns - length (tab f i) ≡ suc (maxRuns - length (tab f (i + 1))) = omega (arith, tab-length f i, tab-length f (i + 1)) in
+      let m : max_runs - length (tab f i) ≡ suc (max_runs - length (tab f (i + 1))) = omega (arith, tab-length f i, tab-length f (i + 1)) in
       rw (m, set_at (tab f i) no_run _ (f i) i (tab-length f i)) (rw (tab-more f i, append_assoc))
 
-pub filled-take : (runs : List Run) → length runs ≤ maxRuns → take (length runs) (filled runs) ≡ runs
-filled-take runs h = take-append_seam runs (replicate (maxRuns - length runs) no_run)
+pub filled-take : (runs : List Run) → length runs ≤ max_runs → take (length runs) (filled runs) ≡ runs
+filled-take runs h = take-append_seam runs (replicate (max_runs - length runs) no_run)

@@ -7,8 +7,8 @@ use Rattle.buffer.specs.declared.Found.TheVariants.{At, Nowhere}
 use Rattle.place.specs.declared.Run.{Run}
 
 -- as many runs as may be taken: ten files, or 25 variables and the ten runs that a later request holds back
-abbrev pub maxRuns : ℕ
-maxRuns = 35
+abbrev pub max_runs : ℕ
+max_runs = 35
 
 abbrev pub run_from : ℕ → ℕ → Run
 run_from start n = record { start = start; len = n }
@@ -18,7 +18,7 @@ no_run = run_from 0 0
 
 -- these runs first, and nothing behind them
 abbrev pub filled : List Run → List Run
-filled runs = runs ++ replicate (maxRuns - length runs) no_run
+filled runs = runs ++ replicate (max_runs - length runs) no_run
 
 -- one ends before the other starts: they share no byte
 unfoldable pub apart : Run → Run → Bool
@@ -28,18 +28,18 @@ apart u v = leb (u.start + u.len) v.start || leb (v.start + v.len) u.start
 unfoldable pub fits : List Run → ℕ → ℕ → ℕ → ℕ → Bool
 fits runs lo hi n start = leb lo start && (leb (start + n) hi && all (apart (run_from start n)) runs)
 
-abbrev pub atOr : Bool → ℕ → Found → Found
-atOr true k f = At k
-atOr false k f = f
+abbrev pub at_or : Bool → ℕ → Found → Found
+at_or true k f = At k
+at_or false k f = f
 
 -- the lowest of the m numbers from k on that p holds of
 unfoldable pub lowest : (ℕ → Bool) → ℕ → ℕ → Found
 lowest p k zero = Nowhere
-lowest p k (suc m) = atOr (p k) k (lowest p (suc k) m)
+lowest p k (suc m) = at_or (p k) k (lowest p (suc k) m)
 
 -- the lowest start that fits
-unfoldable pub lowestFit : List Run → ℕ → ℕ → ℕ → Found
-lowestFit runs lo hi n = lowest (fits runs lo hi n) lo (suc hi - lo)
+unfoldable pub lowest_fit : List Run → ℕ → ℕ → ℕ → Found
+lowest_fit runs lo hi n = lowest (fits runs lo hi n) lo (suc hi - lo)
 
 abbrev pub greater_of : Bool → ℕ → ℕ → ℕ
 greater_of true n m = n
@@ -52,8 +52,8 @@ greatest p (suc n) = greater_of (p (suc n)) (suc n) (greatest p n)
 
 -- ---- free runs
 -- how many bytes from start on are free
-unfoldable pub freeFrom : List Run → ℕ → ℕ → ℕ
-freeFrom runs hi start = greatest (λ n. fits runs start hi n start) (hi - start)
+unfoldable pub free_from : List Run → ℕ → ℕ → ℕ
+free_from runs hi start = greatest (λ n. fits runs start hi n start) (hi - start)
 
 -- a free run of n bytes or more begins at start: n bytes fit from there on, and not together with the byte before
 unfoldable pub begins : List Run → ℕ → ℕ → ℕ → ℕ → Bool
@@ -82,7 +82,7 @@ least p size (k ∷ ks) = lesser (p k) size k (least p size ks)
 -- Document 02, Q-10: "A new file or variable now goes at the start of the shortest free run that fits, the lowest of
 -- equals."
 unfoldable pub place : List Run → ℕ → ℕ → ℕ → Found
-place runs lo hi n = least (begins runs lo hi n) (freeFrom runs hi) (starts runs lo)
+place runs lo hi n = least (begins runs lo hi n) (free_from runs hi) (starts runs lo)
 
 abbrev pub is_at : Found → Bool
 is_at (At k) = true
@@ -90,4 +90,4 @@ is_at Nowhere = false
 
 -- Document 01: "Free space: the longest free run"
 unfoldable pub longest : List Run → ℕ → ℕ → ℕ
-longest runs lo hi = greatest (λ n. is_at (lowestFit runs lo hi n)) (hi - lo)
+longest runs lo hi = greatest (λ n. is_at (lowest_fit runs lo hi n)) (hi - lo)

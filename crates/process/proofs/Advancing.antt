@@ -8,21 +8,21 @@ use lib.ListN.{length, take, drop, drop_of_length-le, length-append, length-repl
 use lib.Seq.{drop-append-add, length-take-le, set-get_or, take-append-add, take-take}
 use Rattle.buffer.specs.Buffer.{overwrite, word_bytes, zeros}
 use Rattle.buffer.proofs.Buffer.{overwrite-length}
-use Rattle.machine.specs.Area.{Whole, kernelBytes, kernelOf, processBytes, registerBytes, stackAt}
-use Rattle.machine.specs.Limits.{areaLength, recordSize, slotCount, stackSize}
-use Rattle.machine.specs.State.{noProcess, processAt, stackBytes, withFile, withLocal}
+use Rattle.machine.specs.Area.{Whole, kernel_bytes, kernel_of, process_bytes, register_bytes, stack_at}
+use Rattle.machine.specs.Limits.{area_length, record_size, slot_count, stack_size}
+use Rattle.machine.specs.State.{no_process, process_at, stack_bytes, with_file, with_local}
 use Rattle.machine.specs.declared.Kernel.{Kernel}
 use Rattle.machine.specs.declared.OpenFile.{OpenFile}
 use Rattle.machine.specs.declared.Process.{Process}
 use Rattle.machine.proofs.Bytes.Records.{process-bytes-length}
 use Rattle.machine.proofs.Bytes.Sizes.{SizedProcess, decoded-sized, with-local-sized}
-use Rattle.area.specs.Parts.{recordAt}
+use Rattle.area.specs.Parts.{record_at}
 use Rattle.buffer.proofs.Runs.{overwrite-front, overwrite-middle}
 use Rattle.area.proofs.Writing.{process-written}
 use Rattle.stack.proofs.Steps.{pushed-length}
 use Rattle.stack.specs.Steps.{keeping}
 use Rattle.stack.specs.declared.Step.{Step}
-use Rattle.process.specs.Stepping.{Room, Stepping, own_at, pcAt, pushing, registersFrom, stack_of, wentOn}
+use Rattle.process.specs.Stepping.{Room, Stepping, own_at, pc_at, pushing, registers_from, stack_of, went_on}
 
 -- ---- bytes laid within a run
 overwrite-back : (x y s : List ℕ) (i : ℕ) → overwrite (x ++ y) (length x + i) s ≡ x ++ overwrite y i s
@@ -45,17 +45,17 @@ module _ (p : Process) (sized : SizedProcess p) (kept : ℕ) (head tail : List �
 
   -- what is laid from `kept` on
   abbrev above : List ℕ
-  above = head ++ tail ++ zeros (stackSize - sp)
+  above = head ++ tail ++ zeros (stack_size - sp)
 
   sp-is : length (take kept (stack_of p) ++ head ++ tail) ≡ sp
   sp-is =
       let low = length-take-le p.sp p.stack (omega (arith, sized.stack, room.sp)) in
       pushed-length (stack_of p) head tail kept (omega (arith, room.kept))
 
-  above-length : kept + length above ≡ stackSize
+  above-length : kept + length above ≡ stack_size
   above-length = simp (length-append, length-replicate) (omega (arith, room.fits))
 
-  stack-laid : overwrite p.stack kept above ≡ stackBytes (take kept (stack_of p) ++ head ++ tail)
+  stack-laid : overwrite p.stack kept above ≡ stack_bytes (take kept (stack_of p) ++ head ++ tail)
   stack-laid =
       rw (
         drop_of_length-le p.stack {i = kept + length above} (omega (arith, sized.stack, above-length)),
@@ -66,74 +66,74 @@ module _ (p : Process) (sized : SizedProcess p) (kept : ℕ) (head tail : List �
 
   module _ (pc loopstart : ℕ) (file : OpenFile) where
     abbrev moved : Process
-    moved = withFile (withLocal p (pushing p kept pc loopstart head tail)) file
+    moved = with_file (with_local p (pushing p kept pc loopstart head tail)) file
 
-    registers-laid : overwrite (processBytes p) pcAt (registersFrom pc loopstart file sp) ≡ p.name ++ registerBytes moved ++ p.stack
+    registers-laid : overwrite (process_bytes p) pc_at (registers_from pc loopstart file sp) ≡ p.name ++ register_bytes moved ++ p.stack
     registers-laid =
         let q = p.code in
         let front : List ℕ = p.name ++ (word_bytes p.id ++ (p.state ∷ p.fault ∷ []) ++ word_bytes q.start ++ word_bytes q.len) in
-        let old = registersFrom p.pc p.loopstart p.file p.sp in
-        let parted : processBytes p ≡ front ++ old ++ (p.share ∷ p.stack) = simp append_assoc in
-        ap (λ (l : List ℕ). overwrite l pcAt (registersFrom pc loopstart file sp)) parted
-        ∙ overwrite-middle front old (registersFrom pc loopstart file sp) (p.share ∷ p.stack) pcAt
+        let old = registers_from p.pc p.loopstart p.file p.sp in
+        let parted : process_bytes p ≡ front ++ old ++ (p.share ∷ p.stack) = simp append_assoc in
+        ap (λ (l : List ℕ). overwrite l pc_at (registers_from pc loopstart file sp)) parted
+        ∙ overwrite-middle front old (registers_from pc loopstart file sp) (p.share ∷ p.stack) pc_at
         (simp length-append (omega (arith, sized.name))) refl
         ∙ rw sp-is (simp append_assoc)
 
-    pub record-laid : overwrite (overwrite (processBytes p) pcAt (registersFrom pc loopstart file sp)) (stackAt + kept) above
-        ≡ processBytes moved
+    pub record-laid : overwrite (overwrite (process_bytes p) pc_at (registers_from pc loopstart file sp)) (stack_at + kept) above
+        ≡ process_bytes moved
     record-laid =
-        let front : List ℕ = p.name ++ registerBytes moved in
-        let n : length front ≡ stackAt = simp length-append (omega (arith, sized.name)) in
-        ap (λ (l : List ℕ). overwrite l (stackAt + kept) above) registers-laid
+        let front : List ℕ = p.name ++ register_bytes moved in
+        let n : length front ≡ stack_at = simp length-append (omega (arith, sized.name)) in
+        ap (λ (l : List ℕ). overwrite l (stack_at + kept) above) registers-laid
         ∙ ap (λ (m : ℕ). overwrite (front ++ p.stack) (m + kept) above) (sym n)
         ∙ overwrite-back front p.stack above kept
         ∙ ap (λ (l : List ℕ). front ++ l) stack-laid
 
 -- ---- the record in its area
-module _ (area : List ℕ) (size : length area ≡ areaLength) (whole : Whole area) (slot : ℕ) (low : slot < slotCount) where
+module _ (area : List ℕ) (size : length area ≡ area_length) (whole : Whole area) (slot : ℕ) (low : slot < slot_count) where
   abbrev k : Kernel
-  k = kernelOf area
+  k = kernel_of area
 
   abbrev old : Process
-  old = processAt k slot
+  old = process_at k slot
 
   old-sized : SizedProcess old
   old-sized = (decoded-sized area size).each slot low
 
-  record-there : overwrite area (recordAt slot) (processBytes old) ≡ area
+  record-there : overwrite area (record_at slot) (process_bytes old) ≡ area
   record-there =
       sym (process-written area size whole slot old low old-sized)
-      ∙ ap (λ (l : List Process). kernelBytes (record { variables = k.variables; next = k.next; zeros = k.zeros; processes = l }))
-      (set-get_or k.processes slot noProcess)
+      ∙ ap (λ (l : List Process). kernel_bytes (record { variables = k.variables; next = k.next; zeros = k.zeros; processes = l }))
+      (set-get_or k.processes slot no_process)
       ∙ whole
 
   pub went-on-bytes : (kept pc loopstart : ℕ) (head tail : List ℕ) (file : OpenFile) {sp : ℕ} {one two : List ℕ}
       → Room old kept (length head + length tail) → sp ≡ kept + length head + length tail
-      → one ≡ overwrite area (recordAt slot + pcAt) (registersFrom pc loopstart file sp)
-      → two ≡ overwrite one (recordAt slot + stackAt + kept) (head ++ tail ++ zeros (stackSize - (kept + length head + length tail)))
-      → two ≡ kernelBytes (wentOn k slot kept pc loopstart head tail file)
+      → one ≡ overwrite area (record_at slot + pc_at) (registers_from pc loopstart file sp)
+      → two ≡ overwrite one (record_at slot + stack_at + kept) (head ++ tail ++ zeros (stack_size - (kept + length head + length tail)))
+      → two ≡ kernel_bytes (went_on k slot kept pc loopstart head tail file)
   went-on-bytes kept pc loopstart head tail file room e x y =
-      let r = processBytes old in
-      let m : length r ≡ recordSize = process-bytes-length old old-sized in
-      let new = registersFrom pc loopstart file (kept + length head + length tail) in
+      let r = process_bytes old in
+      let m : length r ≡ record_size = process-bytes-length old old-sized in
+      let new = registers_from pc loopstart file (kept + length head + length tail) in
       let top = above old old-sized kept head tail room in
       let after = moved old old-sized kept head tail room pc loopstart file in
-      let n : length (overwrite r pcAt new) ≡ recordSize = overwrite-length r new pcAt (omega arith) ∙ m in
+      let n : length (overwrite r pc_at new) ≡ record_size = overwrite-length r new pc_at (omega arith) ∙ m in
       let laid = above-length old old-sized kept head tail room in
       let fits = with-local-sized old old-sized (pushing old kept pc loopstart head tail)
       (omega (arith, sp-is old old-sized kept head tail room, room.fits)) in
       let there = sym record-there in
-      let first = x ∙ (λ i. overwrite (there i) (recordAt slot + pcAt) (registersFrom pc loopstart file (e i)))
-      ∙ overwrite-inside area r new (recordAt slot) pcAt (omega arith) (omega arith) in
+      let first = x ∙ (λ i. overwrite (there i) (record_at slot + pc_at) (registers_from pc loopstart file (e i)))
+      ∙ overwrite-inside area r new (record_at slot) pc_at (omega arith) (omega arith) in
       y
-      ∙ (λ i. overwrite (first i) (add_assoc (recordAt slot) stackAt kept i) top)
-      ∙ overwrite-inside area (overwrite r pcAt new) top (recordAt slot) (stackAt + kept) (omega arith) (omega arith)
-      ∙ ap (overwrite area (recordAt slot)) (record-laid old old-sized kept head tail room pc loopstart file)
+      ∙ (λ i. overwrite (first i) (add_assoc (record_at slot) stack_at kept i) top)
+      ∙ overwrite-inside area (overwrite r pc_at new) top (record_at slot) (stack_at + kept) (omega arith) (omega arith)
+      ∙ ap (overwrite area (record_at slot)) (record-laid old old-sized kept head tail room pc loopstart file)
       ∙ sym (process-written area size whole slot after low (record { name = fits.name; stack = fits.stack }))
 
 -- ---- of the process as it was copied out
 module _ {area : List ℕ} {slot : ℕ} {p : Process} {d : Step} (s : Stepping area slot p d) where
-  pub own_room : (kept n : ℕ) → kept ≤ p.sp → kept + n ≤ stackSize → Room (processAt (kernelOf area) slot) kept n
+  pub own_room : (kept n : ℕ) → kept ≤ p.sp → kept + n ≤ stack_size → Room (process_at (kernel_of area) slot) kept n
   own_room kept n a b = subst (λ (q : Process). Room q kept n) s.own (record { sp = s.sp; kept = a; fits = b })
 
   pub own-stepping : Stepping area slot (own_at area slot) d
@@ -143,17 +143,17 @@ module _ {area : List ℕ} {slot : ℕ} {p : Process} {d : Step} (s : Stepping a
   own-file = ap (λ (q : Process). q.file) s.own
 
   -- all that going on with what the step keeps asks for
-  pub may-go-on : (n : ℕ) → d.kept + n ≤ stackSize
-      → (length area ≡ areaLength) × (slot < slotCount) × Room (processAt (kernelOf area) slot) d.kept n
+  pub may-go-on : (n : ℕ) → d.kept + n ≤ stack_size
+      → (length area ≡ area_length) × (slot < slot_count) × Room (process_at (kernel_of area) slot) d.kept n
   may-go-on n h = (s.size, s.low, own_room d.kept n s.kept h)
 
-  pub may-keep : (length area ≡ areaLength) × (slot < slotCount) × Room (processAt (kernelOf area) slot) d.kept 0
+  pub may-keep : (length area ≡ area_length) × (slot < slot_count) × Room (process_at (kernel_of area) slot) d.kept 0
   may-keep = may-go-on 0 (omega (arith, s.kept, s.sp))
 
   pub own-pushing : (kept pc loopstart : ℕ) (head tail : List ℕ)
-      → pushing (processAt (kernelOf area) slot) kept pc loopstart head tail ≡ pushing p kept pc loopstart head tail
+      → pushing (process_at (kernel_of area) slot) kept pc loopstart head tail ≡ pushing p kept pc loopstart head tail
   own-pushing kept pc loopstart head tail = ap (λ (q : Process). pushing q kept pc loopstart head tail) (sym s.own)
 
   -- nothing above what the step keeps
-  pub own-keeping : pushing (processAt (kernelOf area) slot) d.kept d.pc d.loopstart [] [] ≡ keeping (stack_of p) d
+  pub own-keeping : pushing (process_at (kernel_of area) slot) d.kept d.pc d.loopstart [] [] ≡ keeping (stack_of p) d
   own-keeping = own-pushing d.kept d.pc d.loopstart [] [] ∙ simp append-nil

@@ -1,18 +1,18 @@
 // A process's end, on the work area.
 ghost use Rattle.std.specs.Prelude.{◌≡◌, ◌<◌, ◌≤◌, length};
-ghost use Rattle.machine.specs.Area.{kernelBytes, kernelOf};
-ghost use Rattle.machine.specs.Limits.{areaLength, slotCount};
+ghost use Rattle.machine.specs.Area.{kernel_bytes, kernel_of};
+ghost use Rattle.machine.specs.Limits.{area_length, slot_count};
 ghost use Rattle.machine.specs.Ended.{ended};
-ghost use Rattle.variable.specs.Limits.{maxVariables};
+ghost use Rattle.variable.specs.Limits.{max_variables};
 
 use crate::advance::put_back;
 
 // Document 01: "Ending (STOP, kill, fault) frees the process's variables. Its record keeps name, ID and fault (0 unless
 // a fault) and is otherwise zero."
 pub fn finish(area: &mut [u8], slot: usize, fault: u8)
-    requires { (length area.old ≡ areaLength) × (slot < slotCount)
-        × ((kernelOf area.old).variables.count ≤ maxVariables) }
-    ensures { area.new ≡ kernelBytes (ended (kernelOf area.old) slot fault) }
+    requires { (length area.old ≡ area_length) × (slot < slot_count)
+        × ((kernel_of area.old).variables.count ≤ max_variables) }
+    ensures { area.new ≡ kernel_bytes (ended (kernel_of area.old) slot fault) }
 {
     let p = area::records::process_at(area, slot);
     area::variables::free_in(area, true, 0, p.id);

@@ -2,10 +2,10 @@
 ghost use Rattle.std.specs.Prelude.{◌≡◌, ◌≤◌, length};
 ghost use Rattle.disc.specs.Directory.{Held};
 ghost use Rattle.instruction.specs.Readable.{Readable};
-ghost use Rattle.machine.specs.Area.{kernelOf};
+ghost use Rattle.machine.specs.Area.{kernel_of};
 ghost use Rattle.machine.specs.Exec.{exec};
-ghost use Rattle.machine.specs.Limits.{areaLength, stackSize};
-ghost use Rattle.machine.specs.State.{localOf};
+ghost use Rattle.machine.specs.Limits.{area_length, stack_size};
+ghost use Rattle.machine.specs.State.{local_of};
 ghost use Rattle.machine.specs.Turn.{program_of};
 ghost use Rattle.process.specs.Stepping.{stack_of};
 ghost use Rattle.stack.specs.Steps.{Means};
@@ -17,10 +17,10 @@ use stack::Step;
 // Document 01: "An instruction reads its argument bytes from the program's own part of the disc."; "PC and loop are
 // offsets from the code start."
 pub fn next_step(disc: &[u8], area: &[u8], p: Process, clock: u32) -> Step
-    requires { Held disc.now p.code × (p.sp ≤ stackSize)
-        × (length area.now ≡ areaLength) × Readable (kernelOf area.now).variables }
-    ensures { Means (stack_of p) result (exec (program_of disc.now p) clock (localOf p)
-        (owned (kernelOf area.now).variables p.id)) }
+    requires { Held disc.now p.code × (p.sp ≤ stack_size)
+        × (length area.now ≡ area_length) × Readable (kernel_of area.now).variables }
+    ensures { Means (stack_of p) result (exec (program_of disc.now p) clock (local_of p)
+        (owned (kernel_of area.now).variables p.id)) }
 {
     let start = p.code.start as usize;
     let end = start + p.code.len as usize;

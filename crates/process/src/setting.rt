@@ -1,9 +1,9 @@
 // SET: the variable, and its process on behind the instruction.
 ghost use Rattle.std.specs.Prelude.{List, ◌≡◌, ℕ, ◌≤◌};
-ghost use Rattle.machine.specs.Area.{kernelOf};
+ghost use Rattle.machine.specs.Area.{kernel_of};
 ghost use Rattle.machine.specs.Effect.{assigns};
-ghost use Rattle.machine.specs.Turn.{carriedOut};
-ghost use Rattle.process.specs.Stepping.{Stepping, left, leftBy, stack_of};
+ghost use Rattle.machine.specs.Turn.{carried_out};
+ghost use Rattle.process.specs.Stepping.{Stepping, left, left_by, stack_of};
 ghost use Rattle.stack.specs.Steps.{about, keeping};
 
 use crate::advance::go_on;
@@ -19,7 +19,7 @@ use variable::assign::placing_fault;
 pub fn set_variable(area: &mut [u8], slot: usize, p: Process, d: Step, name: u8, kind: u8)
     requires { Stepping area.old slot p d × (1 ≤ d.len) }
     ensures { (disc : List ℕ) → left disc area.new
-        ≡ leftBy (carriedOut (kernelOf area.old) slot disc
+        ≡ left_by (carried_out (kernel_of area.old) slot disc
         (assigns name kind (about d) (keeping (stack_of p) d))) }
 {
     let bytes = d.bytes;

@@ -5,25 +5,26 @@ use mathlib.Core.Bool.{Bool, false, not}
 use mathlib.Core.List.{List}
 use lib.Dec.{eqb}
 use borrow.Author.Tests.{not-true}
-use Rattle.area.specs.Parts.{processIn}
+use Rattle.area.specs.Parts.{process_in}
 use Rattle.area.proofs.Reading.{process-read}
 use Rattle.buffer.specs.declared.Found.{Found}
 use Rattle.buffer.specs.declared.Found.TheVariants.{At}
 use Rattle.buffer.proofs.Tables.{index-tab-at}
-use Rattle.machine.specs.Area.{kernelOf}
-use Rattle.machine.specs.Limits.{idLimit, slotCount}
+use Rattle.machine.specs.Area.{kernel_of}
+use Rattle.machine.specs.Limits.{id_limit, slot_count}
 use Rattle.machine.specs.Start.{start_in, starting}
-use Rattle.machine.specs.State.{endedSlot, isLive, processAt}
+use Rattle.machine.specs.State.{ended_slot, is_live, process_at}
 use Rattle.disc.specs.Directory.{lookup}
 
-pub ended-slot-is : (area : List ℕ) {slot : ℕ} → endedSlot (kernelOf area) ≡ At slot
-    → (slot < slotCount) × (isLive (processAt (kernelOf area) slot) ≡ false)
-unfolding endedSlot kernelOf
+pub ended-slot-is : (area : List ℕ) {slot : ℕ} → ended_slot (kernel_of area) ≡ At slot
+    → (slot < slot_count) × (is_live (process_at (kernel_of area) slot) ≡ false)
+unfolding ended_slot kernel_of
 ended-slot-is area {slot} e =
-    let f = index-tab-at (processIn area) slotCount (λ p. not (isLive p)) slot e in
-    (f.0, ap isLive (process-read area slot f.0) ∙ not-true (isLive (processIn area slot)) f.1)
+    let f = index-tab-at (process_in area) slot_count (λ p. not (is_live p)) slot e in
+    (f.0, ap is_live (process-read area slot f.0) ∙ not-true (is_live (process_in area slot)) f.1)
 
-pub starting-by : (area disc name : List ℕ) {slot file : Found} {spent : Bool} → endedSlot (kernelOf area) ≡ slot → lookup disc name ≡ file
-    → eqb (kernelOf area).next idLimit ≡ spent → starting (kernelOf area) disc name ≡ start_in slot file spent disc
+pub starting-by : (area disc name : List ℕ) {slot file : Found} {spent : Bool} → ended_slot (kernel_of area) ≡ slot
+    → lookup disc name ≡ file
+    → eqb (kernel_of area).next id_limit ≡ spent → starting (kernel_of area) disc name ≡ start_in slot file spent disc
 unfolding starting
 starting-by area disc name e f g = λ i. start_in (e i) (f i) (g i) disc

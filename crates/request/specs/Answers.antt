@@ -1,25 +1,25 @@
 -- Requests in code: what disc and area are after an answer, and what the code needs of an open file.
 use Rattle.std.specs.Prelude.{ℕ, ◌+◌, ◌≤◌, ◌≡◌, Bool, cond, ◌&&◌, List, [], ◌∷◌, ◌++◌, eqb, leb, pos, length, take}
 use Rattle.disc.specs.Directory.{Held}
-use Rattle.machine.specs.Area.{kernelOf}
-use Rattle.machine.specs.Beyond.{Answered, fileRun}
-use Rattle.machine.specs.Stack.{stringKind}
-use Rattle.machine.specs.State.{isLive}
+use Rattle.machine.specs.Area.{kernel_of}
+use Rattle.machine.specs.Beyond.{Answered, file_run}
+use Rattle.machine.specs.Stack.{string_kind}
+use Rattle.machine.specs.State.{is_live}
 use Rattle.machine.specs.Turn.{answering}
 use Rattle.machine.specs.declared.OpenFile.{OpenFile}
 use Rattle.machine.specs.declared.Process.{Process}
 use Rattle.number.specs.Compare.{equals}
 use Rattle.number.specs.declared.Number.{Number}
 use Rattle.place.specs.declared.Run.{Run}
-use Rattle.process.specs.Stepping.{Left, leftBy, stack_of}
+use Rattle.process.specs.Stepping.{Left, left_by, stack_of}
 use Rattle.stack.specs.declared.Step.{Step}
-use Rattle.store.specs.File.{readAt}
+use Rattle.store.specs.File.{read_at}
 use Rattle.request.specs.declared.Access.{Access}
 use Rattle.request.specs.declared.Access.TheVariants.{Inside, NoFile, PastEnd}
 
 -- disc and area after an answer to the process in that slot
 abbrev pub after : (disc area : List ℕ) → ℕ → Answered → Left
-after disc area slot a = leftBy (answering (kernelOf area) slot disc a)
+after disc area slot a = left_by (answering (kernel_of area) slot disc a)
 
 abbrev pub run_from : ℕ → ℕ → Run
 run_from start len = record { start = start; len = len }
@@ -28,22 +28,22 @@ run_from start len = record { start = start; len = len }
 -- a good area's file: its offset within it, and one of the disc's where one is open
 pub record Lies (disc : List ℕ) (f : OpenFile) : Type 0 where
   pub offset : f.offset ≤ f.len
-  pub held : (f.len ≡ 0 → ⊥) → Held disc (fileRun f)
+  pub held : (f.len ≡ 0 → ⊥) → Held disc (file_run f)
 
 -- n bytes lie ahead of the offset, in a file of the disc
 pub record Ahead (disc : List ℕ) (f : OpenFile) (n : ℕ) : Type 0 where
   pub within : f.offset + n ≤ f.len
-  pub held : Held disc (fileRun f)
+  pub held : Held disc (file_run f)
 
 -- Document 01: "11 no open file; 12 past the file's end"
-unfoldable pub accessTo : OpenFile → ℕ → Access
-accessTo f n = cond (eqb f.len 0) NoFile (cond (leb (f.offset + n) f.len) Inside PastEnd)
+unfoldable pub access_to : OpenFile → ℕ → Access
+access_to f n = cond (eqb f.len 0) NoFile (cond (leb (f.offset + n) f.len) Inside PastEnd)
 
 -- the stack with a string of n bytes read onto it
-abbrev pub textRead : List ℕ → Process → Step → ℕ → List ℕ
-textRead disc p d n = take d.kept (stack_of p) ++ readAt disc (fileRun p.file) p.file.offset n
-    ++ (n ∷ stringKind ∷ [])
+abbrev pub text_read : List ℕ → Process → Step → ℕ → List ℕ
+text_read disc p d n = take d.kept (stack_of p) ++ read_at disc (file_run p.file) p.file.offset n
+    ++ (n ∷ string_kind ∷ [])
 
 -- ---- WAITUNTILDONE
-abbrev pub isAwaitedBy : Number → Process → Bool
-isAwaitedBy id p = isLive p && equals id (pos p.id)
+abbrev pub is_awaited_by : Number → Process → Bool
+is_awaited_by id p = is_live p && equals id (pos p.id)

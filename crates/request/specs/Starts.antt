@@ -1,27 +1,27 @@
 -- Starting in code: what the answer stands for, and the bounds that come with it.
 use Rattle.std.specs.Prelude.{ℕ, ◌<◌, ◌≡◌, false, List}
-use Rattle.machine.specs.Area.{kernelOf}
-use Rattle.machine.specs.Limits.{idLimit, slotCount}
+use Rattle.machine.specs.Area.{kernel_of}
+use Rattle.machine.specs.Limits.{id_limit, slot_count}
 use Rattle.machine.specs.Start.{starts, refuses}
 use Rattle.machine.specs.Start.{Starting as StartOf}
-use Rattle.machine.specs.State.{isLive, processAt}
-use Rattle.disc.specs.Directory.{entry_at, fileCount}
+use Rattle.machine.specs.State.{is_live, process_at}
+use Rattle.disc.specs.Directory.{entry_at, file_count}
 use Rattle.request.specs.declared.Starting.{Starting}
 use Rattle.request.specs.declared.Starting.TheVariants.{Starts, NoSlot, NoFile, NoId}
 
 -- Document 01, Run: "12 no ended slot, 10, 13 next ID is 32768"
-abbrev pub startingOf : List ℕ → Starting → StartOf
-startingOf disc (Starts slot i) = starts slot (entry_at disc i)
-startingOf disc NoSlot = refuses 12
-startingOf disc NoFile = refuses 10
-startingOf disc NoId = refuses 13
+abbrev pub starting_of : List ℕ → Starting → StartOf
+starting_of disc (Starts slot i) = starts slot (entry_at disc i)
+starting_of disc NoSlot = refuses 12
+starting_of disc NoFile = refuses 10
+starting_of disc NoId = refuses 13
 
 -- an ended slot of the ten, a file of the directory, and an ID left
 pub record Startable (disc area : List ℕ) (slot i : ℕ) : Type 0 where
-  pub slot-low : slot < slotCount
-  pub ended : isLive (processAt (kernelOf area) slot) ≡ false
-  pub file-low : i < fileCount disc
-  pub left : (kernelOf area).next ≡ idLimit → ⊥
+  pub slot-low : slot < slot_count
+  pub ended : is_live (process_at (kernel_of area) slot) ≡ false
+  pub file-low : i < file_count disc
+  pub left : (kernel_of area).next ≡ id_limit → ⊥
 
 abbrev pub Inside : (disc area : List ℕ) → Starting → Type 0
 Inside disc area (Starts slot i) = Startable disc area slot i

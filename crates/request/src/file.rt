@@ -1,12 +1,12 @@
 // WRITE and the READs.
 ghost use Rattle.std.specs.Prelude.{◌≡◌, ◌++◌, ◌+◌, ◌≤◌, length, take};
-ghost use Rattle.machine.specs.Area.{kernelOf};
-ghost use Rattle.machine.specs.Beyond.{advanced, answered, fileRun, received};
-ghost use Rattle.machine.specs.Effect.{reads, readsString, writes};
+ghost use Rattle.machine.specs.Area.{kernel_of};
+ghost use Rattle.machine.specs.Beyond.{advanced, answered, file_run, received};
+ghost use Rattle.machine.specs.Effect.{reads, reads_string, writes};
 ghost use Rattle.process.specs.Stepping.{Stepping, left, own_at, stack_of};
-ghost use Rattle.request.specs.Answers.{Ahead, Lies, accessTo, after, textRead};
+ghost use Rattle.request.specs.Answers.{Ahead, Lies, access_to, after, text_read};
 ghost use Rattle.stack.specs.Steps.{about, keeping};
-ghost use Rattle.store.specs.File.{readAt};
+ghost use Rattle.store.specs.File.{read_at};
 
 use crate::Access;
 use machine::limits::STACK_SIZE;
@@ -25,7 +25,7 @@ const STACK_FULL: u8 = 4;
 
 fn access(file: OpenFile, n: usize) -> Access
     requires { n ≤ 65536 }
-    ensures { result ≡ accessTo file n }
+    ensures { result ≡ access_to file n }
 {
     if file.len == 0 {
         return Access::NoFile;
@@ -38,7 +38,7 @@ fn access(file: OpenFile, n: usize) -> Access
 
 // The bytes of the file that is open.
 fn file_run(file: OpenFile) -> Run
-    ensures { result ≡ fileRun file }
+    ensures { result ≡ file_run file }
 {
     Run {
         start: file.start,
@@ -62,7 +62,7 @@ fn advanced(file: OpenFile, n: usize) -> OpenFile
 pub fn write_file(disc: &mut [u8], area: &mut [u8], slot: usize, p: Process, d: Step)
     requires { Stepping area.old slot p d × Lies disc.old p.file }
     ensures { left disc.new area.new ≡ after disc.old area.old slot
-        (answered (kernelOf area.old) slot disc.old
+        (answered (kernel_of area.old) slot disc.old
         (writes (about d) (keeping (stack_of p) d))) }
 {
     let file = p.file;
@@ -100,9 +100,9 @@ fn push_read(
     requires { Stepping area.old slot (own_at area.old slot) d × (file ≡ (own_at area.old slot).file)
         × Ahead disc.now file n × (length tail.now ≤ 2) }
     ensures { left disc.now area.new ≡ after disc.now area.old slot
-        (received (kernelOf area.old) slot disc.now
+        (received (kernel_of area.old) slot disc.now
         (take d.kept (stack_of (own_at area.old slot))
-        ++ readAt disc.now (fileRun file) file.offset n ++ tail.now) n
+        ++ read_at disc.now (file_run file) file.offset n ++ tail.now) n
         (keeping (stack_of (own_at area.old slot)) d)) }
 {
     if STACK_SIZE < d.kept as usize + n + tail.len() {
@@ -127,7 +127,7 @@ fn push_read(
 pub fn read_number(disc: &[u8], area: &mut [u8], slot: usize, p: Process, d: Step, kind: u8)
     requires { Stepping area.old slot p d × Lies disc.now p.file }
     ensures { left disc.now area.new ≡ after disc.now area.old slot
-        (answered (kernelOf area.old) slot disc.now (reads kind (keeping (stack_of p) d))) }
+        (answered (kernel_of area.old) slot disc.now (reads kind (keeping (stack_of p) d))) }
 {
     let file = p.file;
     let n = kind as usize;
@@ -145,7 +145,7 @@ pub fn read_number(disc: &[u8], area: &mut [u8], slot: usize, p: Process, d: Ste
 fn push_text(disc: &[u8], area: &mut [u8], slot: usize, p: Process, d: Step, n: usize)
     requires { Stepping area.old slot p d × Ahead disc.now p.file n }
     ensures { left disc.now area.new ≡ after disc.now area.old slot
-        (received (kernelOf area.old) slot disc.now (textRead disc.now p d n) n
+        (received (kernel_of area.old) slot disc.now (text_read disc.now p d n) n
         (keeping (stack_of p) d)) }
 {
     if STACK_SIZE < n {
@@ -161,7 +161,7 @@ fn push_text(disc: &[u8], area: &mut [u8], slot: usize, p: Process, d: Step, n: 
 pub fn read_string(disc: &[u8], area: &mut [u8], slot: usize, p: Process, d: Step)
     requires { Stepping area.old slot p d × Lies disc.now p.file }
     ensures { left disc.now area.new ≡ after disc.now area.old slot
-        (answered (kernelOf area.old) slot disc.now (readsString (keeping (stack_of p) d))) }
+        (answered (kernel_of area.old) slot disc.now (reads_string (keeping (stack_of p) d))) }
 {
     let file = p.file;
     if file.len == 0 {

@@ -1,9 +1,9 @@
 // FORK: a child process, its ID on the stack of the one that forks.
 ghost use Rattle.std.specs.Prelude.{◌≡◌, List, ℕ, ◌+◌, ◌≤◌};
-ghost use Rattle.machine.specs.Area.{kernelOf};
+ghost use Rattle.machine.specs.Area.{kernel_of};
 ghost use Rattle.machine.specs.Beyond.{answered, forked};
 ghost use Rattle.machine.specs.Effect.{forks};
-ghost use Rattle.machine.specs.Limits.{idLimit, stackSize};
+ghost use Rattle.machine.specs.Limits.{id_limit, stack_size};
 ghost use Rattle.machine.specs.Start.{refuses, starts};
 ghost use Rattle.process.specs.Stepping.{Stepping, left, own_at, stack_of};
 ghost use Rattle.request.specs.Answers.{after};
@@ -22,9 +22,9 @@ const INT_KIND: u8 = 2;
 // Document 01: "FORK pushes INT 0 where run would refuse."
 fn push_zero(area: &mut [u8], slot: usize, file: OpenFile, d: Step)
     requires { Stepping area.old slot (own_at area.old slot) d × (file ≡ (own_at area.old slot).file)
-        × (d.kept + 3 ≤ stackSize) }
+        × (d.kept + 3 ≤ stack_size) }
     ensures { (disc : List ℕ) (n : ℕ) → left disc area.new ≡ after disc area.old slot
-        (forked (kernelOf area.old) slot disc (refuses n)
+        (forked (kernel_of area.old) slot disc (refuses n)
         (keeping (stack_of (own_at area.old slot)) d)) }
 {
     let id = [0u8, 0u8];
@@ -43,10 +43,10 @@ fn push_child(
     i: usize,
 )
     requires { Stepping area.old slot (own_at area.old slot) d × (file ≡ (own_at area.old slot).file)
-        × (d.kept + 3 ≤ stackSize) × Readable disc.now
-        × Startable disc.now area.old child i × ((kernelOf area.old).next ≤ idLimit) }
+        × (d.kept + 3 ≤ stack_size) × Readable disc.now
+        × Startable disc.now area.old child i × ((kernel_of area.old).next ≤ id_limit) }
     ensures { left disc.now area.new ≡ after disc.now area.old slot
-        (forked (kernelOf area.old) slot disc.now (starts child (entry_at disc.now i))
+        (forked (kernel_of area.old) slot disc.now (starts child (entry_at disc.now i))
         (keeping (stack_of (own_at area.old slot)) d)) }
 {
     let next = area::records::next_id(area);
@@ -57,10 +57,10 @@ fn push_child(
 }
 
 pub fn fork(disc: &[u8], area: &mut [u8], slot: usize, p: Process, d: Step)
-    requires { Stepping area.old slot p d × Readable disc.now × (d.kept + 3 ≤ stackSize)
-        × ((kernelOf area.old).next ≤ idLimit) }
+    requires { Stepping area.old slot p d × Readable disc.now × (d.kept + 3 ≤ stack_size)
+        × ((kernel_of area.old).next ≤ id_limit) }
     ensures { left disc.now area.new ≡ after disc.now area.old slot
-        (answered (kernelOf area.old) slot disc.now (forks (about d) (keeping (stack_of p) d))) }
+        (answered (kernel_of area.old) slot disc.now (forks (about d) (keeping (stack_of p) d))) }
 {
     let file = p.file;
     let bytes = d.bytes;

@@ -1,7 +1,7 @@
 // OPEN: a file that is there, or a new one.
 ghost use Rattle.std.specs.Prelude.{◌≡◌, List, ℕ};
-ghost use Rattle.machine.specs.Area.{kernelOf};
-ghost use Rattle.machine.specs.Beyond.{answered, continues, created, createdAt, newFileSize, opened};
+ghost use Rattle.machine.specs.Area.{kernel_of};
+ghost use Rattle.machine.specs.Beyond.{answered, continues, created, created_at, new_file_size, opened};
 ghost use Rattle.machine.specs.Effect.{opens};
 ghost use Rattle.process.specs.Stepping.{Stepping, left, stack_of};
 ghost use Rattle.request.specs.Answers.{after, run_from};
@@ -26,7 +26,7 @@ const FILE_REFUSED: u8 = 13;
 fn open_run(area: &mut [u8], slot: usize, p: Process, d: Step, start: u16, len: u16)
     requires { Stepping area.old slot p d }
     ensures { (disc after' : List ℕ) → left after' area.new ≡ after disc area.old slot
-        (continues (kernelOf area.old) slot disc (keeping (stack_of p) d)
+        (continues (kernel_of area.old) slot disc (keeping (stack_of p) d)
         (opened (run_from start len)) after') }
 {
     let file = OpenFile {
@@ -41,7 +41,7 @@ fn open_run(area: &mut [u8], slot: usize, p: Process, d: Step, start: u16, len: 
 fn create_file(disc: &mut [u8], area: &mut [u8], slot: usize, p: Process, d: Step, n: u16)
     requires { Stepping area.old slot p d × Readable disc.old }
     ensures { left disc.new area.new ≡ after disc.old area.old slot
-        (createdAt (kernelOf area.old) slot disc.old (admission disc.old (about d) n)
+        (created_at (kernel_of area.old) slot disc.old (admission disc.old (about d) n)
         (about d) n (keeping (stack_of p) d)) }
 {
     let bytes = d.bytes;
@@ -59,7 +59,7 @@ fn create_file(disc: &mut [u8], area: &mut [u8], slot: usize, p: Process, d: Ste
 fn open_new(disc: &mut [u8], area: &mut [u8], slot: usize, p: Process, d: Step, size: Number)
     requires { Stepping area.old slot p d × Readable disc.old }
     ensures { left disc.new area.new ≡ after disc.old area.old slot
-        (created (kernelOf area.old) slot disc.old (newFileSize disc.old size)
+        (created (kernel_of area.old) slot disc.old (new_file_size disc.old size)
         (about d) (keeping (stack_of p) d)) }
 {
     let max = store::file::size_limit(disc);
@@ -72,7 +72,7 @@ fn open_new(disc: &mut [u8], area: &mut [u8], slot: usize, p: Process, d: Step, 
 pub fn open_file(disc: &mut [u8], area: &mut [u8], slot: usize, p: Process, d: Step, size: Number)
     requires { Stepping area.old slot p d × Readable disc.old }
     ensures { left disc.new area.new ≡ after disc.old area.old slot
-        (answered (kernelOf area.old) slot disc.old
+        (answered (kernel_of area.old) slot disc.old
         (opens (about d) size (keeping (stack_of p) d))) }
 {
     let bytes = d.bytes;

@@ -1,9 +1,9 @@
 // Starting a program: what run and FORK share.
 ghost use Rattle.std.specs.Prelude.{◌≡◌, ◌<◌, length};
-ghost use Rattle.machine.specs.Area.{kernelBytes, kernelOf};
-ghost use Rattle.machine.specs.Limits.{areaLength, slotCount};
+ghost use Rattle.machine.specs.Area.{kernel_bytes, kernel_of};
+ghost use Rattle.machine.specs.Limits.{area_length, slot_count};
 ghost use Rattle.machine.specs.Start.{started, starting};
-ghost use Rattle.request.specs.Starts.{Inside, startingOf};
+ghost use Rattle.request.specs.Starts.{Inside, starting_of};
 ghost use Rattle.disc.specs.Directory.{Readable};
 
 use crate::Starting;
@@ -17,9 +17,9 @@ use process::advance::put_back;
 
 // Document 01, Run: "12 no ended slot, 10, 13 next ID is 32768. Takes the lowest ended slot"
 pub fn find_start(disc: &[u8], area: &[u8], name: &[u8]) -> Starting
-    requires { Readable disc.now × (length area.now ≡ areaLength) }
-    ensures { (startingOf disc.now result
-        ≡ starting (kernelOf area.now) disc.now name.now)
+    requires { Readable disc.now × (length area.now ≡ area_length) }
+    ensures { (starting_of disc.now result
+        ≡ starting (kernel_of area.now) disc.now name.now)
         × Inside disc.now area.now result }
 {
     match ended_slot(area) {
@@ -38,8 +38,8 @@ pub fn find_start(disc: &[u8], area: &[u8], name: &[u8]) -> Starting
 
 // The record filled, and next ID counted on.
 pub fn start(area: &mut [u8], slot: usize, e: Entry)
-    requires { (length area.old ≡ areaLength) × (slot < slotCount) × ((kernelOf area.old).next < 65535) }
-    ensures { area.new ≡ kernelBytes (started (kernelOf area.old) slot e) }
+    requires { (length area.old ≡ area_length) × (slot < slot_count) × ((kernel_of area.old).next < 65535) }
+    ensures { area.new ≡ kernel_bytes (started (kernel_of area.old) slot e) }
 {
     let next = next_id(area);
     put_back(area, slot, started_process(e, next));

@@ -4,7 +4,7 @@ use Prim.Native.Nat.{ℕ, ◌+◌, ◌-◌, ◌*◌, ◌/◌, ◌^◌, ◌<◌, 
 use native.Mathlib.Omega.{arith}
 use native.Mathlib.Nat.{lt_of_lt_of_le, mul-lt-mul_of_pos_right, mul-le-mul_left, lt_of_le_of_lt, le_of_lt}
 use lib.Pow.{pow_pos, pow-add}
-use Rattle.root.specs.Root.{wholeRoot}
+use Rattle.root.specs.Root.{whole_root}
 use Rattle.root.proofs.Squares.{square-mono, root-met}
 
 -- the product of two numbers of k bits has at most k + k
@@ -30,6 +30,6 @@ module _ (n low width : ℕ) (i : Between n low width) (more : 1 < width) {next 
       subst⁻¹ (λ (l : ℕ). Between n l (width - width / 2)) e
       (record { from = i.from; to = lt_of_lt_of_le h (square-mono (omega arith)); reach = omega (arith, i.reach); some = omega arith })
 
-pub single : (n low width : ℕ) → Between n low width → width ≤ 1 → low ≡ wholeRoot n
+pub single : (n low width : ℕ) → Between n low width → width ≤ 1 → low ≡ whole_root n
 single n low width i h =
     root-met (record { low = i.from; high = subst (λ (w : ℕ). n < (low + w) * (low + w)) (omega (arith, i.some)) i.to })

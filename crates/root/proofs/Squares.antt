@@ -1,4 +1,4 @@
--- Squares and whole roots: `wholeRoot n` is the one whole root of n. Assumes nothing.
+-- Squares and whole roots: `whole_root n` is the one whole root of n. Assumes nothing.
 use mathlib.Core.Path.{◌≡◌, subst, subst⁻¹}
 use mathlib.Core.Bool.{Bool, true, false, not, cond}
 use Prim.Native.Nat.{ℕ, zero, suc, ◌+◌, ◌*◌, ◌/◌, ◌^◌, ◌<◌, ◌≤◌}
@@ -8,7 +8,7 @@ use native.Mathlib.Nat.{div-lt_iff_lt-mul, pow-suc}
 use lib.Dec.{T, leb, leb→le, nleb→lt}
 use lib.Ieee.{size}
 use lib.Ieee.Digits.{size-lt}
-use Rattle.root.specs.Root.{IsRoot, rootDigits, wholeRoot}
+use Rattle.root.specs.Root.{IsRoot, root_digits, whole_root}
 
 pub square-mono : {a b : ℕ} → a ≤ b → a * a ≤ b * b
 square-mono h = mul-le-mul h h
@@ -26,7 +26,7 @@ root-unique {n} {r} {s} i j = le_antisymm (under (root_below (s + 1) i j.high)) 
     under : {a b : ℕ} → a < b + 1 → a ≤ b
     under h = omega arith
 
--- ---- `wholeRoot`
+-- ---- `whole_root`
 twice-square : (p : ℕ) → 2 * p * (2 * p) ≡ 4 * (p * p)
 twice-square p = mul-mul-mul_comm 2 p 2 p
 
@@ -44,23 +44,23 @@ next-digit n p i = by (leb ((2 * p + 1) * (2 * p + 1)) n) (leb→le ((2 * p + 1)
     by true y k = record { low = y tt; high = over }
     by false y k = record { low = omega (arith, twice-square p, i.low); high = k tt }
 
-digits-root : (d n : ℕ) → n < 4 ^ d → IsRoot n (rootDigits d n)
-unfolding rootDigits
+digits-root : (d n : ℕ) → n < 4 ^ d → IsRoot n (root_digits d n)
+unfolding root_digits
 digits-root zero n h = record { low = omega arith; high = omega arith }
 digits-root (suc d) n h =
-    next-digit n (rootDigits d (n / 4))
+    next-digit n (root_digits d (n / 4))
     (digits-root d (n / 4) ((div-lt_iff_lt-mul {k = 4} {x = n} {y = 4 ^ d} (omega arith)).1 (subst (λ (a : ℕ). n < a) (pow-suc 4 d) h)))
 
-pub root_is : (n : ℕ) → IsRoot n (wholeRoot n)
-unfolding wholeRoot
+pub root_is : (n : ℕ) → IsRoot n (whole_root n)
+unfolding whole_root
 root_is n = digits-root (size n) n (lt_of_lt_of_le (size-lt n) (wider (size n)))
   where
     wider : (d : ℕ) → 2 ^ d ≤ 4 ^ d
     wider zero = omega arith
     wider (suc d) = omega (arith, pow-suc 2 d, pow-suc 4 d, wider d)
 
-pub root-met : {n r : ℕ} → IsRoot n r → r ≡ wholeRoot n
+pub root-met : {n r : ℕ} → IsRoot n r → r ≡ whole_root n
 root-met {n} i = root-unique i (root_is n)
 
-pub met-root : {n r : ℕ} → r ≡ wholeRoot n → IsRoot n r
+pub met-root : {n r : ℕ} → r ≡ whole_root n → IsRoot n r
 met-root {n} e = subst⁻¹ (IsRoot n) e (root_is n)

@@ -2,11 +2,11 @@
 #![tactic(auto)]
 
 ghost use Rattle.std.specs.Prelude.{◌≡◌};
-ghost use Rattle.root.specs.Root.{wholeRoot};
+ghost use Rattle.root.specs.Root.{whole_root};
 
 // Document 01: "of a whole number it is the whole root". By bisection: the root is from low up and below low + width.
 pub fn whole_root(n: u64) -> u64
-    ensures { result ≡ wholeRoot n }
+    ensures { result ≡ whole_root n }
 {
     let mut low: u64 = 0;
     let mut width: u64 = 0x1_0000_0000;

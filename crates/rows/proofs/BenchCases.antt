@@ -5,55 +5,57 @@ use lib.Ieee.{of_bits, of_fields}
 use lib.IntN.{one, pow}
 use Rattle.buffer.specs.Scattered.{gathered, scattered}
 use Rattle.buffer.specs.Lists.{all, any, flat, index, keep, pairs, same, tab}
-use Rattle.decimal.specs.Decimal.{lastDigits}
-use Rattle.float.specs.Print.{printedOf}
+use Rattle.decimal.specs.Decimal.{last_digits}
+use Rattle.float.specs.Print.{printed_of}
 use Rattle.float.specs.Whole.{whole_of}
 use Rattle.integer.specs.Modular.{wrapped}
 use Rattle.operator.specs.Arithmetic.{whole}
-use Rattle.operator.specs.Binary.{binary, ordered, wholeBits}
-use Rattle.operator.specs.Conversion.{convertedFloat}
-use Rattle.operator.specs.Instruction.{lookup as lookupOperator, operatorOf, includes}
+use Rattle.operator.specs.Binary.{binary, ordered, whole_bits}
+use Rattle.operator.specs.Conversion.{converted_float}
+use Rattle.operator.specs.Instruction.{lookup as lookup_operator, operator_of, includes}
 use Rattle.scaling.specs.Constrain.{constrained}
-use Rattle.scaling.specs.Map.{mapExact, mapped}
+use Rattle.scaling.specs.Map.{map_exact, mapped}
 use Rattle.scaling.specs.Power.{power}
 use Rattle.number.specs.Text.{text_of}
 use Rattle.operator.specs.Unary.{unary}
 use Rattle.number.specs.Value.{number_of}
-use Rattle.place.specs.Place.{apart, begins, fits, freeFrom, greatest, least, place}
-use Rattle.disc.specs.Directory.{beside, contents, entry_at, fileCount, goodDisc, goodEntry, goodFiles, isDiscLength, lookup, location}
-use Rattle.disc.specs.Name.{goodField, goodName, trimmed}
-use Rattle.store.specs.Answer.{checked, storeAnswer}
-use Rattle.store.specs.File.{admission, entered, erased, place_of, roomOn, sizeLimit, writtenAt}
-use Rattle.variable.specs.Assign.{assignedCells, added, assigned, placeFor, placing}
-use Rattle.variable.specs.Bytes.{variablesOf}
-use Rattle.variable.specs.Good.{goodVariables}
+use Rattle.place.specs.Place.{apart, begins, fits, free_from, greatest, least, place}
+use Rattle.disc.specs.Directory.{beside, contents, entry_at, file_count, good_disc, good_entry, good_files, is_disc_length, lookup}
+use Rattle.disc.specs.Directory.{location}
+use Rattle.disc.specs.Name.{good_field, good_name, trimmed}
+use Rattle.store.specs.Answer.{checked, store_answer}
+use Rattle.store.specs.File.{admission, entered, erased, place_of, room_on, size_limit, written_at}
+use Rattle.variable.specs.Assign.{assigned_cells, added, assigned, place_for, placing}
+use Rattle.variable.specs.Bytes.{variables_of}
+use Rattle.variable.specs.Good.{good_variables}
 use Rattle.variable.specs.Table.{freed, owned}
-use Rattle.machine.specs.Answer.{answer, formatAnswer, goodArea, otherAnswer}
-use Rattle.machine.specs.Area.{kernelOf}
+use Rattle.machine.specs.Answer.{answer, format_answer, good_area, other_answer}
+use Rattle.machine.specs.Area.{kernel_of}
 use Rattle.machine.specs.Effect.{operates, settle}
 use Rattle.machine.specs.Exec.{exec}
-use Rattle.machine.specs.GoodArea.{goodHeader, goodKernel, goodProcess, otherId}
-use Rattle.machine.specs.Instruction.{instructionOf}
-use Rattle.machine.specs.Operations.{inUse}
+use Rattle.machine.specs.GoodArea.{good_header, good_kernel, good_process, other_id}
+use Rattle.machine.specs.Instruction.{instruction_of}
+use Rattle.machine.specs.Operations.{in_use}
 use Rattle.machine.specs.Single.{single}
-use Rattle.machine.specs.Stack.{pop, wellFormed}
+use Rattle.machine.specs.Stack.{pop, well_formed}
 use Rattle.machine.specs.Ended.{ended}
 use Rattle.machine.specs.Turn.{turned}
 use Rattle.rows.specs.Bench.{Every, RowHolds, after, turns}
 use Rattle.rows.specs.Cases.{Bench, Delays, Misreadings, Scalings, cases, delays, misreadings, scalings, waits}
 
 rows-hold : Every RowHolds cases × Every RowHolds misreadings × Every RowHolds waits × Every RowHolds delays × Every RowHolds scalings
-unfolding contents gathered location scattered sizeLimit roomOn fileCount turns after single exec instructionOf operatorOf lookupOperator
-    includes operates settle pop wellFormed trimmed same unary binary
-    constrained ordered mapped mapExact power pow one
-    whole wrapped wholeBits convertedFloat number_of text_of printedOf whole_of lastDigits of_bits of_fields count_trailing_zeros answer
-    otherAnswer
-    formatAnswer
-    storeAnswer checked isDiscLength lookup index entry_at tab flat goodDisc goodFiles goodEntry goodField goodName beside all pairs
-    apart begins fits freeFrom greatest least place place_of admission entered erased writtenAt goodArea goodKernel goodHeader
-    goodProcess otherId
-    goodVariables kernelOf variablesOf inUse any
-    keep ended turned owned freed assigned placeFor placing added assignedCells
+unfolding contents gathered location scattered size_limit room_on file_count turns after single exec instruction_of operator_of
+    lookup_operator
+    includes operates settle pop well_formed trimmed same unary binary
+    constrained ordered mapped map_exact power pow one
+    whole wrapped whole_bits converted_float number_of text_of printed_of whole_of last_digits of_bits of_fields count_trailing_zeros answer
+    other_answer
+    format_answer
+    store_answer checked is_disc_length lookup index entry_at tab flat good_disc good_files good_entry good_field good_name beside all pairs
+    apart begins fits free_from greatest least place place_of admission entered erased written_at good_area good_kernel good_header
+    good_process other_id
+    good_variables kernel_of variables_of in_use any
+    keep ended turned owned freed assigned place_for placing added assigned_cells
 rows-hold = (
   (
     (refl, refl),

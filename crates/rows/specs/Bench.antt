@@ -4,15 +4,15 @@ use Rattle.std.specs.Prelude.{ℕ, ◌≡◌, cond, List, [], ◌∷◌, ◌++�
 use Rattle.buffer.specs.declared.Found.{Found}
 use Rattle.buffer.specs.declared.Found.TheVariants.{At, Nowhere}
 use Rattle.disc.specs.Directory.{entry_at, lookup}
-use Rattle.disc.specs.Layout.{dataStart, longDisc, shortDisc}
+use Rattle.disc.specs.Layout.{data_start, long_disc, short_disc}
 use Rattle.disc.specs.Name.{padded}
 use Rattle.disc.specs.declared.Entry.{Entry}
-use Rattle.machine.specs.Answer.{Answer, Buffers, Call, other, store, answer, booted, formatAnswer}
-use Rattle.machine.specs.Area.{kernelOf}
-use Rattle.machine.specs.Limits.{areaLength}
-use Rattle.machine.specs.Single.{Single, Response, refusedBy, did, fresh, single, tick}
+use Rattle.machine.specs.Answer.{Answer, Buffers, Call, other, store, answer, booted, format_answer}
+use Rattle.machine.specs.Area.{kernel_of}
+use Rattle.machine.specs.Limits.{area_length}
+use Rattle.machine.specs.Single.{Single, Response, refused_by, did, fresh, single, tick}
 use Rattle.machine.specs.Start.{started}
-use Rattle.machine.specs.State.{isRunning, localOf, processAt}
+use Rattle.machine.specs.State.{is_running, local_of, process_at}
 use Rattle.machine.specs.Turn.{Turned, turned}
 use Rattle.machine.specs.declared.Process.{Process}
 
@@ -27,13 +27,13 @@ module _ {S : Type 0} where
   behind text (reached more s) = reached (text ++ more) s
   behind text stopped = stopped
 
-  abbrev pub oneMore : (S → Progress S) → Progress S → Progress S
-  oneMore step (reached text s) = behind text (step s)
-  oneMore step stopped = stopped
+  abbrev pub one_more : (S → Progress S) → Progress S → Progress S
+  one_more step (reached text s) = behind text (step s)
+  one_more step stopped = stopped
 
   unfoldable pub turns : (ℕ → S → Progress S) → Progress S → List ℕ → Progress S
   turns step p [] = p
-  turns step p (clock ∷ clocks) = turns step (oneMore (step clock) p) clocks
+  turns step p (clock ∷ clocks) = turns step (one_more (step clock) p) clocks
 
 -- what is seen then: the stack, bottom first, the fault and what was printed
 pub data Result : Type 0 where
@@ -42,49 +42,50 @@ pub data Result : Type 0 where
 
 -- ---- of the single process
 abbrev pub responded : Response → Progress Single
-responded (refusedBy n) = stopped
+responded (refused_by n) = stopped
 responded (did text s) = reached text s
 
-abbrev pub seenAlone : Progress Single → Result
-seenAlone (reached text s) = shows s.loc.stack s.fault text
-seenAlone stopped = refused
+abbrev pub seen_alone : Progress Single → Result
+seen_alone (reached text s) = shows s.loc.stack s.fault text
+seen_alone stopped = refused
 
 abbrev pub alone : List ℕ → List ℕ → Result
 alone program clocks =
-    seenAlone (turns (λ clock s. responded (single program s (tick clock))) (reached [] fresh) clocks)
+    seen_alone (turns (λ clock s. responded (single program s (tick clock))) (reached [] fresh) clocks)
 
 -- ---- of the kernel: started in slot 0, on a list of as many zeros as stand before the data and then the program. It
 -- is no good disc; `turned` reads only the program's part of it.
 abbrev pub loaded : List ℕ → Turned
 loaded program =
-    let file : Entry = record { name = padded (110 ∷ []); start = dataStart; len = length program } in
-    record { kernel = started (kernelOf booted) 0 file; disc = replicate dataStart 0 ++ program; out = [] }
+    let file : Entry = record { name = padded (110 ∷ []); start = data_start; len = length program } in
+    record { kernel = started (kernel_of booted) 0 file; disc = replicate data_start 0 ++ program; out = [] }
 
-abbrev pub turnOfFirst : ℕ → Turned → Progress Turned
-turnOfFirst clock t = let u = turned t.kernel 0 clock t.disc in
-    cond (isRunning (processAt t.kernel 0)) (reached u.out u) stopped
+abbrev pub turn_of_first : ℕ → Turned → Progress Turned
+turn_of_first clock t = let u = turned t.kernel 0 clock t.disc in
+    cond (is_running (process_at t.kernel 0)) (reached u.out u) stopped
 
 abbrev pub shown : Process → List ℕ → Result
-shown p text = shows (localOf p).stack p.fault text
+shown p text = shows (local_of p).stack p.fault text
 
-abbrev pub seenInKernel : Progress Turned → Result
-seenInKernel (reached text t) = shown (processAt t.kernel 0) text
-seenInKernel stopped = refused
+abbrev pub seen_in_kernel : Progress Turned → Result
+seen_in_kernel (reached text t) = shown (process_at t.kernel 0) text
+seen_in_kernel stopped = refused
 
-abbrev pub inKernel : List ℕ → List ℕ → Result
-inKernel program clocks = seenInKernel (turns turnOfFirst (reached [] (loaded program)) clocks)
+abbrev pub in_kernel : List ℕ → List ℕ → Result
+in_kernel program clocks = seen_in_kernel (turns turn_of_first (reached [] (loaded program)) clocks)
 
 -- ---- calls one after another
-abbrev pub buffersOf : Answer → Buffers
-buffersOf a = record { disc = a.disc; area = a.area; out = a.out }
+abbrev pub buffers_of : Answer → Buffers
+buffers_of a = record { disc = a.disc; area = a.area; out = a.out }
 
 unfoldable pub after : List Call → Buffers → Buffers
 after [] b = b
-after (c ∷ cs) b = after cs (buffersOf (answer c b))
+after (c ∷ cs) b = after cs (buffers_of (answer c b))
 
 -- from a disc of that length
 abbrev pub formatted : ℕ → Buffers
-formatted disc = buffersOf (formatAnswer (record { disc = replicate disc 0; area = replicate areaLength 0; out = [] }))
+formatted disc = buffers_of
+    (format_answer (record { disc = replicate disc 0; area = replicate area_length 0; out = [] }))
 
 -- n bytes under a name of one letter
 abbrev pub storing : ℕ → ℕ → Call
@@ -100,27 +101,27 @@ abbrev pub start_of : List ℕ → ℕ → Found
 start_of disc letter = start_at disc (lookup disc (letter ∷ []))
 
 -- on a disc of that length n bytes stored after these calls go to that start
-abbrev pub goesTo : (disc : ℕ) → List Call → (n start : ℕ) → Type 0
-goesTo disc calls n start = start_of (after (storing 110 n ∷ []) (after calls (formatted disc))).disc 110 ≡ At start
+abbrev pub goes_to : (disc : ℕ) → List Call → (n start : ℕ) → Type 0
+goes_to disc calls n start = start_of (after (storing 110 n ∷ []) (after calls (formatted disc))).disc 110 ≡ At start
 
 -- ---- a row, and when it holds
 pub data Row : Type 0 where
   -- a program, the clock of each turn, and what is seen after them
-  runsAt : (program clocks : List ℕ) → Result → Row
+  runs_at : (program clocks : List ℕ) → Result → Row
   -- n turns of the kernel alone: to the single process "fault 10 never comes"
-  runsInKernel : (program : List ℕ) (n : ℕ) → Result → Row
+  runs_in_kernel : (program : List ℕ) (n : ℕ) → Result → Row
   -- calls on formatted buffers, once with a short disc and once with a long one; n bytes stored after them go to that
   -- start
   stores : (calls : List Call) (n start : ℕ) → Row
 
 -- n turns of a program that does not look at the clock
 abbrev pub runs : List ℕ → ℕ → Result → Row
-runs program n seen = runsAt program (replicate n 0) seen
+runs program n seen = runs_at program (replicate n 0) seen
 
 abbrev pub RowHolds : Row → Type 0
-RowHolds (runsAt program clocks seen) = (alone program clocks ≡ seen) × (inKernel program clocks ≡ seen)
-RowHolds (runsInKernel program n seen) = inKernel program (replicate n 0) ≡ seen
-RowHolds (stores calls n start) = goesTo shortDisc calls n start × goesTo longDisc calls n start
+RowHolds (runs_at program clocks seen) = (alone program clocks ≡ seen) × (in_kernel program clocks ≡ seen)
+RowHolds (runs_in_kernel program n seen) = in_kernel program (replicate n 0) ≡ seen
+RowHolds (stores calls n start) = goes_to short_disc calls n start × goes_to long_disc calls n start
 
 abbrev pub Every : {R : Type 0} → (R → Type 0) → List R → Type 0
 Every holds [] = Unit

@@ -3,7 +3,7 @@
 use Rattle.std.specs.Prelude.{ℕ, List, [], ◌∷◌, ◌++◌, replicate}
 use Rattle.buffer.specs.Lists.{flat, tab}
 use Rattle.machine.specs.Answer.{Call, other, erase}
-use Rattle.rows.specs.Bench.{Every, Row, RowHolds, runs, runsAt, runsInKernel, shows, stores, storing}
+use Rattle.rows.specs.Bench.{Every, Row, RowHolds, runs, runs_at, runs_in_kernel, shows, stores, storing}
 
 abbrev pub letters : ℕ → List ℕ
 letters n = replicate n 97
@@ -64,7 +64,7 @@ misreadings =
     -- "Testing for a full variable table before freeing the old value (6.8)": one of 25 is set again; "a 26th variable
     -- gives fault 10"
     runs (assignments 25 ++ (1 ∷ 9 ∷ 5 ∷ 0 ∷ 6 ∷ 0 ∷ [])) 53 (shows (9 ∷ 1 ∷ []) 0 []) ∷
-    runsInKernel (assignments 26) 52 (shows [] 10 []) ∷
+    runs_in_kernel (assignments 26) 52 (shows [] 10 []) ∷
     -- "A jump measured from the instruction byte and not past its arguments": IF 2 on zero skips CHAR 9 and leaves what
     -- it looks at; ELSE 2 on a value not zero likewise
     runs (1 ∷ 0 ∷ 60 ∷ 2 ∷ 1 ∷ 9 ∷ 1 ∷ 7 ∷ []) 3 (shows (0 ∷ 1 ∷ 7 ∷ 1 ∷ []) 0 []) ∷
@@ -75,12 +75,12 @@ misreadings =
 -- a number, DELAYUNTIL and CHAR 7; three turns at one clock reading leave the number where DELAYUNTIL stays, and 7
 -- where it goes on
 abbrev pub delay : List ℕ → ℕ → List ℕ → Row
-delay number clock stack = runsAt (number ++ (44 ∷ 1 ∷ 7 ∷ [])) (replicate 3 clock) (shows stack 0 [])
+delay number clock stack = runs_at (number ++ (44 ∷ 1 ∷ 7 ∷ [])) (replicate 3 clock) (shows stack 0 [])
 
 -- MILLIS, INT 500, PLUS, DELAYUNTIL, CHAR 7: three turns at 32,700, as the request has it, the others at these clocks
 abbrev pub wait : List ℕ → List ℕ → Row
 wait clocks stack =
-    runsAt (45 ∷ 2 ∷ 1 ∷ 244 ∷ 9 ∷ 44 ∷ 1 ∷ 7 ∷ []) (replicate 3 32700 ++ clocks) (shows stack 0 [])
+    runs_at (45 ∷ 2 ∷ 1 ∷ 244 ∷ 9 ∷ 44 ∷ 1 ∷ 7 ∷ []) (replicate 3 32700 ++ clocks) (shows stack 0 [])
 
 -- Document 02, Q-4: "reads the clock at 32,700 and adds 500 gets −32,336". It stays, last at 33,199, and goes on first
 -- at 33,200.

@@ -1,12 +1,12 @@
 -- Rows of rounds: programs in the lowest slots, the share of each, and what rounds then print and leave.
 use Rattle.std.specs.Prelude.{ℕ, zero, suc, ◌-◌, ◌≡◌, List, [], ◌∷◌, ◌++◌, map, length, replicate, take}
 use Rattle.buffer.specs.Lists.{flat}
-use Rattle.disc.specs.Layout.{dataStart}
+use Rattle.disc.specs.Layout.{data_start}
 use Rattle.disc.specs.Name.{padded}
 use Rattle.disc.specs.declared.Entry.{Entry}
 use Rattle.machine.specs.Answer.{booted}
-use Rattle.machine.specs.Area.{kernelOf}
-use Rattle.machine.specs.Operations.{Commanded, becomes, refused, roundOf, shared}
+use Rattle.machine.specs.Area.{kernel_of}
+use Rattle.machine.specs.Operations.{Commanded, becomes, refused, round_of, shared}
 use Rattle.machine.specs.Start.{started}
 use Rattle.machine.specs.State.{running}
 use Rattle.machine.specs.Turn.{Turned}
@@ -24,9 +24,9 @@ abbrev pub sharer : List ℕ → ℕ → Sharer
 sharer program share = record { program = program; share = share }
 
 -- what share leaves: a refused one changes nothing
-abbrev pub orAsItWas : Commanded → Kernel → Kernel
-orAsItWas (becomes j) k = j
-orAsItWas (refused n) k = k
+abbrev pub or_as_it_was : Commanded → Kernel → Kernel
+or_as_it_was (becomes j) k = j
+or_as_it_was (refused n) k = k
 
 -- each is started in the next slot, its program behind the one before. The list is no good disc; a turn reads only the
 -- program's part of it.
@@ -36,15 +36,15 @@ loading (x ∷ xs) t =
     let id = t.kernel.next in
     let file : Entry = record { name = padded (110 ∷ []); start = length t.disc; len = length x.program } in
     let k = started t.kernel (id - 1) file in
-    loading xs (record { kernel = orAsItWas (shared id x.share k) k; disc = t.disc ++ x.program; out = t.out })
+    loading xs (record { kernel = or_as_it_was (shared id x.share k) k; disc = t.disc ++ x.program; out = t.out })
 
-abbrev pub startedAll : List Sharer → Turned
-startedAll l = loading l (record { kernel = kernelOf booted; disc = replicate dataStart 0; out = [] })
+abbrev pub started_all : List Sharer → Turned
+started_all l = loading l (record { kernel = kernel_of booted; disc = replicate data_start 0; out = [] })
 
 unfoldable pub rounds : ℕ → Turned → Turned
 rounds zero t = t
 rounds (suc n) t =
-    let u = roundOf t.kernel 0 t.disc in
+    let u = round_of t.kernel 0 t.disc in
     rounds n (record { kernel = u.kernel; disc = u.disc; out = t.out ++ u.out })
 
 -- what is looked at of a slot
@@ -53,8 +53,8 @@ pub record SlotSeen : Type 0 where
   pub share : ℕ
   pub fault : ℕ
 
-abbrev pub slotSeen : Process → SlotSeen
-slotSeen p = record { state = p.state; share = p.share; fault = p.fault }
+abbrev pub slot_seen : Process → SlotSeen
+slot_seen p = record { state = p.state; share = p.share; fault = p.fault }
 
 -- running with that share, or ended by that fault
 abbrev pub live : ℕ → SlotSeen
@@ -75,16 +75,16 @@ row sharers count text seen = record { sharers = sharers; count = count; text = 
 
 abbrev pub ShareRowHolds : ShareRow → Type 0
 ShareRowHolds r =
-    let t = rounds r.count (startedAll r.sharers) in
-    (t.out ≡ r.text) × (map slotSeen (take (length r.sharers) t.kernel.processes) ≡ r.seen)
+    let t = rounds r.count (started_all r.sharers) in
+    (t.out ≡ r.text) × (map slot_seen (take (length r.sharers) t.kernel.processes) ≡ r.seen)
 
 -- CHAR and PRINT of each of these letters, a turn each
 abbrev pub printing : List ℕ → List ℕ
 printing letters = flat (λ c. 1 ∷ c ∷ 51 ∷ []) letters
 
 -- Document 02, Q-9
-abbrev pub shareRows : List ShareRow
-shareRows =
+abbrev pub share_rows : List ShareRow
+share_rows =
     -- "that many turns in a row", "with zero as one": in each round four turns of the first, then one of the second
     row (sharer (printing (97 ∷ 98 ∷ 99 ∷ 100 ∷ [])) 4 ∷ sharer (printing (120 ∷ [])) 0 ∷ []) 2
     (97 ∷ 98 ∷ 99 ∷ 100 ∷ 120 ∷ []) (live 4 ∷ live 0 ∷ []) ∷
@@ -100,4 +100,4 @@ shareRows =
 
 -- every row holds of the definitions
 unfoldable pub Shares : Type 0
-Shares = Every ShareRowHolds shareRows
+Shares = Every ShareRowHolds share_rows

@@ -5,7 +5,7 @@ pub mod bench;
 pub mod instructions;
 
 ghost use Rattle.std.specs.Prelude.{◌<◌};
-ghost use Rattle.machine.specs.Limits.{slotCount};
+ghost use Rattle.machine.specs.Limits.{slot_count};
 
 use machine::limits::{AREA_LENGTH, RECORD_SIZE, RECORDS_AT, ROUND_ROOM, SLOT_COUNT};
 use std::io;
@@ -62,7 +62,7 @@ pub fn rounds(
 
 // Whether the process of a slot lives, and if not, by which fault it ended. Nothing for a slot that has had none.
 fn print_slot(rt: &impl Print, area: &[u8; AREA_LENGTH], slot: usize) -> io::Result<()>
-    requires { slot < slotCount }
+    requires { slot < slot_count }
 {
     let at = RECORDS_AT + slot * RECORD_SIZE;
     if buffer::bytes::word_at(area, at + ID_AT) == 0 {

@@ -12,7 +12,7 @@ use Rattle.number.specs.declared.Number.TheVariants.{Int}
 use Rattle.operator.specs.Binary.{extremum, ordered}
 use Rattle.operator.specs.declared.operators.Extremum.TheVariants.{Min}
 use Rattle.scaling.specs.Constrain.{constrained}
-use Rattle.scaling.specs.Map.{exact, mapExact}
+use Rattle.scaling.specs.Map.{exact, map_exact}
 
 -- ---- MAP
 negative_by_positive : (k b : ℕ) → quot_z (neg_ℤ (pos k)) (pos b) ≡ neg_ℤ (pos (k / b))
@@ -41,8 +41,8 @@ quotient-of-zero (negsuc b) = ap (λ (n : ℕ). neg_ℤ (pos n)) (zero-div (suc 
 no_difference : (b : ℤ) → b -ℤ b ≡ pos 0
 no_difference b = ap (λ (z : ℤ). z -ℤ b) (sym (+ℤ_idl b)) ∙ +ℤ-neg_ℤ_cancel (pos 0) b
 
-pub ends : (b c d e : ℤ) → (c -ℤ b ≡ pos 0 → ⊥) → (mapExact b b c d e ≡ d) × (mapExact c b c d e ≡ e)
-unfolding mapExact
+pub ends : (b c d e : ℤ) → (c -ℤ b ≡ pos 0 → ⊥) → (map_exact b b c d e ≡ d) × (map_exact c b c d e ≡ e)
+unfolding map_exact
 ends b c d e h = (
   ap (λ (z : ℤ). quot_z z (c -ℤ b) +ℤ d) (ap (λ (z : ℤ). z *ℤ (e -ℤ d)) (no_difference b) ∙ zero-*ℤ (e -ℤ d))
       ∙ ap (λ (q : ℤ). q +ℤ d) (quotient-of-zero (c -ℤ b)) ∙ +ℤ_idl d,

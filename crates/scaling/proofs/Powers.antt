@@ -15,27 +15,27 @@ use Rattle.integer.specs.Modular.{wrapped}
 use Rattle.integer.proofs.Modular.{reads-wrapped}
 use Rattle.integer.proofs.Reduction.{wrapped-factor, wrapped-narrow}
 use Rattle.integer.proofs.Representation.{true-not-false, widened}
-use Rattle.scaling.specs.Power.{maxExponent, powerReal, wholeExponent}
+use Rattle.scaling.specs.Power.{max_exponent, power_real, whole_exponent}
 use Rattle.scaling.specs.declared.power.Exponent.TheVariants.{Is, Refused}
 
 -- ---- the exponent
-negative : (z : ℤ) → lt_z z (pos 0) ≡ true → Refused ≡ wholeExponent z
+negative : (z : ℤ) → lt_z z (pos 0) ≡ true → Refused ≡ whole_exponent z
 negative (pos n) h = absurd (below (ltb-true n 0 h))
   where
     below : suc n ≤ 0 → ⊥
     below k = omega arith
 negative (negsuc n) h = refl
 
-too_large : (z : ℤ) → lt_z z (pos 0) ≡ false → le_z z (pos maxExponent) ≡ false → Refused ≡ wholeExponent z
+too_large : (z : ℤ) → lt_z z (pos 0) ≡ false → le_z z (pos max_exponent) ≡ false → Refused ≡ whole_exponent z
 too_large (pos n) h k = ap (λ (b : Bool). cond b (Is n) Refused) (sym k)
 too_large (negsuc n) h k = true-not-false refl h
 
-taken : (z : ℤ) → lt_z z (pos 0) ≡ false → le_z z (pos maxExponent) ≡ true → Is (nat_abs z) ≡ wholeExponent z
+taken : (z : ℤ) → lt_z z (pos 0) ≡ false → le_z z (pos max_exponent) ≡ true → Is (nat_abs z) ≡ whole_exponent z
 taken (pos n) h k = ap (λ (b : Bool). cond b (Is n) Refused) (sym k)
 taken (negsuc n) h k = true-not-false refl h
 
-small : (z : ℤ) → lt_z z (pos 0) ≡ false → le_z z (pos maxExponent) ≡ true → T (non_neg z) × Fits w8 (nat_abs z)
-small (pos n) h k = (tt, record { fits = omega (arith, leb-true n maxExponent k) })
+small : (z : ℤ) → lt_z z (pos 0) ≡ false → le_z z (pos max_exponent) ≡ true → T (non_neg z) × Fits w8 (nat_abs z)
+small (pos n) h k = (tt, record { fits = omega (arith, leb-true n max_exponent k) })
 small (negsuc n) h k = true-not-false refl h
 
 -- the same of z as the machine reads it
@@ -43,16 +43,16 @@ module _ (z : ℤ) (f : SFits w16 z) where
   abbrev reading : ℤ
   reading = to_z w16 (of_z w16 z)
 
-  pub exponent-negative : lt_z reading (pos 0) ≡ true → Refused ≡ wholeExponent z
-  exponent-negative h = negative reading h ∙ ap wholeExponent (to_z-of_z f)
+  pub exponent-negative : lt_z reading (pos 0) ≡ true → Refused ≡ whole_exponent z
+  exponent-negative h = negative reading h ∙ ap whole_exponent (to_z-of_z f)
 
   module _ (h : lt_z reading (pos 0) ≡ false) where
-    pub exponent-too-large : le_z reading (pos maxExponent) ≡ false → Refused ≡ wholeExponent z
-    exponent-too-large k = too_large reading h k ∙ ap wholeExponent (to_z-of_z f)
+    pub exponent-too-large : le_z reading (pos max_exponent) ≡ false → Refused ≡ whole_exponent z
+    exponent-too-large k = too_large reading h k ∙ ap whole_exponent (to_z-of_z f)
 
-    module _ (k : le_z reading (pos maxExponent) ≡ true) where
-      pub exponent-taken : Is (nat_abs reading) ≡ wholeExponent z
-      exponent-taken = taken reading h k ∙ ap wholeExponent (to_z-of_z f)
+    module _ (k : le_z reading (pos max_exponent) ≡ true) where
+      pub exponent-taken : Is (nat_abs reading) ≡ whole_exponent z
+      exponent-taken = taken reading h k ∙ ap whole_exponent (to_z-of_z f)
 
       pub exponent-casts : T (non_neg reading) × Fits w8 (nat_abs reading)
       exponent-casts = small reading h k
@@ -69,13 +69,13 @@ wrapped-next w x i {p} e given =
     (given ∙ ap (λ (y : ℤ). wrapped w (y *ℤ x)) e ∙ wrapped-factor w (pow x i) x
     ∙ ap (λ (n : ℕ). wrapped w (pow x n)) (sym (next i)))
 
-pub real-next : (x : Binary32) (i : ℕ) {p : Binary32} → p ≡ powerReal x i → mul binary32 p x ≡ powerReal x (i + 1)
-unfolding powerReal
-real-next x i e = ap (λ (y : Binary32). mul binary32 y x) e ∙ ap (powerReal x) (sym (next i))
+pub real-next : (x : Binary32) (i : ℕ) {p : Binary32} → p ≡ power_real x i → mul binary32 p x ≡ power_real x (i + 1)
+unfolding power_real
+real-next x i e = ap (λ (y : Binary32). mul binary32 y x) e ∙ ap (power_real x) (sym (next i))
 
 -- the literal that the code starts at
-pub one : (x : Binary32) → of_bits binary32 1065353216 ≡ powerReal x 0
-unfolding powerReal of_bits of_int
+pub one : (x : Binary32) → of_bits binary32 1065353216 ≡ power_real x 0
+unfolding power_real of_bits of_int
 one x = refl
 
 -- ---- at each type: the power modulo 65,536 read as an INT, and reduced to a CHAR

@@ -37,22 +37,22 @@ real (Float x) = x
 
 -- Document 02, Q-3: "MAP of a, b, c, d, e is (a − b) × (e − d) / (c − b) + d: on whole numbers exact, the quotient cut
 -- toward zero".
-unfoldable pub mapExact : ℤ → ℤ → ℤ → ℤ → ℤ → ℤ
-mapExact a b c d e = quot_z ((a -ℤ b) *ℤ (e -ℤ d)) (c -ℤ b) +ℤ d
+unfoldable pub map_exact : ℤ → ℤ → ℤ → ℤ → ℤ → ℤ
+map_exact a b c d e = quot_z ((a -ℤ b) *ℤ (e -ℤ d)) (c -ℤ b) +ℤ d
 
 -- "the result reduced to the widest type; there equal b and c give fault 7." The type is k, of the width w.
-abbrev pub mapWhole : Width → (ℤ → Number) → ℤ → ℤ → ℤ → ℤ → ℤ → Outcome
-mapWhole w k a b c d e = divisible (c -ℤ b) (Value (k (wrapped w (mapExact a b c d e))))
+abbrev pub map_whole : Width → (ℤ → Number) → ℤ → ℤ → ℤ → ℤ → ℤ → Outcome
+map_whole w k a b c d e = divisible (c -ℤ b) (Value (k (wrapped w (map_exact a b c d e))))
 
 -- "With a FLOAT all five become FLOAT and each operation rounds once, as written."
-unfoldable pub mapReal : Binary32 → Binary32 → Binary32 → Binary32 → Binary32 → Binary32
-mapReal a b c d e =
+unfoldable pub map_real : Binary32 → Binary32 → Binary32 → Binary32 → Binary32 → Binary32
+map_real a b c d e =
     add binary32 (div binary32 (mul binary32 (sub binary32 a b) (sub binary32 e d)) (sub binary32 c b)) d
 
-abbrev pub mappedAs : Kind → Number → Number → Number → Number → Number → Outcome
-mappedAs Chars a b c d e = mapWhole w8 Char (exact a) (exact b) (exact c) (exact d) (exact e)
-mappedAs Ints a b c d e = mapWhole w16 Int (exact a) (exact b) (exact c) (exact d) (exact e)
-mappedAs Floats a b c d e = Value (Float (mapReal (real a) (real b) (real c) (real d) (real e)))
+abbrev pub mapped_as : Kind → Number → Number → Number → Number → Number → Outcome
+mapped_as Chars a b c d e = map_whole w8 Char (exact a) (exact b) (exact c) (exact d) (exact e)
+mapped_as Ints a b c d e = map_whole w16 Int (exact a) (exact b) (exact c) (exact d) (exact e)
+mapped_as Floats a b c d e = Value (Float (map_real (real a) (real b) (real c) (real d) (real e)))
 
 unfoldable pub mapped : Number → Number → Number → Number → Number → Outcome
-mapped a b c d e = mappedAs (widest a b c d e) a b c d e
+mapped a b c d e = mapped_as (widest a b c d e) a b c d e

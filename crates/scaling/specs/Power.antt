@@ -16,34 +16,34 @@ use Rattle.scaling.specs.declared.power.Exponent.{Exponent}
 use Rattle.scaling.specs.declared.power.Exponent.TheVariants.{Is, Refused}
 
 -- Document 02, Q-3: "POW takes a whole y from 0 to 15, else fault 8".
-abbrev pub maxExponent : ℕ
-maxExponent = 15
+abbrev pub max_exponent : ℕ
+max_exponent = 15
 
-abbrev pub wholeExponent : ℤ → Exponent
-wholeExponent (pos n) = cond (leb n maxExponent) (Is n) Refused
-wholeExponent (negsuc n) = Refused
+abbrev pub whole_exponent : ℤ → Exponent
+whole_exponent (pos n) = cond (leb n max_exponent) (Is n) Refused
+whole_exponent (negsuc n) = Refused
 
 -- "a FLOAT y is fault 6": the pop refuses it, so a FLOAT is never asked here.
 abbrev pub exponent : Number → Exponent
-exponent (Char y) = wholeExponent y
-exponent (Int y) = wholeExponent y
+exponent (Char y) = whole_exponent y
+exponent (Int y) = whole_exponent y
 exponent (Float y) = Refused
 
 -- "multiplying from the left starting at 1": of whole numbers the library's power; of FLOATs one rounding for each
 -- product
-unfoldable pub powerReal : Binary32 → ℕ → Binary32
-powerReal x zero = of_int binary32 (pos 1)
-powerReal x (suc n) = mul binary32 (powerReal x n) x
+unfoldable pub power_real : Binary32 → ℕ → Binary32
+power_real x zero = of_int binary32 (pos 1)
+power_real x (suc n) = mul binary32 (power_real x n) x
 
 -- "in the wider operand's type": the pair is both operands at it
 abbrev pub raised : Pair → ℕ → Number
 raised (Chars x y) n = Char (wrapped w8 (pow x n))
 raised (Ints x y) n = Int (wrapped w16 (pow x n))
-raised (Floats x y) n = Float (powerReal x n)
+raised (Floats x y) n = Float (power_real x n)
 
-abbrev pub raisedBy : Pair → Exponent → Outcome
-raisedBy pair (Is n) = Value (raised pair n)
-raisedBy pair Refused = OutOfRange
+abbrev pub raised_by : Pair → Exponent → Outcome
+raised_by pair (Is n) = Value (raised pair n)
+raised_by pair Refused = OutOfRange
 
 unfoldable pub power : Number → Number → Outcome
-power x y = raisedBy (promoted x y) (exponent y)
+power x y = raised_by (promoted x y) (exponent y)

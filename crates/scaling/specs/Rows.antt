@@ -25,8 +25,8 @@ abbrev pub Rows : List (Outcome × Outcome) → Type 0
 Rows [] = Unit {0}
 Rows (row ∷ rows) = (row.0 ≡ row.1) × Rows rows
 
-abbrev pub constrainRows : List (Outcome × Outcome)
-constrainRows =
+abbrev pub constrain_rows : List (Outcome × Outcome)
+constrain_rows =
     -- mixed types: the widest of the three, whichever is given
     (Value (constrained (char 5) (char 1) (int 3)), Value (int 3)) ∷
     (Value (constrained (int 50) (char 10) (char 100)), Value (int 50)) ∷
@@ -38,8 +38,8 @@ constrainRows =
     (Value (constrained (char 5) (Float nan) (char 3)), Value (float 1077936128)) ∷
     (Value (constrained (char 5) (char 7) (Float nan)), Value (float 1088421888)) ∷ []
 
-abbrev pub mapRows : List (Outcome × Outcome)
-mapRows =
+abbrev pub map_rows : List (Outcome × Outcome)
+map_rows =
     -- "the quotient cut toward zero": −7 / 2
     (mapped (Int (negsuc 6)) (int 0) (int 2) (int 0) (int 1), Value (Int (negsuc 2))) ∷
     -- "exact": 65,535 × 65,535 between
@@ -54,8 +54,8 @@ mapRows =
     -- "each operation rounds once, as written": 3 × 5 / 9 + 1; with one rounding, or divided first, 1076538027
     (mapped (float 1077936128) (char 0) (char 9) (char 1) (char 6), Value (float 1076538026)) ∷ []
 
-abbrev pub powerRows : List (Outcome × Outcome)
-powerRows =
+abbrev pub power_rows : List (Outcome × Outcome)
+power_rows =
     -- −2 to the power of 15 in INT and in CHAR, 0 to the power of 0
     (power (Int (negsuc 1)) (char 15), Value (Int (negsuc 32767))) ∷
     (power (Char (negsuc 1)) (char 15), Value (char 0)) ∷
@@ -71,4 +71,4 @@ powerRows =
     (power (Float nan) (char 0), Value (float 1065353216)) ∷ []
 
 unfoldable pub ScalingRows : Type 0
-ScalingRows = Rows constrainRows × Rows mapRows × Rows powerRows
+ScalingRows = Rows constrain_rows × Rows map_rows × Rows power_rows

@@ -2,8 +2,8 @@
 ghost use Rattle.std.specs.Prelude.{◌≡◌, ◌-ℤ◌, nat_abs, pos, ◌<◌, ◌^◌};
 ghost use Rattle.std.specs.Float.{binary32};
 ghost use Rattle.std.specs.Float.Ieee.{sub};
-ghost use Rattle.scaling.specs.Map.{wider, widest, exact, real, mapExact, mapWhole, mapReal};
-ghost use Rattle.scaling.specs.Map.{mappedAs, mapped};
+ghost use Rattle.scaling.specs.Map.{wider, widest, exact, real, map_exact, map_whole, map_real};
+ghost use Rattle.scaling.specs.Map.{mapped_as, mapped};
 ghost use Rattle.std.specs.Int.{w8, w16};
 
 use number::Number;
@@ -70,7 +70,7 @@ fn difference(a: Number, b: Number) -> i64
 // Document 02, Q-3: "on whole numbers exact, the quotient cut toward zero". The product has up to 34 bits.
 fn map_exact(a: Number, b: Number, c: Number, d: Number, e: Number) -> i64
     requires { exact c -ℤ exact b ≡ pos 0 → ⊥ }
-    ensures { result ≡ mapExact (exact a) (exact b) (exact c) (exact d) (exact e) }
+    ensures { result ≡ map_exact (exact a) (exact b) (exact c) (exact d) (exact e) }
 {
     let product = difference(a, b) * difference(e, d);
     product / difference(c, b) + exact_of(d) as i64
@@ -78,7 +78,7 @@ fn map_exact(a: Number, b: Number, c: Number, d: Number, e: Number) -> i64
 
 // "the result reduced to the widest type; there equal b and c give fault 7": CHAR, and INT.
 fn map8(a: Number, b: Number, c: Number, d: Number, e: Number) -> Outcome
-    ensures { result ≡ mapWhole w8 Number.Char (exact a) (exact b) (exact c) (exact d) (exact e) }
+    ensures { result ≡ map_whole w8 Number.Char (exact a) (exact b) (exact c) (exact d) (exact e) }
 {
     if difference(c, b) == 0 {
         Outcome::DivisionByZero
@@ -88,7 +88,7 @@ fn map8(a: Number, b: Number, c: Number, d: Number, e: Number) -> Outcome
 }
 
 fn map16(a: Number, b: Number, c: Number, d: Number, e: Number) -> Outcome
-    ensures { result ≡ mapWhole w16 Number.Int (exact a) (exact b) (exact c) (exact d) (exact e) }
+    ensures { result ≡ map_whole w16 Number.Int (exact a) (exact b) (exact c) (exact d) (exact e) }
 {
     if difference(c, b) == 0 {
         Outcome::DivisionByZero
@@ -104,16 +104,16 @@ fn real_difference(a: Number, b: Number) -> f32
 }
 
 // "With a FLOAT all five become FLOAT and each operation rounds once, as written."
-#[tactic(auto, unfolding(crate::specs::Map::mapReal))]
+#[tactic(auto, unfolding(crate::specs::Map::map_real))]
 fn map_real(a: Number, b: Number, c: Number, d: Number, e: Number) -> f32
-    ensures { result ≡ mapReal (real a) (real b) (real c) (real d) (real e) }
+    ensures { result ≡ map_real (real a) (real b) (real c) (real d) (real e) }
 {
     let product = real_difference(a, b) * real_difference(e, d);
     product / real_difference(c, b) + real_of(d)
 }
 
 fn map_as(kind: Kind, a: Number, b: Number, c: Number, d: Number, e: Number) -> Outcome
-    ensures { result ≡ mappedAs kind a b c d e }
+    ensures { result ≡ mapped_as kind a b c d e }
 {
     match kind {
         Kind::Chars => map8(a, b, c, d, e),

@@ -3,7 +3,7 @@ ghost use Rattle.std.specs.Prelude.{◌≡◌};
 ghost use Rattle.std.proofs.Math.IntN.{pow};
 ghost use Rattle.std.specs.Int.{w16};
 ghost use Rattle.integer.specs.Modular.{wrapped};
-ghost use Rattle.scaling.specs.Power.{wholeExponent, exponent, powerReal, raised, raisedBy, power};
+ghost use Rattle.scaling.specs.Power.{whole_exponent, exponent, power_real, raised, raised_by, power};
 
 use number::Number;
 use number::promotion::{Pair, promote};
@@ -19,7 +19,7 @@ const MAX_EXPONENT: i16 = 15;
 
 // Document 02, Q-3: "POW takes a whole y from 0 to 15, else fault 8".
 fn whole_exponent(y: i16) -> Exponent
-    ensures { result ≡ wholeExponent y }
+    ensures { result ≡ whole_exponent y }
 {
     if y < 0 {
         return Exponent::Refused;
@@ -55,7 +55,7 @@ fn power16(x: i16, n: u8) -> i16
 }
 
 fn power_real(x: f32, n: u8) -> f32
-    ensures { result ≡ powerReal x n }
+    ensures { result ≡ power_real x n }
 {
     let mut product: f32 = 1.0;
     let mut i: u8 = 0;
@@ -77,7 +77,7 @@ fn raise(pair: Pair, n: u8) -> Number
 }
 
 fn raise_by(pair: Pair, exponent: Exponent) -> Outcome
-    ensures { result ≡ raisedBy pair exponent }
+    ensures { result ≡ raised_by pair exponent }
 {
     match exponent {
         Exponent::Is(n) => Outcome::Value(raise(pair, n)),

@@ -10,32 +10,32 @@ use Rattle.number.specs.declared.Number.{Number}
 use Rattle.operator.specs.declared.instruction.Types.{Types}
 use Rattle.machine.specs.Effect.{Effect, with_number}
 use Rattle.machine.specs.Stack.{Popped, popped, cannot, pop}
-use Rattle.stack.specs.Tops.{Numbered, bytesBelow, nextNumbered, numberAbove, number_in, numberOn, numbered, withNumbered}
+use Rattle.stack.specs.Tops.{Numbered, bytes_below, next_numbered, number_above, number_in, number_on, numbered, with_numbered}
 use Rattle.stack.specs.declared.TopNumber.{TopNumber}
 use Rattle.stack.specs.declared.TopNumber.TheVariants.{Is, NoNumber}
 
-goes_on : (p : Popped) (next : Number → List ℕ → Effect) → with_number p next ≡ withNumbered (numbered p) next
+goes_on : (p : Popped) (next : Number → List ℕ → Effect) → with_number p next ≡ with_numbered (numbered p) next
 goes_on (popped item rest) next = refl
 goes_on (cannot fault) next = refl
 
 module _ (stack : List ℕ) (types : Types) where
   -- the number on top
-  pub popped-first : (r : TopNumber) → numberOn stack r ≡ numbered (pop types stack) → (next : Number → List ℕ → Effect)
-      → with_number (pop types stack) next ≡ withNumbered (numberOn stack r) next
-  popped-first r e next = goes_on (pop types stack) next ∙ ap (λ (n : Numbered). withNumbered n next) (sym e)
+  pub popped-first : (r : TopNumber) → number_on stack r ≡ numbered (pop types stack) → (next : Number → List ℕ → Effect)
+      → with_number (pop types stack) next ≡ with_numbered (number_on stack r) next
+  popped-first r e next = goes_on (pop types stack) next ∙ ap (λ (n : Numbered). with_numbered n next) (sym e)
 
   -- one below it
-  pub popped-next : (t r : TopNumber) → numberOn stack r ≡ nextNumbered types (numberOn stack t)
+  pub popped-next : (t r : TopNumber) → number_on stack r ≡ next_numbered types (number_on stack t)
       → (next : Number → Number → List ℕ → Effect)
-      → withNumbered (numberOn stack t) (λ a rest. with_number (pop types rest) (next a))
-      ≡ withNumbered (numberOn stack r) (next (number_in t))
+      → with_numbered (number_on stack t) (λ a rest. with_number (pop types rest) (next a))
+      ≡ with_numbered (number_on stack r) (next (number_in t))
   popped-next (Is a below) r e next =
-      goes_on (pop types (take below stack)) (next a) ∙ ap (λ (n : Numbered). withNumbered n (next a)) (sym e)
-  popped-next (NoNumber fault) r e next = ap (λ (n : Numbered). withNumbered n (next (number_in (NoNumber fault)))) (sym e)
+      goes_on (pop types (take below stack)) (next a) ∙ ap (λ (n : Numbered). with_numbered n (next a)) (sym e)
+  popped-next (NoNumber fault) r e next = ap (λ (n : Numbered). with_numbered n (next (number_in (NoNumber fault)))) (sym e)
 
 -- what is done with the last number may go by what was popped
 pub by_number : (stack : List ℕ) (t : TopNumber) (next : Number → List ℕ → Effect)
-    → withNumbered (numberOn stack t) next ≡ withNumbered (numberOn stack t) (λ a rest. next (number_in t) rest)
+    → with_numbered (number_on stack t) next ≡ with_numbered (number_on stack t) (λ a rest. next (number_in t) rest)
 by_number stack (Is a below) next = refl
 by_number stack (NoNumber fault) next = refl
 
@@ -44,6 +44,6 @@ module _ (stack : List ℕ) (n : ℕ) (h : n ≤ length stack) where
   pub lent : length (take n stack) ≡ n
   lent = length-take-le n stack h
 
-  pub found_below : (r : TopNumber) → bytesBelow r ≤ length (take n stack) → numberOn (take n stack) r ≡ numberOn stack r
-  found_below (Is a below) k = ap (numberAbove a) (take-take below n stack (omega (arith, lent)))
+  pub found_below : (r : TopNumber) → bytes_below r ≤ length (take n stack) → number_on (take n stack) r ≡ number_on stack r
+  found_below (Is a below) k = ap (number_above a) (take-take below n stack (omega (arith, lent)))
   found_below (NoNumber fault) k = refl

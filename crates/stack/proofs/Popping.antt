@@ -13,7 +13,7 @@ use Rattle.buffer.specs.Buffer.{part}
 use Rattle.buffer.proofs.Bools.{true-not-false}
 use Rattle.buffer.proofs.Disjunctions.{or_cases}
 use Rattle.buffer.proofs.Parts.{part_length}
-use Rattle.operator.specs.Instruction.{arithmeticTypes, binaryTypes, conversionTypes, includes, scalingTypes, types_of, unaryTypes}
+use Rattle.operator.specs.Instruction.{arithmetic_types, binary_types, conversion_types, includes, scaling_types, types_of, unary_types}
 use Rattle.number.specs.declared.Number.{Number}
 use Rattle.operator.specs.declared.instruction.Types.{Types}
 use Rattle.operator.specs.declared.instruction.Types.TheVariants.{AnyNumber, CharOrInt, IntOrFloat, CharOrFloat, AnyString, AnyValue}
@@ -32,11 +32,11 @@ use Rattle.operator.specs.declared.operators.Unary.{Unary}
 use Rattle.operator.specs.declared.operators.Unary.TheVariants.{Increment, Decrement, UnaryMinus, LogicalNot, BitwiseNot, Convert}
 use Rattle.operator.specs.declared.operators.Unary.TheVariants.{Abs, Sq, Sqrt}
 use Rattle.disc.specs.Name.{trimmed}
-use Rattle.machine.specs.Effect.{Effect, number, with_number, withPopped}
-use Rattle.machine.specs.Stack.{Item, Popped, popped, cannot, pop, stringKind}
+use Rattle.machine.specs.Effect.{Effect, number, with_number, with_popped}
+use Rattle.machine.specs.Stack.{Item, Popped, popped, cannot, pop, string_kind}
 use Rattle.machine.proofs.Instructions.Popping.{Pops, TakenOff, number-kinds, pop-pops}
-use Rattle.stack.specs.Steps.{Means, lastStep}
-use Rattle.stack.specs.Tops.{bytesBelow, isNumeric, numberOn, numbered, valueEnd, valueOn}
+use Rattle.stack.specs.Steps.{Means, last_step}
+use Rattle.stack.specs.Tops.{bytes_below, is_numeric, number_on, numbered, value_end, value_on}
 use Rattle.stack.specs.declared.Action.TheVariants.{Fault}
 use Rattle.stack.specs.declared.Step.{Step}
 use Rattle.stack.specs.declared.TopNumber.{TopNumber}
@@ -56,23 +56,23 @@ pub record OnTop (types : Types) (stack : List ℕ) (kind at len : ℕ) : Type 0
   pub inside : at + len + 1 ≤ length stack
   pub off : TakenOff types stack (item_at stack kind at len) (take at stack)
 
-module _ (types : Types) (stack : List ℕ) {r : TopValue} (known : (valueOn stack r ≡ pop types stack) × (valueEnd r ≤ length stack)) where
+module _ (types : Types) (stack : List ℕ) {r : TopValue} (known : (value_on stack r ≡ pop types stack) × (value_end r ≤ length stack)) where
   pub value-on-top : {kind at len : ℕ} → r ≡ Lies kind at len → OnTop types stack kind at len
   unfolding Pops
   value-on-top {kind} {at} {len} told =
-      let e = sym known.0 ∙ ap (valueOn stack) told in
-      let i : at + len ≤ length stack = subst (λ (t : TopValue). valueEnd t ≤ length stack) told known.1 in
+      let e = sym known.0 ∙ ap (value_on stack) told in
+      let i : at + len ≤ length stack = subst (λ (t : TopValue). value_end t ≤ length stack) told known.1 in
       let z = part_length stack at len i in
       let o : TakenOff types stack (item_at stack kind at len) (take at stack) = subst (Pops types stack) e (pop-pops types stack) in
       let b = length-take-le at stack (omega arith) in
       record { pops = e; size = z; inside = omega (arith, o.lay); off = o }
 
   pub no_value : {fault : ℕ} → r ≡ NoValue fault → pop types stack ≡ cannot fault
-  no_value told = sym known.0 ∙ ap (valueOn stack) told
+  no_value told = sym known.0 ∙ ap (value_on stack) told
 
   -- an instruction that needs it faults, whatever it lies on
-  pub value-faults : {fault : ℕ} → r ≡ NoValue fault → (whole : List ℕ) {d : Step} → d ≡ lastStep (Fault fault)
-      → (next : Item → List ℕ → Effect) → Means whole d (withPopped (pop types stack) next)
+  pub value-faults : {fault : ℕ} → r ≡ NoValue fault → (whole : List ℕ) {d : Step} → d ≡ last_step (Fault fault)
+      → (next : Item → List ℕ → Effect) → Means whole d (with_popped (pop types stack) next)
   value-faults told whole e next = rw (no_value told) (last-means whole e)
 
 -- a string less its zero
@@ -81,7 +81,7 @@ pub string-text : (stack : List ℕ) (kind at len : ℕ) → OnTop AnyString sta
 unfolding includes
 string-text stack kind at len t =
     let b = part stack at len in
-    let s = t.off.string (eqb-true kind stringKind t.off.taken) in
+    let s = t.off.string (eqb-true kind string_kind t.off.taken) in
     let n : length (trimmed b) + 1 ≡ len = sym (length-append (trimmed b) (0 ∷ [])) ∙ sym (ap length s.zero-last) ∙ t.size in (
       omega arith,
       sym (take-take (len - 1) len (drop at stack) (omega arith))
@@ -98,31 +98,31 @@ pub record NumberOnTop (types : Types) (stack : List ℕ) (a : Number) (n : ℕ)
   pub below : n ≤ length stack
 
 module _ (types : Types) (stack : List ℕ) {r : TopNumber}
-    (known : (numberOn stack r ≡ numbered (pop types stack)) × (bytesBelow r ≤ length stack)) where
+    (known : (number_on stack r ≡ numbered (pop types stack)) × (bytes_below r ≤ length stack)) where
   pub number-on-top : {a : Number} {n : ℕ} → r ≡ Is a n → NumberOnTop types stack a n
-  number-on-top {a} {n} told = go (pop types stack) refl (ap (numberOn stack) (sym told) ∙ known.0)
+  number-on-top {a} {n} told = go (pop types stack) refl (ap (number_on stack) (sym told) ∙ known.0)
     where
-      go : (p : Popped) → pop types stack ≡ p → numberOn stack (Is a n) ≡ numbered p → NumberOnTop types stack a n
+      go : (p : Popped) → pop types stack ≡ p → number_on stack (Is a n) ≡ numbered p → NumberOnTop types stack a n
       go (popped item rest) q e =
           let f : rest ≡ take n stack = cc in
           record {
             item = item;
             pops = q ∙ ap (popped item) f;
             is = cc;
-            below = subst (λ (t : TopNumber). bytesBelow t ≤ length stack) told known.1;
+            below = subst (λ (t : TopNumber). bytes_below t ≤ length stack) told known.1;
           }
       go (cannot fault) q e = absurd (let z : ◌≡◌ {A = ℕ} 0 1 = cc in omega arith)
 
-  no_number : {fault : ℕ} → r ≡ NoNumber fault → pop types stack ≡ cannot fault
-  no_number {fault} told = go (pop types stack) (ap (numberOn stack) (sym told) ∙ known.0)
+  no-number : {fault : ℕ} → r ≡ NoNumber fault → pop types stack ≡ cannot fault
+  no-number {fault} told = go (pop types stack) (ap (number_on stack) (sym told) ∙ known.0)
     where
-      go : (p : Popped) → numberOn stack (NoNumber fault) ≡ numbered p → p ≡ cannot fault
+      go : (p : Popped) → number_on stack (NoNumber fault) ≡ numbered p → p ≡ cannot fault
       go (popped item rest) e = absurd (let z : ◌≡◌ {A = ℕ} 0 1 = cc in omega arith)
       go (cannot f) e = cc
 
-  pub number-faults : {fault : ℕ} → r ≡ NoNumber fault → (whole : List ℕ) {d : Step} → d ≡ lastStep (Fault fault)
+  pub number-faults : {fault : ℕ} → r ≡ NoNumber fault → (whole : List ℕ) {d : Step} → d ≡ last_step (Fault fault)
       → (next : Number → List ℕ → Effect) → Means whole d (with_number (pop types stack) next)
-  number-faults told whole e next = rw (no_number told) (last-means whole e)
+  number-faults told whole e next = rw (no-number told) (last-means whole e)
 
 -- ---- sets of types of numbers
 is_number : (kind n : ℕ) → includes AnyNumber n ≡ true → eqb kind n ≡ true → includes AnyNumber kind ≡ true
@@ -132,7 +132,7 @@ either_number : (kind m n : ℕ) → includes AnyNumber m ≡ true → includes 
     → includes AnyNumber kind ≡ true
 either_number kind m n h k t = ⊎_elim (is_number kind m h) (is_number kind n k) (or_cases (eqb kind m) (eqb kind n) t)
 
-pub numeric-number : (types : Types) (kind : ℕ) → isNumeric types ≡ true → includes types kind ≡ true → includes AnyNumber kind ≡ true
+pub numeric-number : (types : Types) (kind : ℕ) → is_numeric types ≡ true → includes types kind ≡ true → includes AnyNumber kind ≡ true
 unfolding includes
 numeric-number AnyNumber kind n h = h
 numeric-number CharOrInt kind n h = either_number kind 1 2 refl refl h
@@ -146,15 +146,15 @@ pub number_small : (kind : ℕ) → includes AnyNumber kind ≡ true → kind �
 number_small kind h = ⊎_elim (λ e. omega arith) (λ o. ⊎_elim (λ e. omega arith) (λ e. omega arith) o) (number-kinds kind h)
 
 -- a value that is no string is a number
-pub value-small : (stack : List ℕ) (kind at len : ℕ) → OnTop AnyValue stack kind at len → (kind ≡ stringKind → ⊥) → len ≤ 4
+pub value-small : (stack : List ℕ) (kind at len : ℕ) → OnTop AnyValue stack kind at len → (kind ≡ string_kind → ⊥) → len ≤ 4
 unfolding includes
 value-small stack kind at len t n =
     let z = sym t.size ∙ t.off.number n in
-    ⊎_elim (λ e. absurd (n (eqb-true kind stringKind e))) (λ h. omega (arith, number_small kind h))
-    (or_cases (eqb kind stringKind) (includes AnyNumber kind) t.off.taken)
+    ⊎_elim (λ e. absurd (n (eqb-true kind string_kind e))) (λ h. omega (arith, number_small kind h))
+    (or_cases (eqb kind string_kind) (includes AnyNumber kind) t.off.taken)
 
 -- an operator takes numbers alone
-conversion-numeric : (o : Conversion) → isNumeric (conversionTypes o) ≡ true
+conversion-numeric : (o : Conversion) → is_numeric (conversion_types o) ≡ true
 conversion-numeric ToChar = refl
 conversion-numeric ToInt = refl
 conversion-numeric ToFloat = refl
@@ -162,7 +162,7 @@ conversion-numeric Round = refl
 conversion-numeric Floor = refl
 conversion-numeric Ceil = refl
 
-unary-numeric : (o : Unary) → isNumeric (unaryTypes o) ≡ true
+unary-numeric : (o : Unary) → is_numeric (unary_types o) ≡ true
 unary-numeric Increment = refl
 unary-numeric Decrement = refl
 unary-numeric UnaryMinus = refl
@@ -173,30 +173,30 @@ unary-numeric Abs = refl
 unary-numeric Sq = refl
 unary-numeric Sqrt = refl
 
-arithmetic-numeric : (o : Arithmetic) → isNumeric (arithmeticTypes o) ≡ true
+arithmetic-numeric : (o : Arithmetic) → is_numeric (arithmetic_types o) ≡ true
 arithmetic-numeric Plus = refl
 arithmetic-numeric Minus = refl
 arithmetic-numeric Times = refl
 arithmetic-numeric DividedBy = refl
 arithmetic-numeric Modulus = refl
 
-binary-numeric : (o : Binary) → isNumeric (binaryTypes o) ≡ true
+binary-numeric : (o : Binary) → is_numeric (binary_types o) ≡ true
 binary-numeric (Calculates o) = arithmetic-numeric o
 binary-numeric (Comparison o) = refl
 binary-numeric (Logical o) = refl
 binary-numeric (Bitwise o) = refl
 binary-numeric (Extremum o) = refl
 
-scaling-numeric : (o : Scaling) (place : ℕ) → isNumeric (scalingTypes o place) ≡ true
+scaling-numeric : (o : Scaling) (place : ℕ) → is_numeric (scaling_types o place) ≡ true
 scaling-numeric Constrain place = refl
 scaling-numeric Map place = refl
 scaling-numeric Power place = go (eqb place 0)
   where
-    go : (b : Bool) → isNumeric (cond b AnyNumber CharOrInt) ≡ true
+    go : (b : Bool) → is_numeric (cond b AnyNumber CharOrInt) ≡ true
     go true = refl
     go false = refl
 
-pub operand-numeric : (o : Operator) (place : ℕ) → isNumeric (types_of o place) ≡ true
+pub operand-numeric : (o : Operator) (place : ℕ) → is_numeric (types_of o place) ≡ true
 operand-numeric (OfOne o) place = unary-numeric o
 operand-numeric (OfTwo o) place = binary-numeric o
 operand-numeric (Scale o) place = scaling-numeric o place

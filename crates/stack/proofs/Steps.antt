@@ -7,13 +7,13 @@ use native.Mathlib.Omega.{arith}
 use lib.Dec.{eqb}
 use lib.ListN.{length, take, replicate, length-append}
 use lib.Seq.{length-take-le, take_at}
-use Rattle.number.specs.Value.{encoded, type_of, valueBytes}
+use Rattle.number.specs.Value.{encoded, type_of, value_bytes}
 use Rattle.number.specs.declared.Number.{Number}
 use Rattle.number.specs.declared.Number.TheVariants.{Char, Int, Float}
 use Rattle.machine.specs.Effect.{Effect}
-use Rattle.machine.specs.Limits.{stackSize}
-use Rattle.machine.specs.Stack.{push, pushItem, pushString, stringKind}
-use Rattle.stack.specs.Steps.{Means, effectBy, effect_of, lastStep, placed, step_of}
+use Rattle.machine.specs.Limits.{stack_size}
+use Rattle.machine.specs.Stack.{push, push_item, push_string, string_kind}
+use Rattle.stack.specs.Steps.{Means, effect_by, effect_of, last_step, placed, step_of}
 use Rattle.stack.specs.declared.Action.{Action}
 use Rattle.stack.specs.declared.Step.{Step}
 
@@ -21,8 +21,8 @@ pub means-as : {stack : List ℕ} {d : Step} {e f : Effect} → Means stack d e 
 means-as h p = record { same = h.same ∙ p; kept = h.kept; len = h.len }
 
 -- a process's last step
-pub last-means : (stack : List ℕ) {d : Step} {action : Action} → d ≡ lastStep action
-    → Means stack d (effectBy action stack [] (placed [] 0 0))
+pub last-means : (stack : List ℕ) {d : Step} {action : Action} → d ≡ last_step action
+    → Means stack d (effect_by action stack [] (placed [] 0 0))
 last-means stack p =
     record {
       same = ap (effect_of stack) p;
@@ -32,13 +32,13 @@ last-means stack p =
 
 -- a step about bytes
 pub step-means : (stack bytes : List ℕ) {d : Step} {action : Action} {kept pc loopstart : ℕ}
-    → (d ≡ step_of action kept bytes pc loopstart) × (d.len ≤ stackSize) → kept ≤ length stack
-    → Means stack d (effectBy action stack bytes (placed (take kept stack) pc loopstart))
+    → (d ≡ step_of action kept bytes pc loopstart) × (d.len ≤ stack_size) → kept ≤ length stack
+    → Means stack d (effect_by action stack bytes (placed (take kept stack) pc loopstart))
 step-means stack bytes {d} {action} {kept} {pc} {loopstart} p h =
     record {
       same = ap (effect_of stack) p.0
-          ∙ ap (λ (l : List ℕ). effectBy action stack l (placed (take kept stack) pc loopstart))
-          (take_at bytes (replicate (stackSize - length bytes) 0) (length bytes) refl);
+          ∙ ap (λ (l : List ℕ). effect_by action stack l (placed (take kept stack) pc loopstart))
+          (take_at bytes (replicate (stack_size - length bytes) 0) (length bytes) refl);
       kept = omega (arith, ap (λ (x : Step). x.kept) p.0);
       len = p.1;
     }
@@ -48,10 +48,10 @@ pub pushed-length : (stack head tail : List ℕ) (kept : ℕ) → kept ≤ lengt
     → length (take kept stack ++ head ++ tail) ≡ kept + length head + length tail
 pushed-length stack head tail kept h = simp (length-append, length-take-le kept stack h)
 
-pub item-long : (stack bytes : List ℕ) (kind : ℕ) → length bytes ≤ length (pushItem stack kind bytes)
-item-long stack bytes kind = go (eqb kind stringKind)
+pub item-long : (stack bytes : List ℕ) (kind : ℕ) → length bytes ≤ length (push_item stack kind bytes)
+item-long stack bytes kind = go (eqb kind string_kind)
   where
-    go : (b : Bool) → length bytes ≤ length (cond b (pushString stack bytes) (push stack kind bytes))
+    go : (b : Bool) → length bytes ≤ length (cond b (push_string stack bytes) (push stack kind bytes))
     go true = simp length-append (omega arith)
     go false = simp length-append (omega arith)
 
@@ -63,7 +63,7 @@ encoded-inside (Int x) = omega arith
 encoded-inside (Float x) = omega arith
 
 pub number_pushed : (a : Number) (stack : List ℕ)
-    → pushItem stack (encoded a).kind (take (encoded a).kind (encoded a).bytes) ≡ push stack (type_of a) (valueBytes a)
+    → push_item stack (encoded a).kind (take (encoded a).kind (encoded a).bytes) ≡ push stack (type_of a) (value_bytes a)
 unfolding encoded
 number_pushed (Char x) stack = refl
 number_pushed (Int x) stack = refl

@@ -14,41 +14,41 @@ use Rattle.stack.specs.declared.TopValue.{TopValue}
 use Rattle.stack.specs.declared.TopValue.TheVariants.{Lies, NoValue}
 
 -- the value that lies there, and the stack below it
-abbrev pub valueOn : List ℕ → TopValue → Popped
-valueOn stack (Lies kind at len) = popped (record { kind = kind; bytes = part stack at len }) (take at stack)
-valueOn stack (NoValue fault) = cannot fault
+abbrev pub value_on : List ℕ → TopValue → Popped
+value_on stack (Lies kind at len) = popped (record { kind = kind; bytes = part stack at len }) (take at stack)
+value_on stack (NoValue fault) = cannot fault
 
-abbrev pub valueEnd : TopValue → ℕ
-valueEnd (Lies kind at len) = at + len
-valueEnd (NoValue fault) = 0
+abbrev pub value_end : TopValue → ℕ
+value_end (Lies kind at len) = at + len
+value_end (NoValue fault) = 0
 
 -- sets of types of numbers alone
-abbrev pub isNumeric : Types → Bool
-isNumeric AnyNumber = true
-isNumeric CharOrInt = true
-isNumeric IntOrFloat = true
-isNumeric CharOrFloat = true
-isNumeric AnyString = false
-isNumeric AnyValue = false
-isNumeric Nothing = true
+abbrev pub is_numeric : Types → Bool
+is_numeric AnyNumber = true
+is_numeric CharOrInt = true
+is_numeric IntOrFloat = true
+is_numeric CharOrFloat = true
+is_numeric AnyString = false
+is_numeric AnyValue = false
+is_numeric Nothing = true
 
 -- a popped value of which the number is all that is read
 pub data Numbered : Type 0 where
-  numberAbove : Number → List ℕ → Numbered
-  noNumber : ℕ → Numbered
+  number_above : Number → List ℕ → Numbered
+  no_number : ℕ → Numbered
 
 abbrev pub numbered : Popped → Numbered
-numbered (popped item rest) = numberAbove (number item) rest
-numbered (cannot fault) = noNumber fault
+numbered (popped item rest) = number_above (number item) rest
+numbered (cannot fault) = no_number fault
 
-abbrev pub numberOn : List ℕ → TopNumber → Numbered
-numberOn stack (Is a below) = numberAbove a (take below stack)
-numberOn stack (NoNumber fault) = noNumber fault
+abbrev pub number_on : List ℕ → TopNumber → Numbered
+number_on stack (Is a below) = number_above a (take below stack)
+number_on stack (NoNumber fault) = no_number fault
 
 -- the number popped next, from what lies below one popped before; a fault met before stays
-abbrev pub nextNumbered : Types → Numbered → Numbered
-nextNumbered types (numberAbove a rest) = numbered (pop types rest)
-nextNumbered types (noNumber fault) = noNumber fault
+abbrev pub next_numbered : Types → Numbered → Numbered
+next_numbered types (number_above a rest) = numbered (pop types rest)
+next_numbered types (no_number fault) = no_number fault
 
 -- the number, of which 0 is never used where there is none
 abbrev pub number_in : TopNumber → Number
@@ -56,11 +56,11 @@ number_in (Is a below) = a
 number_in (NoNumber fault) = Char (pos 0)
 
 -- an instruction goes on with the number, or faults
-abbrev pub withNumbered : Numbered → (Number → List ℕ → Effect) → Effect
-withNumbered (numberAbove a rest) next = next a rest
-withNumbered (noNumber fault) next = faults fault
+abbrev pub with_numbered : Numbered → (Number → List ℕ → Effect) → Effect
+with_numbered (number_above a rest) next = next a rest
+with_numbered (no_number fault) next = faults fault
 
 -- how many bytes lie below it
-abbrev pub bytesBelow : TopNumber → ℕ
-bytesBelow (Is a below) = below
-bytesBelow (NoNumber fault) = 0
+abbrev pub bytes_below : TopNumber → ℕ
+bytes_below (Is a below) = below
+bytes_below (NoNumber fault) = 0

@@ -3,10 +3,10 @@ ghost use Rattle.std.specs.Prelude.{[], ◌++◌, ◌≡◌, ◌+◌, ◌≤◌,
 ghost use Rattle.buffer.specs.Buffer.{part};
 ghost use Rattle.buffer.specs.declared.Found.{Found};
 ghost use Rattle.machine.specs.Effect.{settle, with_outcome};
-ghost use Rattle.machine.specs.Limits.{stackSize};
-ghost use Rattle.machine.specs.Stack.{push, pushItem};
-ghost use Rattle.number.specs.Value.{type_of, valueBytes};
-ghost use Rattle.stack.specs.Steps.{Keeps, Means, effectBy, lastStep, maxCode, placed, step_of};
+ghost use Rattle.machine.specs.Limits.{stack_size};
+ghost use Rattle.machine.specs.Stack.{push, push_item};
+ghost use Rattle.number.specs.Value.{type_of, value_bytes};
+ghost use Rattle.stack.specs.Steps.{Keeps, Means, effect_by, last_step, max_code, placed, step_of};
 
 use crate::{Action, STRING_KIND, Step};
 use machine::limits::STACK_SIZE;
@@ -15,7 +15,7 @@ use operator::Outcome;
 
 // Of an instruction that ends its process.
 pub fn last_step(action: Action) -> Step
-    ensures { result ≡ lastStep action }
+    ensures { result ≡ last_step action }
 {
     Step {
         action: action,
@@ -36,9 +36,9 @@ pub fn with_bytes(
     pc: usize,
     loopstart: u16,
 ) -> Step
-    requires { (kept ≤ stackSize) × (length head.now + length tail.now ≤ stackSize) × (pc ≤ maxCode) }
+    requires { (kept ≤ stack_size) × (length head.now + length tail.now ≤ stack_size) × (pc ≤ max_code) }
     ensures { (result ≡ step_of action kept (head.now ++ tail.now) pc loopstart)
-        × (result.len ≤ stackSize) }
+        × (result.len ≤ stack_size) }
 {
     let mut bytes = [0u8; STACK_SIZE];
     buffer::bytes::overwrite_at(&mut bytes, 0, head);
@@ -62,8 +62,8 @@ pub fn with_part(
     pc: usize,
     loopstart: u16,
 ) -> Step
-    requires { (at + len ≤ length stack.now) × (length stack.now ≤ stackSize) × (pc ≤ maxCode) }
-    ensures { Means stack.now result (effectBy action stack.now
+    requires { (at + len ≤ length stack.now) × (length stack.now ≤ stack_size) × (pc ≤ max_code) }
+    ensures { Means stack.now result (effect_by action stack.now
         (part stack.now at len) (placed (take at stack.now) pc loopstart)) }
 {
     let end = at + len;
@@ -72,8 +72,8 @@ pub fn with_part(
 
 // An action about no bytes that leaves the stack as it is.
 pub fn with_stack(action: Action, stack: &[u8], pc: usize, loopstart: u16) -> Step
-    requires { (length stack.now ≤ stackSize) × (pc ≤ maxCode) }
-    ensures { Means stack.now result (effectBy action stack.now []
+    requires { (length stack.now ≤ stack_size) × (pc ≤ max_code) }
+    ensures { Means stack.now result (effect_by action stack.now []
         (placed stack.now pc loopstart)) }
 {
     with_part(action, stack, stack.len(), 0, pc, loopstart)
@@ -90,7 +90,7 @@ pub fn push_bytes(
     to: usize,
     loopstart: u16,
 ) -> Step
-    requires { Keeps code.now stack.now kept × (length head.now + length tail.now ≤ maxCode) }
+    requires { Keeps code.now stack.now kept × (length head.now + length tail.now ≤ max_code) }
     ensures { Means stack.now result (settle code.now (Found.At to)
         (take kept stack.now ++ head.now ++ tail.now) loopstart []) }
 {
@@ -114,7 +114,7 @@ pub fn go(code: &[u8], stack: &[u8], kept: usize, to: usize, loopstart: u16) -> 
 
 // On to a place with the stack as it is.
 pub fn jump(code: &[u8], stack: &[u8], to: usize, loopstart: u16) -> Step
-    requires { (length code.now ≤ maxCode) × (length stack.now ≤ stackSize) }
+    requires { (length code.now ≤ max_code) × (length stack.now ≤ stack_size) }
     ensures { Means stack.now result (settle code.now (Found.At to)
         stack.now loopstart []) }
 {
@@ -133,7 +133,7 @@ pub fn push_item(
 ) -> Step
     requires { Keeps code.now stack.now kept }
     ensures { Means stack.now result (settle code.now (Found.At to)
-        (pushItem (take kept stack.now) kind bytes.now) loopstart []) }
+        (push_item (take kept stack.now) kind bytes.now) loopstart []) }
 {
     if STACK_SIZE < bytes.len() {
         return last_step(Action::Fault(4));
@@ -156,7 +156,7 @@ pub fn push_number(
 ) -> Step
     requires { Keeps code.now stack.now kept }
     ensures { Means stack.now result (settle code.now (Found.At to)
-        (push (take kept stack.now) (type_of a) (valueBytes a)) loopstart []) }
+        (push (take kept stack.now) (type_of a) (value_bytes a)) loopstart []) }
 {
     let encoded = number::value::encode(a);
     let bytes = encoded.bytes;
@@ -176,7 +176,7 @@ pub fn push_outcome(
 ) -> Step
     requires { Keeps code.now stack.now kept }
     ensures { Means stack.now result (with_outcome outcome (λ a. settle code.now (Found.At to)
-        (push (take kept stack.now) (type_of a) (valueBytes a)) loopstart [])) }
+        (push (take kept stack.now) (type_of a) (value_bytes a)) loopstart [])) }
 {
     match outcome {
         Outcome::Value(a) => push_number(code, stack, kept, a, to, loopstart),

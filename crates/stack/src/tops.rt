@@ -1,9 +1,9 @@
 // What lies on top of a stack: the slice is the bytes below SP.
 ghost use Rattle.std.specs.Prelude.{true, ◌≡◌, ◌≤◌, get_or, length};
-ghost use Rattle.machine.specs.Stack.{pop, popNumber, popString};
+ghost use Rattle.machine.specs.Stack.{pop, pop_number, pop_string};
 ghost use Rattle.number.specs.Value.{number_of};
-ghost use Rattle.stack.specs.Tops.{bytesBelow, isNumeric, nextNumbered, number_in, numberOn};
-ghost use Rattle.stack.specs.Tops.{numbered, valueEnd, valueOn};
+ghost use Rattle.stack.specs.Tops.{bytes_below, is_numeric, next_numbered, number_in, number_on};
+ghost use Rattle.stack.specs.Tops.{numbered, value_end, value_on};
 
 use crate::{STRING_KIND, TopNumber, TopValue};
 use disc::name::text_length;
@@ -17,9 +17,9 @@ pub fn wide(byte: u8) -> usize
 }
 
 fn string_on_top(stack: &[u8]) -> TopValue
-    ensures { (valueOn stack.now result
-        ≡ popString stack.now (length stack.now))
-        × (valueEnd result ≤ length stack.now) }
+    ensures { (value_on stack.now result
+        ≡ pop_string stack.now (length stack.now))
+        × (value_end result ≤ length stack.now) }
 {
     let n = stack.len();
     if n < 2 {
@@ -38,9 +38,9 @@ fn string_on_top(stack: &[u8]) -> TopValue
 }
 
 fn number_on_top(stack: &[u8], kind: u8) -> TopValue
-    ensures { (valueOn stack.now result
-        ≡ popNumber stack.now (length stack.now) kind)
-        × (valueEnd result ≤ length stack.now) }
+    ensures { (value_on stack.now result
+        ≡ pop_number stack.now (length stack.now) kind)
+        × (value_end result ≤ length stack.now) }
 {
     let n = stack.len();
     let size = wide(kind);
@@ -53,8 +53,8 @@ fn number_on_top(stack: &[u8], kind: u8) -> TopValue
 // Document 01: "popping from the top, for each value 5 nothing there, 6 a type not taken here, 5 too few bytes below
 // it, 6 malformed string"
 pub fn top_value(stack: &[u8], types: Types) -> TopValue
-    ensures { (valueOn stack.now result ≡ pop types stack.now)
-        × (valueEnd result ≤ length stack.now) }
+    ensures { (value_on stack.now result ≡ pop types stack.now)
+        × (value_end result ≤ length stack.now) }
 {
     let n = stack.len();
     if n < 1 {
@@ -95,9 +95,9 @@ pub fn number_of(kind: u8, bytes: &[u8]) -> Number
 }
 
 pub fn top_number(stack: &[u8], types: Types) -> TopNumber
-    requires { isNumeric types ≡ true }
-    ensures { (numberOn stack.now result ≡ numbered (pop types stack.now))
-        × (bytesBelow result ≤ length stack.now) }
+    requires { is_numeric types ≡ true }
+    ensures { (number_on stack.now result ≡ numbered (pop types stack.now))
+        × (bytes_below result ≤ length stack.now) }
 {
     match top_value(stack, types) {
         TopValue::Lies(kind, at, len) => {
@@ -110,9 +110,9 @@ pub fn top_number(stack: &[u8], types: Types) -> TopNumber
 
 // The number below one that was popped before it; a fault met before stays.
 pub fn next_number(stack: &[u8], above: TopNumber, types: Types) -> TopNumber
-    requires { (isNumeric types ≡ true) × (bytesBelow above ≤ length stack.now) }
-    ensures { (numberOn stack.now result ≡ nextNumbered types (numberOn stack.now above))
-        × (bytesBelow result ≤ length stack.now) }
+    requires { (is_numeric types ≡ true) × (bytes_below above ≤ length stack.now) }
+    ensures { (number_on stack.now result ≡ next_numbered types (number_on stack.now above))
+        × (bytes_below result ≤ length stack.now) }
 {
     match above {
         TopNumber::Is(_, below) => top_number(&stack[..below], types),

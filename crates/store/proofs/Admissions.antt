@@ -11,11 +11,11 @@ use Rattle.buffer.specs.Buffer.{zeros}
 use Rattle.buffer.specs.declared.Found.{Found}
 use Rattle.buffer.specs.declared.Found.TheVariants.{At, Nowhere}
 use Rattle.buffer.proofs.Bools.{and_left}
-use Rattle.disc.specs.Directory.{fileCount, goodDisc, isDiscLength, lookup}
-use Rattle.disc.specs.Layout.{maxFiles}
-use Rattle.disc.specs.Name.{goodName}
+use Rattle.disc.specs.Directory.{file_count, good_disc, is_disc_length, lookup}
+use Rattle.disc.specs.Layout.{max_files}
+use Rattle.disc.specs.Name.{good_name}
 use Rattle.disc.proofs.Goodness.{good-disc-is}
-use Rattle.store.specs.File.{admission, denyIfFound, goodSize, place_of, sizeLimit, startOr, unless}
+use Rattle.store.specs.File.{admission, deny_if_found, good_size, place_of, size_limit, start_or, unless}
 use Rattle.store.specs.Room.{NoRoom, Placed}
 use Rattle.store.specs.declared.Admission.{Admission}
 use Rattle.store.specs.declared.Admission.TheVariants.{Start, Denied}
@@ -26,9 +26,9 @@ use Rattle.store.proofs.Rooms.{no-place-no-room, place-placed}
 
 -- admitted at start s
 pub record Admitted (disc name : List ℕ) (n s : ℕ) : Type 0 where
-  pub good : goodName name ≡ true
+  pub good : good_name name ≡ true
   pub some : 1 ≤ n
-  pub few : fileCount disc < maxFiles
+  pub few : file_count disc < max_files
   pub new : lookup disc name ≡ Nowhere
   pub found : place_of disc n ≡ At s
 
@@ -43,11 +43,11 @@ zeros-admitted {disc} {name} {n} {s} a = subst⁻¹ (λ (m : ℕ). Admitted disc
 -- what each refusal says where a file is to be stored: "1: a buffer has the wrong length. 2: disc not good.", then
 -- "5 bad name, 6 data length 0 or above 863, 8 ten files already, 7 name exists, 9 no free run long enough", and no other
 abbrev pub Denial : List ℕ → List ℕ → ℕ → Refusal → Type 0
-Denial disc name n WrongLength = isDiscLength (length disc) ≡ false
-Denial disc name n BadDisc = goodDisc disc ≡ false
-Denial disc name n BadName = goodName name ≡ false
-Denial disc name n BadSize = goodSize disc n ≡ false
-Denial disc name n DirectoryFull = maxFiles ≤ fileCount disc
+Denial disc name n WrongLength = is_disc_length (length disc) ≡ false
+Denial disc name n BadDisc = good_disc disc ≡ false
+Denial disc name n BadName = good_name name ≡ false
+Denial disc name n BadSize = good_size disc n ≡ false
+Denial disc name n DirectoryFull = max_files ≤ file_count disc
 Denial disc name n NameExists = (i : ℕ) × (lookup disc name ≡ At i)
 Denial disc name n NoRun = NoRoom disc n
 Denial disc name n ShortOutput = ⊥
@@ -61,22 +61,23 @@ module _ (disc name : List ℕ) (n : ℕ) where
   verdict : Verdict disc name n (admission disc name n)
   unfolding admission
   verdict =
-      go (goodName name) refl (goodSize disc n) refl (ltb (fileCount disc) maxFiles) refl (lookup disc name) refl (place_of disc n) refl
+      go (good_name name) refl (good_size disc n) refl (ltb (file_count disc) max_files) refl (lookup disc name) refl (place_of disc n) refl
     where
-      go : (a : Bool) → goodName name ≡ a → (b : Bool) → goodSize disc n ≡ b → (c : Bool) → ltb (fileCount disc) maxFiles ≡ c → (f : Found)
+      go : (a : Bool) → good_name name ≡ a → (b : Bool) → good_size disc n ≡ b → (c : Bool) → ltb (file_count disc) max_files ≡ c
+          → (f : Found)
           → lookup disc name ≡ f → (g : Found) → place_of disc n ≡ g
           → Verdict disc name n
-          (unless a (Denied BadName) (unless b (Denied BadSize) (unless c (Denied DirectoryFull) (denyIfFound f (startOr g)))))
+          (unless a (Denied BadName) (unless b (Denied BadSize) (unless c (Denied DirectoryFull) (deny_if_found f (start_or g)))))
       go false p b q c r f t g u = p
       go true p false q c r f t g u = q
-      go true p true q false r f t g u = ltb-false (fileCount disc) maxFiles r
+      go true p true q false r f t g u = ltb-false (file_count disc) max_files r
       go true p true q true r (At i) t g u = (i, t)
       go true p true q true r Nowhere t Nowhere u = no-place-no-room disc n u
       go true p true q true r Nowhere t (At s) u =
           record {
             good = p;
-            some = leb-true 1 n (and_left (leb 1 n) (leb n (sizeLimit disc)) q);
-            few = ltb-true (fileCount disc) maxFiles r;
+            some = leb-true 1 n (and_left (leb 1 n) (leb n (size_limit disc)) q);
+            few = ltb-true (file_count disc) max_files r;
             new = t;
             found = u;
           }
@@ -88,5 +89,5 @@ module _ (disc name : List ℕ) (n : ℕ) where
   denied r e = subst (λ (a : Admission). Verdict disc name n a) e verdict
 
   -- refusal 8 only with ten files
-  pub denied-full : goodDisc disc ≡ true → admission disc name n ≡ Denied DirectoryFull → fileCount disc ≡ maxFiles
-  denied-full g e = let full : maxFiles ≤ fileCount disc = denied DirectoryFull e in omega (arith, (good-disc-is disc g).few)
+  pub denied-full : good_disc disc ≡ true → admission disc name n ≡ Denied DirectoryFull → file_count disc ≡ max_files
+  denied-full g e = let full : max_files ≤ file_count disc = denied DirectoryFull e in omega (arith, (good-disc-is disc g).few)

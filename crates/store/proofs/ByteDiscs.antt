@@ -14,13 +14,13 @@ use Rattle.buffer.proofs.ByteLists.{part_bytes, scattered-bytes, take-bytes, wor
 use Rattle.buffer.proofs.Each.{all-each}
 use Rattle.place.specs.Place.{run_from}
 use Rattle.place.specs.declared.Run.{Run}
-use Rattle.disc.specs.Directory.{contents, entry_at, entryBytes, fileCount, isDiscLength, location}
-use Rattle.disc.specs.Layout.{countAt, entrySize, nameSize}
-use Rattle.disc.specs.Name.{goodName, isNameByte, padded}
+use Rattle.disc.specs.Directory.{contents, entry_at, entry_bytes, file_count, is_disc_length, location}
+use Rattle.disc.specs.Layout.{count_at, entry_size, name_size}
+use Rattle.disc.specs.Name.{good_name, is_name_byte, padded}
 use Rattle.disc.specs.declared.Entry.{Entry}
 use Rattle.disc.proofs.Lengths.{disc-bounds}
 use Rattle.disc.proofs.Names.{good-name-is}
-use Rattle.store.specs.File.{entered, erased, newEntry, readAt, stored, writtenAt}
+use Rattle.store.specs.File.{entered, erased, new_entry, read_at, stored, written_at}
 use Rattle.store.proofs.Admissions.{Admitted}
 use Rattle.store.proofs.Invariant.{admitted-small}
 
@@ -31,13 +31,13 @@ pub record ByteEntry (e : Entry) : Type 0 where
   pub len : IsWord e.len
 
 -- Document 01: "A name is 1 to 11 bytes of 33 to 126, zero-filled."
-padded-bytes : (name : List ℕ) → goodName name ≡ true → Bytes (padded name)
+padded-bytes : (name : List ℕ) → good_name name ≡ true → Bytes (padded name)
 padded-bytes name g =
-    filled-bytes name (nameSize - length name)
-    (all-each IsByte isNameByte name (λ b t. omega (arith, leb-true b 126 (and_right (leb 33 b) (leb b 126) t)))
+    filled-bytes name (name_size - length name)
+    (all-each IsByte is_name_byte name (λ b t. omega (arith, leb-true b 126 (and_right (leb 33 b) (leb b 126) t)))
     (good-name-is name g).bytes)
 
-entry-bytes : (e : Entry) → ByteEntry e → Bytes (entryBytes e)
+entry-bytes : (e : Entry) → ByteEntry e → Bytes (entry_bytes e)
 entry-bytes e h =
     append-bytes (e.name ++ word_bytes e.start) (word_bytes e.len)
     (append-bytes e.name (word_bytes e.start) h.name (word-bytes e.start h.start)) (word-bytes e.len h.len)
@@ -46,51 +46,52 @@ module _ (disc : List ℕ) (h : Bytes disc) where
   pub entry-at : (i : ℕ) → ByteEntry (entry_at disc i)
   unfolding entry_at
   entry-at i =
-      let b : Bytes (part disc (i * entrySize) entrySize) = part_bytes disc (i * entrySize) entrySize h in
+      let b : Bytes (part disc (i * entry_size) entry_size) = part_bytes disc (i * entry_size) entry_size h in
       record {
-        name = take-bytes nameSize (part disc (i * entrySize) entrySize) b;
-        start = word-at (part disc (i * entrySize) entrySize) nameSize b;
-        len = word-at (part disc (i * entrySize) entrySize) (nameSize + 2) b;
+        name = take-bytes name_size (part disc (i * entry_size) entry_size) b;
+        start = word-at (part disc (i * entry_size) entry_size) name_size b;
+        len = word-at (part disc (i * entry_size) entry_size) (name_size + 2) b;
       }
 
   pub contents-bytes : (run : Run) → Bytes (contents disc run)
   unfolding contents
   contents-bytes run = gathered-bytes (location disc run) disc run.len h
 
-  pub read-bytes : (run : Run) (offset n : ℕ) → Bytes (readAt disc run offset n)
-  unfolding readAt
+  pub read-bytes : (run : Run) (offset n : ℕ) → Bytes (read_at disc run offset n)
+  unfolding read_at
   read-bytes run offset n = part_bytes (contents disc run) offset n (contents-bytes run)
 
-  pub written-bytes : (run : Run) (offset : ℕ) (bytes : List ℕ) → Bytes bytes → Bytes (writtenAt disc run offset bytes)
-  unfolding writtenAt
+  pub written-bytes : (run : Run) (offset : ℕ) (bytes : List ℕ) → Bytes bytes → Bytes (written_at disc run offset bytes)
+  unfolding written_at
   written-bytes run offset bytes b = scattered-bytes (location disc run) offset disc bytes h b
 
-  pub new-entry : (name : List ℕ) (n s : ℕ) → isDiscLength (length disc) ≡ true → Admitted disc name n s → ByteEntry (newEntry name n s)
+  pub new-entry : (name : List ℕ) (n s : ℕ) → is_disc_length (length disc) ≡ true → Admitted disc name n s → ByteEntry (new_entry name n s)
   new-entry name n s long a =
       let small = admitted-small a (disc-bounds (length disc) long).high in
       record { name = padded-bytes name a.good; start = small.0; len = small.1 }
 
-  entered-bytes : (name : List ℕ) (n s : ℕ) → isDiscLength (length disc) ≡ true → Admitted disc name n s
+  entered-bytes : (name : List ℕ) (n s : ℕ) → is_disc_length (length disc) ≡ true → Admitted disc name n s
       → Bytes (entered disc name n s)
   unfolding entered
   entered-bytes name n s long a =
-      overwrite-bytes (overwrite disc (fileCount disc * entrySize) (entryBytes (newEntry name n s))) countAt ((fileCount disc + 1) ∷ [])
-      (overwrite-bytes disc (fileCount disc * entrySize) (entryBytes (newEntry name n s)) h
-      (entry-bytes (newEntry name n s) (new-entry name n s long a)))
-      (one_byte (fileCount disc + 1) (omega (arith, a.few)))
+      overwrite-bytes (overwrite disc (file_count disc * entry_size) (entry_bytes (new_entry name n s))) count_at
+      ((file_count disc + 1) ∷ [])
+      (overwrite-bytes disc (file_count disc * entry_size) (entry_bytes (new_entry name n s)) h
+      (entry-bytes (new_entry name n s) (new-entry name n s long a)))
+      (one_byte (file_count disc + 1) (omega (arith, a.few)))
 
   pub erased-bytes : (i : ℕ) → Bytes (erased disc i)
-  unfolding erased fileCount
+  unfolding erased file_count
   erased-bytes i =
-      overwrite-bytes (overwrite disc (i * entrySize) (later ++ replicate entrySize 0)) countAt ((fileCount disc - 1) ∷ [])
-      (overwrite-bytes disc (i * entrySize) (later ++ replicate entrySize 0) h
-      (filled-bytes later entrySize (part_bytes disc (i * entrySize + entrySize) ((fileCount disc - 1 - i) * entrySize) h)))
-      (one_byte (fileCount disc - 1) (omega (arith, byte_at disc countAt h)))
+      overwrite-bytes (overwrite disc (i * entry_size) (later ++ replicate entry_size 0)) count_at ((file_count disc - 1) ∷ [])
+      (overwrite-bytes disc (i * entry_size) (later ++ replicate entry_size 0) h
+      (filled-bytes later entry_size (part_bytes disc (i * entry_size + entry_size) ((file_count disc - 1 - i) * entry_size) h)))
+      (one_byte (file_count disc - 1) (omega (arith, byte_at disc count_at h)))
     where
       later : List ℕ
-      later = part disc (i * entrySize + entrySize) ((fileCount disc - 1 - i) * entrySize)
+      later = part disc (i * entry_size + entry_size) ((file_count disc - 1 - i) * entry_size)
 
-pub stored_bytes : (disc : List ℕ) → Bytes disc → (name bytes : List ℕ) (s : ℕ) → isDiscLength (length disc) ≡ true
+pub stored_bytes : (disc : List ℕ) → Bytes disc → (name bytes : List ℕ) (s : ℕ) → is_disc_length (length disc) ≡ true
     → Admitted disc name (length bytes) s → Bytes bytes → Bytes (stored disc name bytes s)
 stored_bytes disc h name bytes s long a b =
     written-bytes (entered disc name (length bytes) s) (entered-bytes disc h name (length bytes) s long a) (run_from s (length bytes)) 0

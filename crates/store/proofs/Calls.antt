@@ -8,9 +8,9 @@ use lib.Dec.{ltb→lt}
 use lib.IntN.{ℤ, pos}
 use lib.ListN.{length}
 use lib.Signed.{◌<ℤ◌}
-use Rattle.disc.specs.Directory.{goodDisc, isDiscLength}
-use Rattle.store.specs.Answer.{Updated, answerNumber, freeSpaceAnswer, storeAnswer, storeAt, updated}
-use Rattle.store.specs.File.{admission, roomOn, stored}
+use Rattle.disc.specs.Directory.{good_disc, is_disc_length}
+use Rattle.store.specs.Answer.{Updated, answer_number, free_space_answer, store_answer, store_at, updated}
+use Rattle.store.specs.File.{admission, room_on, stored}
 use Rattle.store.specs.Room.{HasRoom, NoRoom}
 use Rattle.store.specs.declared.Admission.{Admission}
 use Rattle.store.specs.declared.Admission.TheVariants.{Start, Denied}
@@ -27,7 +27,7 @@ use Rattle.store.proofs.Rooms.{room-on-has, room-on-most}
 pub done-not-below : (n : ℕ) → pos n <ℤ pos 0 → ⊥
 done-not-below n h = let l : n < 0 = ltb→lt n 0 h.lt in omega arith
 
-pub refused-below : (r : Refusal) → answerNumber (Refused r) <ℤ pos 0
+pub refused-below : (r : Refusal) → answer_number (Refused r) <ℤ pos 0
 refused-below WrongLength = record { lt = tt }
 refused-below BadDisc = record { lt = tt }
 refused-below ShortOutput = record { lt = tt }
@@ -38,37 +38,37 @@ refused-below DirectoryFull = record { lt = tt }
 refused-below NoRun = record { lt = tt }
 refused-below NoSuchFile = record { lt = tt }
 
-pub refused-not-done : (r : Refusal) (n : ℕ) → answerNumber (Refused r) ≡ pos n → ⊥
+pub refused-not-done : (r : Refusal) (n : ℕ) → answer_number (Refused r) ≡ pos n → ⊥
 refused-not-done r n e = done-not-below n (subst (λ (z : ℤ). z <ℤ pos 0) e (refused-below r))
 
 -- ---- store by cases: refused, with the disc as it was, or done
 pub store-cases : (disc name bytes : List ℕ) (P : Updated → Type 0)
     → ((r : Refusal) → Denial disc name (length bytes) r → P (updated (Refused r) disc))
-    → ((s : ℕ) → isDiscLength (length disc) ≡ true → goodDisc disc ≡ true → Admitted disc name (length bytes) s
+    → ((s : ℕ) → is_disc_length (length disc) ≡ true → good_disc disc ≡ true → Admitted disc name (length bytes) s
     → P (updated (Done 0) (stored disc name bytes s)))
-    → P (storeAnswer disc name bytes)
-unfolding storeAnswer
+    → P (store_answer disc name bytes)
+unfolding store_answer
 store-cases disc name bytes P refused done =
     by-checks disc P _ _ (refused WrongLength) (refused BadDisc) (go (admission disc name (length bytes)) refl)
   where
-    go : (a : Admission) → admission disc name (length bytes) ≡ a → isDiscLength (length disc) ≡ true → goodDisc disc ≡ true
-        → P (storeAt a disc name bytes)
+    go : (a : Admission) → admission disc name (length bytes) ≡ a → is_disc_length (length disc) ≡ true → good_disc disc ≡ true
+        → P (store_at a disc name bytes)
     go (Denied r) e l g = refused r (denied disc name (length bytes) r e)
     go (Start s) e l g = done s l g (admitted disc name (length bytes) s e)
 
 -- ---- free space
 module _ (disc : List ℕ) (n : ℕ) where
-  free-space-is : freeSpaceAnswer disc ≡ pos n → (isDiscLength (length disc) ≡ true) × (roomOn disc ≡ n)
-  unfolding freeSpaceAnswer
+  free-space-is : free_space_answer disc ≡ pos n → (is_disc_length (length disc) ≡ true) × (room_on disc ≡ n)
+  unfolding free_space_answer
   free-space-is =
-      by-checks disc (λ z. z ≡ pos n → (isDiscLength (length disc) ≡ true) × (roomOn disc ≡ n)) _ _
+      by-checks disc (λ z. z ≡ pos n → (is_disc_length (length disc) ≡ true) × (room_on disc ≡ n)) _ _
       (λ e h. absurd (refused-not-done WrongLength n h))
       (λ e h. absurd (refused-not-done BadDisc n h))
       (λ e f h. (e, cc))
 
   -- a file of that length has room, no longer one has
-  pub free-space-has : freeSpaceAnswer disc ≡ pos n → 0 < n → HasRoom disc n
+  pub free-space-has : free_space_answer disc ≡ pos n → 0 < n → HasRoom disc n
   free-space-has e = subst (λ (k : ℕ). 0 < k → HasRoom disc k) (free-space-is e).1 (room-on-has disc)
 
-  pub free-space-most : freeSpaceAnswer disc ≡ pos n → (m : ℕ) → n < m → NoRoom disc m
+  pub free-space-most : free_space_answer disc ≡ pos n → (m : ℕ) → n < m → NoRoom disc m
   free-space-most e m h = let f = free-space-is e in room-on-most disc f.0 m (omega (arith, f.1))

@@ -17,179 +17,180 @@ use Rattle.buffer.proofs.Parts.{part-of-append-left, part-of-append-right, part-
 use Rattle.buffer.proofs.Scattered.{scattered-before, scattered-byte, scattered-length, scattered-other}
 use Rattle.buffer.proofs.Tables.{tab-without}
 use Rattle.place.specs.declared.Run.{Run}
-use Rattle.disc.specs.Directory.{Held, entry_at, entryBytes, fileCount, files, location}
-use Rattle.disc.specs.Layout.{countAt, dataStart, entrySize, maxFiles, nameSize}
+use Rattle.disc.specs.Directory.{Held, entry_at, entry_bytes, file_count, files, location}
+use Rattle.disc.specs.Layout.{count_at, data_start, entry_size, max_files, name_size}
 use Rattle.disc.proofs.Entries.{entry-bytes-length, entry-laid, same_count, same-entry, same-files}
 use Rattle.disc.proofs.Locations.{held-data, held-distinct}
 use Rattle.disc.proofs.Names.{padded-length}
-use Rattle.store.specs.File.{entered, erased, newEntry, writtenAt}
+use Rattle.store.specs.File.{entered, erased, new_entry, written_at}
 
 -- ---- s laid over entries from place at on, and a new file count
 record DirectoryChange (disc : List ℕ) (at : ℕ) (s : List ℕ) (count : ℕ) (after : List ℕ) : Type 0 where
   same_length : length after ≡ length disc
-  new-count : fileCount after ≡ count
-  parts : (i n : ℕ) → i + n ≤ countAt → part after i n ≡ part (overwrite disc at s) i n
-  same_bytes : (i : ℕ) → (i < at) ⊎ (at + length s ≤ i) → (i ≡ countAt → ⊥) → get_or after i 0 ≡ get_or disc i 0
+  new-count : file_count after ≡ count
+  parts : (i n : ℕ) → i + n ≤ count_at → part after i n ≡ part (overwrite disc at s) i n
+  same-bytes : (i : ℕ) → (i < at) ⊎ (at + length s ≤ i) → (i ≡ count_at → ⊥) → get_or after i 0 ≡ get_or disc i 0
 
-directory-change : (disc s : List ℕ) (at count : ℕ) → at + length s ≤ countAt → dataStart ≤ length disc
-    → DirectoryChange disc at s count (overwrite (overwrite disc at s) countAt (count ∷ []))
-unfolding fileCount
+directory-change : (disc s : List ℕ) (at count : ℕ) → at + length s ≤ count_at → data_start ≤ length disc
+    → DirectoryChange disc at s count (overwrite (overwrite disc at s) count_at (count ∷ []))
+unfolding file_count
 directory-change disc s at count h l =
     let inside : at + length s ≤ length disc = omega arith in
     let same : length (overwrite disc at s) ≡ length disc = overwrite-length disc s at inside in
-    let room : countAt + 1 ≤ length (overwrite disc at s) = omega arith in
+    let room : count_at + 1 ≤ length (overwrite disc at s) = omega arith in
     record {
-      same_length = overwrite-length (overwrite disc at s) (count ∷ []) countAt room ∙ same;
-      new-count = byte_inside (overwrite disc at s) (count ∷ []) countAt room 0 (omega arith);
-      parts = λ i n k. part-before (overwrite disc at s) (count ∷ []) countAt room i n k;
-      same_bytes = λ i o k. byte-but (overwrite disc at s) count i room k
+      same_length = overwrite-length (overwrite disc at s) (count ∷ []) count_at room ∙ same;
+      new-count = byte_inside (overwrite disc at s) (count ∷ []) count_at room 0 (omega arith);
+      parts = λ i n k. part-before (overwrite disc at s) (count ∷ []) count_at room i n k;
+      same-bytes = λ i o k. byte-but (overwrite disc at s) count i room k
           ∙ ⊎_elim (byte-before disc s at inside i) (byte-behind disc s at inside i) o;
     }
   where
-    byte-but : (d : List ℕ) (b i : ℕ) → countAt + 1 ≤ length d → (i ≡ countAt → ⊥)
-        → get_or (overwrite d countAt (b ∷ [])) i 0 ≡ get_or d i 0
-    byte-but d b i room k = go (ltb i countAt) refl
+    byte-but : (d : List ℕ) (b i : ℕ) → count_at + 1 ≤ length d → (i ≡ count_at → ⊥)
+        → get_or (overwrite d count_at (b ∷ [])) i 0 ≡ get_or d i 0
+    byte-but d b i room k = go (ltb i count_at) refl
       where
-        go : (t : Bool) → ltb i countAt ≡ t → get_or (overwrite d countAt (b ∷ [])) i 0 ≡ get_or d i 0
-        go true e = byte-before d (b ∷ []) countAt room i (ltb-true i countAt e)
-        go false e = let m : countAt ≤ i = ltb-false i countAt e in byte-behind d (b ∷ []) countAt room i (omega arith)
+        go : (t : Bool) → ltb i count_at ≡ t → get_or (overwrite d count_at (b ∷ [])) i 0 ≡ get_or d i 0
+        go true e = byte-before d (b ∷ []) count_at room i (ltb-true i count_at e)
+        go false e = let m : count_at ≤ i = ltb-false i count_at e in byte-behind d (b ∷ []) count_at room i (omega arith)
 
 -- ---- a file enters
 -- a directory with room for one more entry, and a name that goes into it
 pub record Room (disc name : List ℕ) : Type 0 where
-  pub low : dataStart ≤ length disc
-  pub few : fileCount disc < maxFiles
-  pub short : length name ≤ nameSize
+  pub low : data_start ≤ length disc
+  pub few : file_count disc < max_files
+  pub short : length name ≤ name_size
 
 module _ {disc name : List ℕ} (n start : ℕ) (room : Room disc name) where
-  entry_length : length (entryBytes (newEntry name n start)) ≡ entrySize
-  entry_length = entry-bytes-length (newEntry name n start) (padded-length name room.short)
+  entry_length : length (entry_bytes (new_entry name n start)) ≡ entry_size
+  entry_length = entry-bytes-length (new_entry name n start) (padded-length name room.short)
 
-  entering : DirectoryChange disc (fileCount disc * entrySize) (entryBytes (newEntry name n start)) (fileCount disc + 1)
+  entering : DirectoryChange disc (file_count disc * entry_size) (entry_bytes (new_entry name n start)) (file_count disc + 1)
       (entered disc name n start)
   unfolding entered
-  entering = directory-change disc (entryBytes (newEntry name n start)) (fileCount disc * entrySize) (fileCount disc + 1)
+  entering = directory-change disc (entry_bytes (new_entry name n start)) (file_count disc * entry_size) (file_count disc + 1)
       (omega (arith, entry_length)) room.low
 
   pub entered-length : length (entered disc name n start) ≡ length disc
   entered-length = entering.same_length
 
-  pub entered-count : fileCount (entered disc name n start) ≡ fileCount disc + 1
+  pub entered-count : file_count (entered disc name n start) ≡ file_count disc + 1
   entered-count = entering.new-count
 
-  pub entered-data : (j : ℕ) → dataStart ≤ j → get_or (entered disc name n start) j 0 ≡ get_or disc j 0
-  entered-data j h = entering.same_bytes j (inr (omega (arith, entry_length, room.few))) (λ e. omega arith)
+  pub entered-data : (j : ℕ) → data_start ≤ j → get_or (entered disc name n start) j 0 ≡ get_or disc j 0
+  entered-data j h = entering.same-bytes j (inr (omega (arith, entry_length, room.few))) (λ e. omega arith)
 
   -- every byte but the new entry's sixteen and the count is as it was
-  pub entered-byte : (i : ℕ) → (i < fileCount disc * entrySize) ⊎ (fileCount disc * entrySize + entrySize ≤ i) → (i ≡ countAt → ⊥)
+  pub entered-byte : (i : ℕ) → (i < file_count disc * entry_size) ⊎ (file_count disc * entry_size + entry_size ≤ i) → (i ≡ count_at → ⊥)
       → get_or (entered disc name n start) i 0 ≡ get_or disc i 0
-  entered-byte i o k = entering.same_bytes i (rw entry_length o) k
+  entered-byte i o k = entering.same-bytes i (rw entry_length o) k
 
-  pub entered-new : entry_at (entered disc name n start) (fileCount disc) ≡ newEntry name n start
+  pub entered-new : entry_at (entered disc name n start) (file_count disc) ≡ new_entry name n start
   entered-new =
-      same-entry (entered disc name n start) (overwrite disc (fileCount disc * entrySize) (entryBytes (newEntry name n start)))
-      (fileCount disc) (fileCount disc) (entering.parts (fileCount disc * entrySize) entrySize (omega arith))
-      ∙ entry-laid disc (fileCount disc) (newEntry name n start) (padded-length name room.short) (omega arith)
+      same-entry (entered disc name n start) (overwrite disc (file_count disc * entry_size) (entry_bytes (new_entry name n start)))
+      (file_count disc) (file_count disc) (entering.parts (file_count disc * entry_size) entry_size (omega arith))
+      ∙ entry-laid disc (file_count disc) (new_entry name n start) (padded-length name room.short) (omega arith)
 
-  pub entered-old : (i : ℕ) → i < fileCount disc → entry_at (entered disc name n start) i ≡ entry_at disc i
+  pub entered-old : (i : ℕ) → i < file_count disc → entry_at (entered disc name n start) i ≡ entry_at disc i
   entered-old i k =
       same-entry (entered disc name n start) disc i i
-      (entering.parts (i * entrySize) entrySize (omega arith)
-      ∙ part-before disc (entryBytes (newEntry name n start)) (fileCount disc * entrySize) (omega (arith, entry_length)) (i * entrySize)
-      entrySize (omega arith))
+      (entering.parts (i * entry_size) entry_size (omega arith)
+      ∙ part-before disc (entry_bytes (new_entry name n start)) (file_count disc * entry_size) (omega (arith, entry_length))
+      (i * entry_size)
+      entry_size (omega arith))
 
-  pub entered-files : files (entered disc name n start) ≡ files disc ++ (newEntry name n start ∷ [])
+  pub entered-files : files (entered disc name n start) ≡ files disc ++ (new_entry name n start ∷ [])
   entered-files =
       ap (tab (entry_at (entered disc name n start))) entered-count
-      ∙ tab-more (entry_at (entered disc name n start)) (fileCount disc)
-      ∙ rw (entered-new, tab-same (entry_at (entered disc name n start)) (entry_at disc) (fileCount disc) entered-old)
+      ∙ tab-more (entry_at (entered disc name n start)) (file_count disc)
+      ∙ rw (entered-new, tab-same (entry_at (entered disc name n start)) (entry_at disc) (file_count disc) entered-old)
 
 -- ---- a file goes
 -- the directory has a file at place i
 pub record Present (disc : List ℕ) (i : ℕ) : Type 0 where
-  pub low : dataStart ≤ length disc
-  pub few : fileCount disc ≤ maxFiles
-  pub inside : i < fileCount disc
+  pub low : data_start ≤ length disc
+  pub few : file_count disc ≤ max_files
+  pub inside : i < file_count disc
 
 module _ {disc : List ℕ} {i : ℕ} (file : Present disc i) where
   later : List ℕ
-  later = part disc (i * entrySize + entrySize) ((fileCount disc - 1 - i) * entrySize)
+  later = part disc (i * entry_size + entry_size) ((file_count disc - 1 - i) * entry_size)
 
-  later-length : length later ≡ (fileCount disc - 1 - i) * entrySize
+  later-length : length later ≡ (file_count disc - 1 - i) * entry_size
   unfolding later
-  later-length = part_length disc (i * entrySize + entrySize) ((fileCount disc - 1 - i) * entrySize) (omega arith)
+  later-length = part_length disc (i * entry_size + entry_size) ((file_count disc - 1 - i) * entry_size) (omega arith)
 
-  moved_length : i * entrySize + length (later ++ replicate entrySize 0) ≡ fileCount disc * entrySize
-  moved_length = omega (arith, length-append later (replicate entrySize 0), later-length)
+  moved_length : i * entry_size + length (later ++ replicate entry_size 0) ≡ file_count disc * entry_size
+  moved_length = omega (arith, length-append later (replicate entry_size 0), later-length)
 
-  erasing : DirectoryChange disc (i * entrySize) (later ++ replicate entrySize 0) (fileCount disc - 1) (erased disc i)
+  erasing : DirectoryChange disc (i * entry_size) (later ++ replicate entry_size 0) (file_count disc - 1) (erased disc i)
   unfolding erased later
   erasing =
-      directory-change disc (later ++ replicate entrySize 0) (i * entrySize) (fileCount disc - 1) (omega (arith, moved_length)) file.low
+      directory-change disc (later ++ replicate entry_size 0) (i * entry_size) (file_count disc - 1) (omega (arith, moved_length)) file.low
 
   pub erased-length : length (erased disc i) ≡ length disc
   erased-length = erasing.same_length
 
-  pub erased-count : fileCount (erased disc i) ≡ fileCount disc - 1
+  pub erased-count : file_count (erased disc i) ≡ file_count disc - 1
   erased-count = erasing.new-count
 
-  pub erased-data : (j : ℕ) → dataStart ≤ j → get_or (erased disc i) j 0 ≡ get_or disc j 0
+  pub erased-data : (j : ℕ) → data_start ≤ j → get_or (erased disc i) j 0 ≡ get_or disc j 0
   erased-data j h = erasing.same_bytes j (inr (omega (arith, moved_length, file.few))) (λ e. omega arith)
 
   -- every byte but the count and those from the erased entry to the last is as it was
-  pub erased-byte : (j : ℕ) → (j < i * entrySize) ⊎ (fileCount disc * entrySize ≤ j) → (j ≡ countAt → ⊥)
+  pub erased-byte : (j : ℕ) → (j < i * entry_size) ⊎ (file_count disc * entry_size ≤ j) → (j ≡ count_at → ⊥)
       → get_or (erased disc i) j 0 ≡ get_or disc j 0
   erased-byte j o k = erasing.same_bytes j (rw moved_length o) k
 
   -- a part of what moved up
-  moved : (at n : ℕ) → at + n ≤ (fileCount disc - i) * entrySize
-      → part (erased disc i) (i * entrySize + at) n ≡ part (later ++ replicate entrySize 0) at n
+  moved : (at n : ℕ) → at + n ≤ (file_count disc - i) * entry_size
+      → part (erased disc i) (i * entry_size + at) n ≡ part (later ++ replicate entry_size 0) at n
   moved at n k =
-      erasing.parts (i * entrySize + at) n (omega arith)
-      ∙ part-inside disc (later ++ replicate entrySize 0) (i * entrySize) (omega (arith, moved_length)) at n (omega (arith, moved_length))
+      erasing.parts (i * entry_size + at) n (omega arith)
+      ∙ part-inside disc (later ++ replicate entry_size 0) (i * entry_size) (omega (arith, moved_length)) at n (omega (arith, moved_length))
 
-  pub erased-vacated : part (erased disc i) ((fileCount disc - 1) * entrySize) entrySize ≡ replicate entrySize 0
+  pub erased-vacated : part (erased disc i) ((file_count disc - 1) * entry_size) entry_size ≡ replicate entry_size 0
   erased-vacated =
-      let q : i * entrySize + (length later + 0) ≡ (fileCount disc - 1) * entrySize = omega (arith, later-length) in
-      ap (λ (a : ℕ). part (erased disc i) a entrySize) (sym q)
-      ∙ moved (length later + 0) entrySize (omega (arith, later-length))
-      ∙ part-of-append-right later (replicate entrySize 0) 0 entrySize
+      let q : i * entry_size + (length later + 0) ≡ (file_count disc - 1) * entry_size = omega (arith, later-length) in
+      ap (λ (a : ℕ). part (erased disc i) a entry_size) (sym q)
+      ∙ moved (length later + 0) entry_size (omega (arith, later-length))
+      ∙ part-of-append-right later (replicate entry_size 0) 0 entry_size
 
   pub erased-earlier : (j : ℕ) → j < i → entry_at (erased disc i) j ≡ entry_at disc j
   erased-earlier j k =
       same-entry (erased disc i) disc j j
-      (erasing.parts (j * entrySize) entrySize (omega arith)
-      ∙ part-before disc (later ++ replicate entrySize 0) (i * entrySize) (omega (arith, moved_length)) (j * entrySize) entrySize
+      (erasing.parts (j * entry_size) entry_size (omega arith)
+      ∙ part-before disc (later ++ replicate entry_size 0) (i * entry_size) (omega (arith, moved_length)) (j * entry_size) entry_size
       (omega arith))
 
   -- what lay behind the erased entry lies sixteen bytes before where it was
-  moved_up : (at n : ℕ) → i * entrySize ≤ at → at + n ≤ (fileCount disc - 1) * entrySize
-      → part (erased disc i) at n ≡ part disc (at + entrySize) n
+  moved_up : (at n : ℕ) → i * entry_size ≤ at → at + n ≤ (file_count disc - 1) * entry_size
+      → part (erased disc i) at n ≡ part disc (at + entry_size) n
   unfolding later
   moved_up at n a b =
-      let p : i * entrySize + (at - i * entrySize) ≡ at = omega arith in
-      let q : i * entrySize + entrySize + (at - i * entrySize) ≡ at + entrySize = omega arith in
+      let p : i * entry_size + (at - i * entry_size) ≡ at = omega arith in
+      let q : i * entry_size + entry_size + (at - i * entry_size) ≡ at + entry_size = omega arith in
       ap (λ (x : ℕ). part (erased disc i) x n) (sym p)
-      ∙ moved (at - i * entrySize) n (omega arith)
-      ∙ part-of-append-left later (replicate entrySize 0) (at - i * entrySize) n (omega (arith, later-length))
-      ∙ part-of-part disc (i * entrySize + entrySize) ((fileCount disc - 1 - i) * entrySize) (at - i * entrySize) n (omega arith)
+      ∙ moved (at - i * entry_size) n (omega arith)
+      ∙ part-of-append-left later (replicate entry_size 0) (at - i * entry_size) n (omega (arith, later-length))
+      ∙ part-of-part disc (i * entry_size + entry_size) ((file_count disc - 1 - i) * entry_size) (at - i * entry_size) n (omega arith)
       ∙ ap (λ (x : ℕ). part disc x n) q
 
-  pub erased-moved : (j : ℕ) → i * entrySize ≤ j → j < (fileCount disc - 1) * entrySize
-      → get_or (erased disc i) j 0 ≡ get_or disc (j + entrySize) 0
-  erased-moved j a b = byte-of-part (erased disc i) disc j (j + entrySize) (moved_up j 1 a (omega arith))
+  pub erased-moved : (j : ℕ) → i * entry_size ≤ j → j < (file_count disc - 1) * entry_size
+      → get_or (erased disc i) j 0 ≡ get_or disc (j + entry_size) 0
+  erased-moved j a b = byte-of-part (erased disc i) disc j (j + entry_size) (moved_up j 1 a (omega arith))
 
-  pub erased-later : (j : ℕ) → i ≤ j → j < fileCount disc - 1 → entry_at (erased disc i) j ≡ entry_at disc (suc j)
+  pub erased-later : (j : ℕ) → i ≤ j → j < file_count disc - 1 → entry_at (erased disc i) j ≡ entry_at disc (suc j)
   erased-later j a b =
-      let q : j * entrySize + entrySize ≡ suc j * entrySize = omega arith in
+      let q : j * entry_size + entry_size ≡ suc j * entry_size = omega arith in
       same-entry (erased disc i) disc j (suc j)
-      (moved_up (j * entrySize) entrySize (omega arith) (omega arith) ∙ ap (λ (x : ℕ). part disc x entrySize) q)
+      (moved_up (j * entry_size) entry_size (omega arith) (omega arith) ∙ ap (λ (x : ℕ). part disc x entry_size) q)
 
-  pub erased-to : (j : ℕ) → j < fileCount disc → (j ≡ i → ⊥) → (k : ℕ) × (k < fileCount (erased disc i))
+  pub erased-to : (j : ℕ) → j < file_count disc → (j ≡ i → ⊥) → (k : ℕ) × (k < file_count (erased disc i))
       × (entry_at (erased disc i) k ≡ entry_at disc j)
   erased-to j b n = go (ltb j i) refl
     where
-      go : (t : Bool) → ltb j i ≡ t → (k : ℕ) × (k < fileCount (erased disc i)) × (entry_at (erased disc i) k ≡ entry_at disc j)
+      go : (t : Bool) → ltb j i ≡ t → (k : ℕ) × (k < file_count (erased disc i)) × (entry_at (erased disc i) k ≡ entry_at disc j)
       go true e = let l : j < i = ltb-true j i e in (j, omega (arith, erased-count), erased-earlier j l)
       go false e =
           let l : i ≤ j = ltb-false j i e in
@@ -199,9 +200,9 @@ module _ {disc : List ℕ} {i : ℕ} (file : Present disc i) where
 
   pub erased-files : files (erased disc i) ≡ without i (files disc)
   erased-files =
-      let q : suc (fileCount disc - 1) ≡ fileCount disc = omega arith in
+      let q : suc (file_count disc - 1) ≡ file_count disc = omega arith in
       ap (tab (entry_at (erased disc i))) erased-count
-      ∙ tab-without (entry_at disc) (entry_at (erased disc i)) i (fileCount disc - 1) (omega arith) erased-earlier erased-later
+      ∙ tab-without (entry_at disc) (entry_at (erased disc i)) i (file_count disc - 1) (omega arith) erased-earlier erased-later
       ∙ ap (λ (m : ℕ). without i (tab (entry_at disc) m)) q
 
 -- ---- bytes are written inside a file
@@ -211,34 +212,34 @@ pub record Inside (disc : List ℕ) (run : Run) (offset n : ℕ) : Type 0 where
   pub fits : offset + n ≤ run.len
 
 module _ {disc : List ℕ} {run : Run} {offset : ℕ} (bytes : List ℕ) (inside : Inside disc run offset (length bytes)) where
-  pub written-length : length (writtenAt disc run offset bytes) ≡ length disc
-  unfolding writtenAt
+  pub written-length : length (written_at disc run offset bytes) ≡ length disc
+  unfolding written_at
   written-length = scattered-length (location disc run) offset disc bytes
 
-  pub written-directory : take dataStart (writtenAt disc run offset bytes) ≡ take dataStart disc
-  unfolding writtenAt
+  pub written-directory : take data_start (written_at disc run offset bytes) ≡ take data_start disc
+  unfolding written_at
   written-directory =
-      scattered-before (location disc run) offset disc bytes dataStart
+      scattered-before (location disc run) offset disc bytes data_start
       (λ k h. held-data inside.held (offset + k) (omega (arith, inside.fits)))
 
-  pub written_count : fileCount (writtenAt disc run offset bytes) ≡ fileCount disc
-  written_count = same_count (writtenAt disc run offset bytes) disc written-directory
+  pub written_count : file_count (written_at disc run offset bytes) ≡ file_count disc
+  written_count = same_count (written_at disc run offset bytes) disc written-directory
 
-  pub written-files : fileCount disc ≤ maxFiles → files (writtenAt disc run offset bytes) ≡ files disc
-  written-files few = same-files (writtenAt disc run offset bytes) disc written-directory few
+  pub written-files : file_count disc ≤ max_files → files (written_at disc run offset bytes) ≡ files disc
+  written-files few = same-files (written_at disc run offset bytes) disc written-directory few
 
-  pub written_entry : (i : ℕ) → i < maxFiles → entry_at (writtenAt disc run offset bytes) i ≡ entry_at disc i
-  written_entry i h = same-entry (writtenAt disc run offset bytes) disc i i
-      (same-part (writtenAt disc run offset bytes) disc dataStart (i * entrySize) entrySize written-directory (omega arith))
+  pub written_entry : (i : ℕ) → i < max_files → entry_at (written_at disc run offset bytes) i ≡ entry_at disc i
+  written_entry i h = same-entry (written_at disc run offset bytes) disc i i
+      (same-part (written_at disc run offset bytes) disc data_start (i * entry_size) entry_size written-directory (omega arith))
 
   -- each byte lies at its place, and every other byte of the disc stays
   pub written-there : (i : ℕ) → i < length bytes
-      → get_or (writtenAt disc run offset bytes) (location disc run (offset + i)) 0 ≡ get_or bytes i 0
-  unfolding writtenAt
+      → get_or (written_at disc run offset bytes) (location disc run (offset + i)) 0 ≡ get_or bytes i 0
+  unfolding written_at
   written-there i h =
       scattered-byte (location disc run) run.len offset disc bytes (held-distinct inside.held) inside.fits i h
 
   pub written-other : (j : ℕ) → ((i : ℕ) → i < length bytes → j ≡ location disc run (offset + i) → ⊥)
-      → get_or (writtenAt disc run offset bytes) j 0 ≡ get_or disc j 0
-  unfolding writtenAt
+      → get_or (written_at disc run offset bytes) j 0 ≡ get_or disc j 0
+  unfolding written_at
   written-other j o = scattered-other (location disc run) offset disc bytes j o

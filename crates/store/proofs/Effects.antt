@@ -11,11 +11,11 @@ use Rattle.buffer.specs.declared.Found.TheVariants.{At}
 use Rattle.buffer.proofs.Buffer.{overwrite-whole}
 use Rattle.place.specs.Place.{run_from}
 use Rattle.place.specs.declared.Run.{Run}
-use Rattle.disc.specs.Directory.{contents, entry_at, fileCount, goodDisc, location, lookup, runOf}
-use Rattle.disc.specs.Layout.{countAt, entrySize}
+use Rattle.disc.specs.Directory.{contents, entry_at, file_count, good_disc, location, lookup, run_of}
+use Rattle.disc.specs.Layout.{count_at, entry_size}
 use Rattle.disc.specs.declared.Entry.{Entry}
 use Rattle.disc.proofs.Locations.{location-kept}
-use Rattle.store.specs.File.{entered, newEntry, stored, writtenAt}
+use Rattle.store.specs.File.{entered, new_entry, stored, written_at}
 use Rattle.store.proofs.Admissions.{Admitted}
 use Rattle.store.proofs.Changes.{Inside, entered-byte, entered-count, entered-length, entered-new, entered-old, written_count}
 use Rattle.store.proofs.Changes.{written_entry, written-length, written-other}
@@ -24,8 +24,8 @@ use Rattle.store.proofs.Invariant.{entered-good, room, written-good}
 use Rattle.store.proofs.LookupChanges.{entered-found, written-lookup}
 
 -- ---- the disc of a store that is done
-module _ {disc name : List ℕ} {s : ℕ} (bytes : List ℕ) (good : goodDisc disc ≡ true) (a : Admitted disc name (length bytes) s) where
-  well : goodDisc (entered disc name (length bytes) s) ≡ true
+module _ {disc name : List ℕ} {s : ℕ} (bytes : List ℕ) (good : good_disc disc ≡ true) (a : Admitted disc name (length bytes) s) where
+  well : good_disc (entered disc name (length bytes) s) ≡ true
   well = entered-good a good
 
   -- the new file is one of the disc's once it has entered
@@ -34,25 +34,25 @@ module _ {disc name : List ℕ} {s : ℕ} (bytes : List ℕ) (good : goodDisc di
     held = record {
       sound = well;
       file = record {
-        place = fileCount disc;
+        place = file_count disc;
         inside = omega (arith, entered-count (length bytes) s (room a));
-        run_is = sym (ap runOf (entered-new (length bytes) s (room a)));
+        run_is = sym (ap run_of (entered-new (length bytes) s (room a)));
       };
     };
     fits = omega arith;
   }
 
-  pub stored-good : goodDisc (stored disc name bytes s) ≡ true
+  pub stored-good : good_disc (stored disc name bytes s) ≡ true
   stored-good = written-good bytes inside
 
   pub stored-length : length (stored disc name bytes s) ≡ length disc
   stored-length = written-length bytes inside ∙ entered-length (length bytes) s (room a)
 
-  pub stored-found : lookup (stored disc name bytes s) name ≡ At (fileCount disc)
+  pub stored-found : lookup (stored disc name bytes s) name ≡ At (file_count disc)
   stored-found = written-lookup bytes inside name ∙ entered-found good a
 
-  pub stored-new : entry_at (stored disc name bytes s) (fileCount disc) ≡ newEntry name (length bytes) s
-  stored-new = written_entry bytes inside (fileCount disc) a.few ∙ entered-new (length bytes) s (room a)
+  pub stored-new : entry_at (stored disc name bytes s) (file_count disc) ≡ new_entry name (length bytes) s
+  stored-new = written_entry bytes inside (file_count disc) a.few ∙ entered-new (length bytes) s (room a)
 
   pub stored-data : contents (stored disc name bytes s) (run_from s (length bytes)) ≡ bytes
   stored-data =
@@ -60,11 +60,11 @@ module _ {disc name : List ℕ} {s : ℕ} (bytes : List ℕ) (good : goodDisc di
       ∙ overwrite-whole (contents (entered disc name (length bytes) s) (run_from s (length bytes))) bytes
       (contents-length (entered disc name (length bytes) s) (run_from s (length bytes)))
 
-  pub stored-count : fileCount (stored disc name bytes s) ≡ fileCount disc + 1
+  pub stored-count : file_count (stored disc name bytes s) ≡ file_count disc + 1
   stored-count = written_count bytes inside ∙ entered-count (length bytes) s (room a)
 
   -- every byte but the new entry's sixteen, the count and the data is as it was
-  pub stored-byte : (j : ℕ) → (j ≡ countAt → ⊥) → (j < fileCount disc * entrySize) ⊎ (fileCount disc * entrySize + entrySize ≤ j)
+  pub stored-byte : (j : ℕ) → (j ≡ count_at → ⊥) → (j < file_count disc * entry_size) ⊎ (file_count disc * entry_size + entry_size ≤ j)
       → ((i : ℕ) → i < length bytes → j ≡ location (stored disc name bytes s) (run_from s (length bytes)) i → ⊥)
       → get_or (stored disc name bytes s) j 0 ≡ get_or disc j 0
   stored-byte j k e o =
@@ -73,18 +73,19 @@ module _ {disc name : List ℕ} {s : ℕ} (bytes : List ℕ) (good : goodDisc di
       ∙ location-kept (entered disc name (length bytes) s) (stored disc name bytes s) (run_from s (length bytes)) i))
       ∙ entered-byte (length bytes) s (room a) j e k
 
-  pub stored-old : (i : ℕ) → i < fileCount disc → entry_at (stored disc name bytes s) i ≡ entry_at disc i
+  pub stored-old : (i : ℕ) → i < file_count disc → entry_at (stored disc name bytes s) i ≡ entry_at disc i
   stored-old i h = written_entry bytes inside i (omega (arith, a.few)) ∙ entered-old (length bytes) s (room a) i h
 
-  pub stored-contents : (i : ℕ) → i < fileCount disc
-      → contents (stored disc name bytes s) (runOf (entry_at disc i)) ≡ contents disc (runOf (entry_at disc i))
+  pub stored-contents : (i : ℕ) → i < file_count disc
+      → contents (stored disc name bytes s) (run_of (entry_at disc i)) ≡ contents disc (run_of (entry_at disc i))
   stored-contents i h =
       let before = entered disc name (length bytes) s in
       let count = entered-count (length bytes) s (room a) in
-      let new : runOf (entry_at before (fileCount disc)) ≡ run_from s (length bytes) = ap runOf (entered-new (length bytes) s (room a)) in
+      let new : run_of (entry_at before (file_count disc))
+      ≡ run_from s (length bytes) = ap run_of (entered-new (length bytes) s (room a)) in
       let old : entry_at before i ≡ entry_at disc i = entered-old (length bytes) s (room a) i h in
-      (λ z. contents (writtenAt before (sym new z) 0 bytes) (runOf (sym old z)))
-      ∙ written-other-file before well i (omega (arith, count)) (fileCount disc) 0 bytes (omega (arith, count)) (λ q. omega arith)
+      (λ z. contents (written_at before (sym new z) 0 bytes) (run_of (sym old z)))
+      ∙ written-other-file before well i (omega (arith, count)) (file_count disc) 0 bytes (omega (arith, count)) (λ q. omega arith)
       (omega (arith, ap (λ (r : Run). r.len) new))
-      ∙ ap (λ (e : Entry). contents before (runOf e)) old
+      ∙ ap (λ (e : Entry). contents before (run_of e)) old
       ∙ entered-contents disc good i h (length bytes) s (room a)

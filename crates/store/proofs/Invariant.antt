@@ -9,14 +9,14 @@ use Rattle.buffer.proofs.Tables.{all_map, all-tab-at, all-tab-each}
 use Rattle.place.specs.Place.{apart, run_from}
 use Rattle.place.specs.declared.Run.{Run}
 use Rattle.place.proofs.Place.{Fits, apart-sym}
-use Rattle.disc.specs.Directory.{beside, entry_at, fileCount, files, goodDisc, runOf, taken}
-use Rattle.disc.specs.Layout.{dataStart}
+use Rattle.disc.specs.Directory.{beside, entry_at, file_count, files, good_disc, run_of, taken}
+use Rattle.disc.specs.Layout.{data_start}
 use Rattle.disc.proofs.Goodness.{Beside, GoodEntry, good-disc-is, good-entry-at, good-files-less, good-files-more, is-beside}
 use Rattle.disc.proofs.Goodness.{is-good-disc, is-good-entry}
 use Rattle.disc.proofs.Locations.{file-held}
 use Rattle.disc.proofs.Lookups.{lookup-none}
 use Rattle.disc.proofs.Names.{good-name-is, padded-good}
-use Rattle.store.specs.File.{entered, erased, newEntry, writtenAt}
+use Rattle.store.specs.File.{entered, erased, new_entry, written_at}
 use Rattle.store.proofs.Admissions.{Admitted}
 use Rattle.store.proofs.Changes.{Inside, Present, Room, entered-count, entered-files, entered-length, erased-count, erased-files}
 use Rattle.store.proofs.Changes.{erased-length, written_count, written-files, written-length}
@@ -24,7 +24,7 @@ use Rattle.store.proofs.Rooms.{found-fits}
 
 -- ---- what enters
 module _ {disc name : List ℕ} {n s : ℕ} (a : Admitted disc name n s) where
-  pub placed : Fits (taken disc) dataStart (length disc) n s
+  pub placed : Fits (taken disc) data_start (length disc) n s
   placed = found-fits disc n s a.found
 
   -- place and length fit 16 bits
@@ -38,39 +38,39 @@ module _ {disc name : List ℕ} {n s : ℕ} (a : Admitted disc name n s) where
     short = omega (arith, (good-name-is name a.good).short);
   }
 
-  pub new-entry-good : GoodEntry (length disc) (newEntry name n s)
+  pub new-entry-good : GoodEntry (length disc) (new_entry name n s)
   new-entry-good = record { field = padded-good name a.good; some = a.some; low = placed.low; high = placed.high }
 
-  pub new-entry-beside : (i : ℕ) → i < fileCount disc → Beside (entry_at disc i) (newEntry name n s)
+  pub new-entry-beside : (i : ℕ) → i < file_count disc → Beside (entry_at disc i) (new_entry name n s)
   new-entry-beside i h =
       record {
         differ = λ q. lookup-none a.new (record { good = a.good; inside = h; held = q });
-        clear = apart-sym (run_from s n) (runOf (entry_at disc i))
-            (all-tab-at (entry_at disc) (fileCount disc) (λ e. apart (run_from s n) (runOf e)) i h
-            (sym (all_map (apart (run_from s n)) runOf (files disc)) ∙ placed.free));
+        clear = apart-sym (run_from s n) (run_of (entry_at disc i))
+            (all-tab-at (entry_at disc) (file_count disc) (λ e. apart (run_from s n) (run_of e)) i h
+            (sym (all_map (apart (run_from s n)) run_of (files disc)) ∙ placed.free));
       }
 
-  pub entered-good : goodDisc disc ≡ true → goodDisc (entered disc name n s) ≡ true
+  pub entered-good : good_disc disc ≡ true → good_disc (entered disc name n s) ≡ true
   entered-good good =
       is-good-disc (entered disc name n s)
       (record {
         few = omega (arith, entered-count n s room, a.few);
         entries =
             rw (entered-length n s room, entered-files n s room)
-            (good-files-more (length disc) (files disc) (newEntry name n s) (good-disc-is disc good).entries
-            (is-good-entry (length disc) (newEntry name n s) new-entry-good)
-            (all-tab-each (entry_at disc) (fileCount disc) (λ e. beside e (newEntry name n s))
-            (λ i h. is-beside (entry_at disc i) (newEntry name n s) (new-entry-beside i h))));
+            (good-files-more (length disc) (files disc) (new_entry name n s) (good-disc-is disc good).entries
+            (is-good-entry (length disc) (new_entry name n s) new-entry-good)
+            (all-tab-each (entry_at disc) (file_count disc) (λ e. beside e (new_entry name n s))
+            (λ i h. is-beside (entry_at disc i) (new_entry name n s) (new-entry-beside i h))));
       })
 
 -- ---- what goes
-module _ (disc : List ℕ) (good : goodDisc disc ≡ true) (i : ℕ) (h : i < fileCount disc) where
+module _ (disc : List ℕ) (good : good_disc disc ≡ true) (i : ℕ) (h : i < file_count disc) where
   pub present : Present disc i
   present =
       let e = good-entry-at disc good i h in
       record { low = omega (arith, e.low, e.high); few = (good-disc-is disc good).few; inside = h }
 
-  pub erased-good : goodDisc (erased disc i) ≡ true
+  pub erased-good : good_disc (erased disc i) ≡ true
   erased-good =
       is-good-disc (erased disc i)
       (record {
@@ -80,14 +80,14 @@ module _ (disc : List ℕ) (good : goodDisc disc ≡ true) (i : ℕ) (h : i < fi
       })
 
   -- ---- what is written, and read, in a file
-  pub file-inside : (offset n : ℕ) → offset + n ≤ (entry_at disc i).len → Inside disc (runOf (entry_at disc i)) offset n
+  pub file-inside : (offset n : ℕ) → offset + n ≤ (entry_at disc i).len → Inside disc (run_of (entry_at disc i)) offset n
   file-inside offset n k = record { held = file-held disc good i h; fits = k }
 
 pub written-good : {disc : List ℕ} {run : Run} {offset : ℕ} (bytes : List ℕ) → Inside disc run offset (length bytes)
-    → goodDisc (writtenAt disc run offset bytes) ≡ true
+    → good_disc (written_at disc run offset bytes) ≡ true
 written-good {disc} {run} {offset} bytes inside =
     let g = good-disc-is disc inside.held.sound in
-    is-good-disc (writtenAt disc run offset bytes)
+    is-good-disc (written_at disc run offset bytes)
     (record {
       few = omega (arith, written_count bytes inside, g.few);
       entries = rw (written-length bytes inside, written-files bytes inside g.few) g.entries;

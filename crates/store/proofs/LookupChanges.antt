@@ -8,31 +8,31 @@ use lib.ListN.{length}
 use Rattle.buffer.specs.Lists.{index}
 use Rattle.buffer.specs.declared.Found.TheVariants.{At}
 use Rattle.place.specs.declared.Run.{Run}
-use Rattle.disc.specs.Directory.{fileCount, goodDisc, lookup, named, nowhereUnless}
-use Rattle.disc.specs.Name.{goodName}
+use Rattle.disc.specs.Directory.{file_count, good_disc, lookup, named, nowhere_unless}
+use Rattle.disc.specs.Name.{good_name}
 use Rattle.disc.specs.declared.Entry.{Entry}
 use Rattle.disc.proofs.Goodness.{good-disc-is}
 use Rattle.disc.proofs.Lookups.{lookup-is}
-use Rattle.store.specs.File.{entered, writtenAt}
+use Rattle.store.specs.File.{entered, written_at}
 use Rattle.store.proofs.Admissions.{Admitted}
 use Rattle.store.proofs.Changes.{Inside, entered-count, entered-new}
 use Rattle.store.proofs.Changes.{written-files}
 use Rattle.store.proofs.Invariant.{entered-good, room}
 
 -- ---- what enters
-module _ {disc name : List ℕ} {n s : ℕ} (good : goodDisc disc ≡ true) (a : Admitted disc name n s) where
-  count : fileCount (entered disc name n s) ≡ fileCount disc + 1
+module _ {disc name : List ℕ} {n s : ℕ} (good : good_disc disc ≡ true) (a : Admitted disc name n s) where
+  count : file_count (entered disc name n s) ≡ file_count disc + 1
   count = entered-count n s (room a)
 
-  pub entered-found : lookup (entered disc name n s) name ≡ At (fileCount disc)
+  pub entered-found : lookup (entered disc name n s) name ≡ At (file_count disc)
   entered-found =
       lookup-is (entered-good a good)
       (record { good = a.good; inside = omega (arith, count); held = ap (λ (x : Entry). x.name) (entered-new n s (room a)) })
 
 -- ---- what is written
 pub written-lookup : {disc : List ℕ} {run : Run} {offset : ℕ} (bytes : List ℕ) → Inside disc run offset (length bytes)
-    → (name : List ℕ) → lookup (writtenAt disc run offset bytes) name ≡ lookup disc name
+    → (name : List ℕ) → lookup (written_at disc run offset bytes) name ≡ lookup disc name
 unfolding lookup
 written-lookup {disc} bytes inside name =
-    ap (λ (es : List Entry). nowhereUnless (goodName name) (index (named name) es))
+    ap (λ (es : List Entry). nowhere_unless (good_name name) (index (named name) es))
     (written-files bytes inside (good-disc-is disc inside.held.sound).few)

@@ -16,59 +16,59 @@ use Rattle.place.specs.ShortestFit.{ShortestFit}
 use Rattle.place.proofs.Place.{Fits, apart-is, fits-is, is-apart, is-fits, longest-bound, longest-fits, longest-most}
 use Rattle.place.proofs.Place.{no-place-none-fits, place-fits}
 use Rattle.place.proofs.ShortestFit.{place-shortest-fit, shortest-fit-as}
-use Rattle.disc.specs.Directory.{entry_at, fileCount, files, isDiscLength, runOf, taken}
-use Rattle.disc.specs.Layout.{dataStart}
+use Rattle.disc.specs.Directory.{entry_at, file_count, files, is_disc_length, run_of, taken}
+use Rattle.disc.specs.Layout.{data_start}
 use Rattle.disc.specs.declared.Entry.{Entry}
 use Rattle.disc.proofs.Lengths.{disc-bounds}
 use Rattle.disc.proofs.Offsets.{entry-size, entry-start}
-use Rattle.store.specs.File.{place_of, roomOn, sizeLimit}
+use Rattle.store.specs.File.{place_of, room_on, size_limit}
 use Rattle.store.specs.Room.{Free, HasRoom, NoRoom, Placed}
 
 -- ---- bytes that are no file's, as the search tests them
 module _ (disc : List ℕ) (n : ℕ) where
   abbrev Clear : ℕ → Entry → Bool
-  Clear s e = apart (run_from s n) (runOf e)
+  Clear s e = apart (run_from s n) (run_of e)
 
   -- before the run of that start and length, or behind it
   abbrev Sides : ℕ → ℕ → ℕ → Type 0
   Sides s start len = (s + n ≤ start) ⊎ (start + len ≤ s)
 
-  fits-free : (s : ℕ) → fits (taken disc) dataStart (length disc) n s ≡ true → Free disc n s
+  fits-free : (s : ℕ) → fits (taken disc) data_start (length disc) n s ≡ true → Free disc n s
   fits-free s t =
-      let f = fits-is (taken disc) dataStart (length disc) n s t in
-      let each : all (Clear s) (files disc) ≡ true = sym (all_map (apart (run_from s n)) runOf (files disc)) ∙ f.free in
+      let f = fits-is (taken disc) data_start (length disc) n s t in
+      let each : all (Clear s) (files disc) ≡ true = sym (all_map (apart (run_from s n)) run_of (files disc)) ∙ f.free in
       record {
         low = f.low;
         high = f.high;
         clear = λ i h. subst₂ (Sides s) (entry-start disc i) (entry-size disc i)
-            (apart-is (run_from s n) (runOf (entry_at disc i)) (all-tab-at (entry_at disc) (fileCount disc) (Clear s) i h each)).sides;
+            (apart-is (run_from s n) (run_of (entry_at disc i)) (all-tab-at (entry_at disc) (file_count disc) (Clear s) i h each)).sides;
       }
 
-  free-fits : (s : ℕ) → Free disc n s → fits (taken disc) dataStart (length disc) n s ≡ true
+  free-fits : (s : ℕ) → Free disc n s → fits (taken disc) data_start (length disc) n s ≡ true
   free-fits s f =
-      is-fits (taken disc) dataStart (length disc) n s
+      is-fits (taken disc) data_start (length disc) n s
       (record {
         low = f.low;
         high = f.high;
         free =
-            all_map (apart (run_from s n)) runOf (files disc)
-            ∙ all-tab-each (entry_at disc) (fileCount disc) (Clear s)
-            (λ i h. is-apart (run_from s n) (runOf (entry_at disc i))
+            all_map (apart (run_from s n)) run_of (files disc)
+            ∙ all-tab-each (entry_at disc) (file_count disc) (Clear s)
+            (λ i h. is-apart (run_from s n) (run_of (entry_at disc i))
             (record { sides = subst₂ (Sides s) (sym (entry-start disc i)) (sym (entry-size disc i)) (f.clear i h) }));
       })
 
-  pub found-fits : (s : ℕ) → place_of disc n ≡ At s → Fits (taken disc) dataStart (length disc) n s
+  pub found-fits : (s : ℕ) → place_of disc n ≡ At s → Fits (taken disc) data_start (length disc) n s
   unfolding place_of
-  found-fits s e = place-fits (taken disc) dataStart (length disc) n s e
+  found-fits s e = place-fits (taken disc) data_start (length disc) n s e
 
   -- ---- what the search says
   pub place-room : (s : ℕ) → place_of disc n ≡ At s → HasRoom disc n
   unfolding HasRoom
-  place-room s e = (s, fits-free s (is-fits (taken disc) dataStart (length disc) n s (found-fits s e)))
+  place-room s e = (s, fits-free s (is-fits (taken disc) data_start (length disc) n s (found-fits s e)))
 
   pub no-place-no-room : place_of disc n ≡ Nowhere → NoRoom disc n
   unfolding place_of HasRoom
-  no-place-no-room e r = true-not-false (free-fits r.0 r.1) (no-place-none-fits (taken disc) dataStart (length disc) n e r.0)
+  no-place-no-room e r = true-not-false (free-fits r.0 r.1) (no-place-none-fits (taken disc) data_start (length disc) n e r.0)
 
   -- ---- what the words mean
   pub placed-shortest : (s : ℕ) → Placed disc n s → ShortestFit (Free disc) n s
@@ -86,40 +86,40 @@ module _ (disc : List ℕ) (n : ℕ) where
 pub place-placed : (disc : List ℕ) (n s : ℕ) → 1 ≤ n → place_of disc n ≡ At s → Placed disc n s
 unfolding Placed place_of
 place-placed disc n s some e =
-    shortest-fit-as (λ m t. fits (taken disc) dataStart (length disc) m t ≡ true) (Free disc) (fits-free disc) (free-fits disc) n s
-    (place-shortest-fit (taken disc) dataStart (length disc) n s some e)
+    shortest-fit-as (λ m t. fits (taken disc) data_start (length disc) m t ≡ true) (Free disc) (fits-free disc) (free-fits disc) n s
+    (place-shortest-fit (taken disc) data_start (length disc) n s some e)
 
 -- ---- free space: a file that long has room, no longer one has
 module _ (disc : List ℕ) where
-  pub room-on-small : roomOn disc ≤ length disc
-  unfolding roomOn
-  room-on-small = omega (arith, longest-bound (taken disc) dataStart (length disc))
+  pub room-on-small : room_on disc ≤ length disc
+  unfolding room_on
+  room-on-small = omega (arith, longest-bound (taken disc) data_start (length disc))
 
-  pub room-on-has : 0 < roomOn disc → HasRoom disc (roomOn disc)
-  unfolding place_of roomOn
-  room-on-has h = go (place_of disc (roomOn disc)) refl
+  pub room-on-has : 0 < room_on disc → HasRoom disc (room_on disc)
+  unfolding place_of room_on
+  room-on-has h = go (place_of disc (room_on disc)) refl
     where
-      some : is_at (place_of disc (roomOn disc)) ≡ true
-      some = longest-fits (taken disc) dataStart (length disc) h
+      some : is_at (place_of disc (room_on disc)) ≡ true
+      some = longest-fits (taken disc) data_start (length disc) h
 
-      go : (f : Found) → place_of disc (roomOn disc) ≡ f → HasRoom disc (roomOn disc)
-      go (At s) q = place-room disc (roomOn disc) s q
+      go : (f : Found) → place_of disc (room_on disc) ≡ f → HasRoom disc (room_on disc)
+      go (At s) q = place-room disc (room_on disc) s q
       go Nowhere q = absurd (true-not-false some (ap is_at q))
 
-  pub room-on-most : isDiscLength (length disc) ≡ true → (m : ℕ) → roomOn disc < m → NoRoom disc m
-  unfolding place_of roomOn
+  pub room-on-most : is_disc_length (length disc) ≡ true → (m : ℕ) → room_on disc < m → NoRoom disc m
+  unfolding place_of room_on
   room-on-most long m h =
-      no-place-no-room disc m (longest-most (taken disc) dataStart (length disc) (disc-bounds (length disc) long).low m h)
+      no-place-no-room disc m (longest-most (taken disc) data_start (length disc) (disc-bounds (length disc) long).low m h)
 
 -- ---- the longest file
-pub size-limit-is : (disc : List ℕ) → sizeLimit disc ≡ length disc - dataStart
-unfolding sizeLimit
+pub size-limit-is : (disc : List ℕ) → size_limit disc ≡ length disc - data_start
+unfolding size_limit
 size-limit-is disc = refl
 
 -- a disc without files has room for it
-pub empty-has-room : (disc : List ℕ) → fileCount disc ≡ 0 → (n : ℕ) → 1 ≤ n → n ≤ sizeLimit disc → HasRoom disc n
+pub empty-has-room : (disc : List ℕ) → file_count disc ≡ 0 → (n : ℕ) → 1 ≤ n → n ≤ size_limit disc → HasRoom disc n
 empty-has-room disc none n some small =
-    free-room disc n dataStart
+    free-room disc n data_start
     (record {
       low = omega arith;
       high = omega (arith, size-limit-is disc);

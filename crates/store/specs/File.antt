@@ -7,9 +7,9 @@ use Rattle.buffer.specs.declared.Found.{Found}
 use Rattle.buffer.specs.declared.Found.TheVariants.{At, Nowhere}
 use Rattle.place.specs.Place.{longest, place, run_from}
 use Rattle.place.specs.declared.Run.{Run}
-use Rattle.disc.specs.Directory.{contents, entryBytes, fileCount, location, lookup, taken}
-use Rattle.disc.specs.Layout.{countAt, dataStart, entrySize, maxFiles}
-use Rattle.disc.specs.Name.{goodName, padded}
+use Rattle.disc.specs.Directory.{contents, entry_bytes, file_count, location, lookup, taken}
+use Rattle.disc.specs.Layout.{count_at, data_start, entry_size, max_files}
+use Rattle.disc.specs.Name.{good_name, padded}
 use Rattle.disc.specs.declared.Entry.{Entry}
 use Rattle.store.specs.declared.Admission.{Admission}
 use Rattle.store.specs.declared.Admission.TheVariants.{Start, Denied}
@@ -21,62 +21,62 @@ unless true refusal rest = rest
 unless false refusal rest = refusal
 
 -- the longest file that a disc can hold: what fits between 161 and its end, "863 or 3,935"
-unfoldable pub sizeLimit : List ℕ → ℕ
-sizeLimit disc = length disc - dataStart
+unfoldable pub size_limit : List ℕ → ℕ
+size_limit disc = length disc - data_start
 
 -- Document 01: "data length 0 or above 863" is refused
-abbrev pub goodSize : List ℕ → ℕ → Bool
-goodSize disc n = leb 1 n && leb n (sizeLimit disc)
+abbrev pub good_size : List ℕ → ℕ → Bool
+good_size disc n = leb 1 n && leb n (size_limit disc)
 
 -- Document 02, Q-10: "at the start of the shortest free run that fits, the lowest of equals"
 unfoldable pub place_of : List ℕ → ℕ → Found
-place_of disc n = place (taken disc) dataStart (length disc) n
+place_of disc n = place (taken disc) data_start (length disc) n
 
 -- Document 01, free space: "the longest free run, however many files there are"
-unfoldable pub roomOn : List ℕ → ℕ
-roomOn disc = longest (taken disc) dataStart (length disc)
+unfoldable pub room_on : List ℕ → ℕ
+room_on disc = longest (taken disc) data_start (length disc)
 
-abbrev pub startOr : Found → Admission
-startOr (At s) = Start s
-startOr Nowhere = Denied NoRun
+abbrev pub start_or : Found → Admission
+start_or (At s) = Start s
+start_or Nowhere = Denied NoRun
 
-abbrev pub denyIfFound : Found → Admission → Admission
-denyIfFound (At i) rest = Denied NameExists
-denyIfFound Nowhere rest = rest
+abbrev pub deny_if_found : Found → Admission → Admission
+deny_if_found (At i) rest = Denied NameExists
+deny_if_found Nowhere rest = rest
 
 -- Document 01: "5 bad name, 6 data length 0 or above 863, 8 ten files already, 7 name exists, 9 no free run long
 -- enough"
 unfoldable pub admission : List ℕ → List ℕ → ℕ → Admission
 admission disc name n =
-    unless (goodName name) (Denied BadName)
-    (unless (goodSize disc n) (Denied BadSize)
-    (unless (ltb (fileCount disc) maxFiles) (Denied DirectoryFull)
-    (denyIfFound (lookup disc name)
-    (startOr (place_of disc n)))))
+    unless (good_name name) (Denied BadName)
+    (unless (good_size disc n) (Denied BadSize)
+    (unless (ltb (file_count disc) max_files) (Denied DirectoryFull)
+    (deny_if_found (lookup disc name)
+    (start_or (place_of disc n)))))
 
-abbrev pub newEntry : List ℕ → ℕ → ℕ → Entry
-newEntry name n start = record { name = padded name; start = start; len = n }
+abbrev pub new_entry : List ℕ → ℕ → ℕ → Entry
+new_entry name n start = record { name = padded name; start = start; len = n }
 
 -- a file of n bytes enters the directory last; its data bytes stay as they are
 unfoldable pub entered : List ℕ → List ℕ → ℕ → ℕ → List ℕ
 entered disc name n start =
-    overwrite (overwrite disc (fileCount disc * entrySize) (entryBytes (newEntry name n start))) countAt
-    ((fileCount disc + 1) ∷ [])
+    overwrite (overwrite disc (file_count disc * entry_size) (entry_bytes (new_entry name n start))) count_at
+    ((file_count disc + 1) ∷ [])
 
 -- Document 01: "Later entries move up, the vacated entry becomes zero, data bytes remain."
 unfoldable pub erased : List ℕ → ℕ → List ℕ
 erased disc i =
-    let later = part disc (i * entrySize + entrySize) ((fileCount disc - 1 - i) * entrySize) in
-    overwrite (overwrite disc (i * entrySize) (later ++ replicate entrySize 0)) countAt ((fileCount disc - 1) ∷ [])
+    let later = part disc (i * entry_size + entry_size) ((file_count disc - 1 - i) * entry_size) in
+    overwrite (overwrite disc (i * entry_size) (later ++ replicate entry_size 0)) count_at ((file_count disc - 1) ∷ [])
 
 -- bytes written at an offset of a file, and n bytes read there
-unfoldable pub writtenAt : List ℕ → Run → ℕ → List ℕ → List ℕ
-writtenAt disc run offset bytes = scattered (location disc run) offset disc bytes
+unfoldable pub written_at : List ℕ → Run → ℕ → List ℕ → List ℕ
+written_at disc run offset bytes = scattered (location disc run) offset disc bytes
 
-unfoldable pub readAt : List ℕ → Run → ℕ → ℕ → List ℕ
-readAt disc run offset n = part (contents disc run) offset n
+unfoldable pub read_at : List ℕ → Run → ℕ → ℕ → List ℕ
+read_at disc run offset n = part (contents disc run) offset n
 
 -- a file of these bytes enters the directory last: what store leaves, and OPEN's new file of zeros
 abbrev pub stored : List ℕ → List ℕ → List ℕ → ℕ → List ℕ
 stored disc name bytes start =
-    writtenAt (entered disc name (length bytes) start) (run_from start (length bytes)) 0 bytes
+    written_at (entered disc name (length bytes) start) (run_from start (length bytes)) 0 bytes

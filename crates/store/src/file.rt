@@ -1,10 +1,10 @@
 // What becomes of files: a new one enters, one goes, bytes are written and read inside one.
 ghost use Rattle.std.specs.Prelude.{◌≡◌, ◌+◌, ◌<◌, ◌≤◌, drop, length};
 ghost use Rattle.buffer.specs.Buffer.{overwrite, part, zeros};
-ghost use Rattle.disc.specs.Directory.{Held, Readable, contents, fileCount};
-ghost use Rattle.disc.specs.Layout.{entrySize};
+ghost use Rattle.disc.specs.Directory.{Held, Readable, contents, file_count};
+ghost use Rattle.disc.specs.Layout.{entry_size};
 ghost use Rattle.disc.specs.Name.{trimmed};
-ghost use Rattle.store.specs.File.{admission, entered, erased, readAt, roomOn, sizeLimit, stored, writtenAt};
+ghost use Rattle.store.specs.File.{admission, entered, erased, read_at, room_on, size_limit, stored, written_at};
 ghost use Rattle.store.specs.declared.Admission.TheVariants.{Start};
 
 use crate::{Admission, Refusal};
@@ -16,7 +16,7 @@ use place::Run;
 // The longest file that the disc can hold.
 pub fn size_limit(disc: &[u8]) -> usize
     requires { Readable disc.now }
-    ensures { result ≡ sizeLimit disc.now }
+    ensures { result ≡ size_limit disc.now }
 {
     disc.len() - DATA_START
 }
@@ -24,7 +24,7 @@ pub fn size_limit(disc: &[u8]) -> usize
 // Document 01, free space: "the longest free run, however many files there are".
 pub fn room_on(disc: &[u8]) -> usize
     requires { Readable disc.now }
-    ensures { result ≡ roomOn disc.now }
+    ensures { result ≡ room_on disc.now }
 {
     let count = disc::directory::file_count(disc);
     let runs = disc::directory::taken_runs(disc);
@@ -86,9 +86,9 @@ pub fn create(disc: &mut [u8], name: &[u8], n: usize, start: usize)
 
 // Moves the n bytes behind the entry at `at` up by one entry.
 fn move_up(disc: &mut [u8], at: usize, n: usize)
-    requires { at + entrySize + n ≤ length disc.old }
+    requires { at + entry_size + n ≤ length disc.old }
     ensures { disc.new ≡ overwrite disc.old at
-        (part disc.old (at + entrySize) n) }
+        (part disc.old (at + entry_size) n) }
 {
     let mut i: usize = 0;
     while i < n {
@@ -100,7 +100,7 @@ fn move_up(disc: &mut [u8], at: usize, n: usize)
 // Document 01: "Later entries move up, the vacated entry becomes zero, data bytes remain."
 pub fn erase_entry(disc: &mut [u8], i: usize)
     requires readable { Readable disc.old }
-    requires i_bound { i < fileCount disc.old }
+    requires i_bound { i < file_count disc.old }
     ensures { disc.new ≡ erased disc.old i }
 {
     let last = disc::directory::file_count(disc) - 1;
@@ -113,7 +113,7 @@ pub fn erase_entry(disc: &mut [u8], i: usize)
 // Writes the bytes at an offset of a file.
 pub fn write_at(disc: &mut [u8], run: Run, offset: usize, bytes: &[u8])
     requires { Held disc.old run × (offset + length bytes.now ≤ run.len) }
-    ensures { disc.new ≡ writtenAt disc.old run offset bytes.now }
+    ensures { disc.new ≡ written_at disc.old run offset bytes.now }
 {
     let start = run.start as usize;
     buffer::bytes::overwrite_at(disc, start + offset, bytes);
@@ -122,7 +122,7 @@ pub fn write_at(disc: &mut [u8], run: Run, offset: usize, bytes: &[u8])
 // Fills out with the bytes at an offset of a file.
 pub fn read_at(disc: &[u8], run: Run, offset: usize, out: &mut [u8])
     requires { Held disc.now run × (offset + length out.old ≤ run.len) }
-    ensures { out.new ≡ readAt disc.now run offset (length out.old) }
+    ensures { out.new ≡ read_at disc.now run offset (length out.old) }
 {
     let start = run.start as usize;
     buffer::bytes::copy_part(out, disc, start + offset);

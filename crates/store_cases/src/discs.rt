@@ -1,6 +1,6 @@
 // The operations by document 01's numbers, as the firmware sees them, and the discs that the cases start from.
 ghost use Rattle.std.specs.Prelude.{◌<◌, ◌≤◌};
-ghost use Rattle.disc.specs.Layout.{maxFiles};
+ghost use Rattle.disc.specs.Layout.{max_files};
 
 use buffer::Found;
 use disc::layout::SHORT_DISC;
@@ -54,7 +54,7 @@ pub fn with_gap() -> [u8; SHORT_DISC] {
 
 // So many files of ten bytes, named a, b, c and so on.
 pub fn with_files(count: u8) -> [u8; SHORT_DISC]
-    requires { count ≤ maxFiles }
+    requires { count ≤ max_files }
 {
     let mut disc = [0u8; SHORT_DISC];
     for i in 0..count {
@@ -74,7 +74,7 @@ pub fn with_garbage() -> [u8; SHORT_DISC] {
 
 // The start that the directory entry at i gives.
 pub fn start_of(disc: [u8; SHORT_DISC], i: usize) -> i32
-    requires { i < maxFiles }
+    requires { i < max_files }
 {
     let entry = disc::directory::entry_at(&disc, i);
     entry.start as i32

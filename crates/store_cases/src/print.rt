@@ -1,6 +1,6 @@
 // Whether bytes are as they must be.
 ghost use Rattle.std.specs.Prelude.{◌+◌, ◌≤◌, length};
-ghost use Rattle.disc.specs.Layout.{shortDisc};
+ghost use Rattle.disc.specs.Layout.{short_disc};
 
 use disc::layout::SHORT_DISC;
 use printing::text;
@@ -14,7 +14,7 @@ pub fn part_line(
     at: usize,
     bytes: &[u8],
 ) -> io::Result<()>
-    requires { at + length bytes.now ≤ shortDisc }
+    requires { at + length bytes.now ≤ short_disc }
 {
     text(rt, label)?;
     let end = at + bytes.len();

@@ -12,18 +12,18 @@ use Rattle.buffer.proofs.Bools.{and_both}
 use Rattle.buffer.proofs.Lists.{all_weaker}
 use Rattle.place.specs.declared.Run.{Run}
 use Rattle.disc.specs.Directory.{Held, files}
-use Rattle.variable.specs.Good.{goodVariable}
-use Rattle.variable.specs.Limits.{valueSize}
+use Rattle.variable.specs.Good.{good_variable}
+use Rattle.variable.specs.Limits.{value_size}
 use Rattle.variable.specs.Table.{owned}
 use Rattle.variable.specs.declared.Variable.{Variable}
 use Rattle.variable.proofs.Goodness.{good-size-bounds, good-variable-is}
-use Rattle.machine.specs.Area.{kernelOf}
+use Rattle.machine.specs.Area.{kernel_of}
 use Rattle.machine.specs.Effect.{Effect}
 use Rattle.machine.specs.Exec.{exec}
-use Rattle.machine.specs.Limits.{areaLength, slotCount, stackSize}
+use Rattle.machine.specs.Limits.{area_length, slot_count, stack_size}
 use Rattle.machine.specs.Refusals.{Passes}
-use Rattle.machine.specs.State.{isLive, isRunning, liveIds, localOf, processAt}
-use Rattle.machine.specs.Turn.{effectAt, program_of}
+use Rattle.machine.specs.State.{is_live, is_running, live_ids, local_of, process_at}
+use Rattle.machine.specs.Turn.{effect_at, program_of}
 use Rattle.machine.specs.declared.Kernel.{Kernel}
 use Rattle.machine.specs.declared.Process.{Process}
 use Rattle.machine.proofs.Changes.Change.{GoodState}
@@ -35,7 +35,7 @@ use Rattle.machine.proofs.Instructions.Executing.{exec-sound}
 use Rattle.machine.proofs.Instructions.Sound.{Asked, Sound}
 use Rattle.instruction.specs.Readable.{Readable, is_held}
 use Rattle.process.specs.Stepping.{stack_of}
-use Rattle.stack.specs.Steps.{Means, about, effectBy, effect_of, keeping}
+use Rattle.stack.specs.Steps.{Means, about, effect_by, effect_of, keeping}
 use Rattle.stack.specs.declared.Action.{Action}
 use Rattle.stack.specs.declared.Action.TheVariants.{Push, Print, Assign, Stop, Fault, Open, Close, Write, Read, ReadString, Fork, Await}
 use Rattle.stack.specs.declared.Step.{Step}
@@ -44,40 +44,41 @@ use Rattle.turn.specs.Turns.{Bounds, Carries}
 use Rattle.turn.proofs.Passing.{area-size, disc-readable, few-variables, next_low, variables-good}
 
 -- a good area's variables lie in memory and are no longer than a stack
-held : (live : List ℕ) (e : Variable) → goodVariable live e ≡ true → is_held e ≡ true
+held : (live : List ℕ) (e : Variable) → good_variable live e ≡ true → is_held e ≡ true
 held live e t =
     let g = good-variable-is live e t in
     let s = good-size-bounds e.kind e.size g.size in
-    let short : e.size ≤ valueSize = omega (arith, s.1) in
+    let short : e.size ≤ value_size = omega (arith, s.1) in
     and_both (le-leb _ _ g.inside) (le-leb _ _ short)
 
 -- what the code learns of the step that a process takes
 abbrev pub Steps : (disc area : List ℕ) (clock : ℕ) → Process → Step → Type 0
 Steps disc area clock q d =
-    Means (stack_of q) d (exec (program_of disc q) clock (localOf q) (owned (kernelOf area).variables q.id))
+    Means (stack_of q) d (exec (program_of disc q) clock (local_of q) (owned (kernel_of area).variables q.id))
 
 module _ (disc area : List ℕ) (passes : Passes disc area) where
-  good : GoodState (kernelOf area) disc
+  good : GoodState (kernel_of area) disc
   good = passes-good disc area passes
 
-  variables-readable : Readable (kernelOf area).variables
+  variables-readable : Readable (kernel_of area).variables
   variables-readable =
       record {
         few = few-variables passes;
-        held = all_weaker (goodVariable (liveIds (kernelOf area))) is_held _ (held (liveIds (kernelOf area))) (variables-good passes).each;
+        held = all_weaker (good_variable (live_ids (kernel_of area))) is_held _ (held (live_ids (kernel_of area)))
+            (variables-good passes).each;
       }
 
-  module _ (slot : ℕ) (low : slot < slotCount) (running : isRunning (processAt (kernelOf area) slot) ≡ true) where
+  module _ (slot : ℕ) (low : slot < slot_count) (running : is_running (process_at (kernel_of area) slot) ≡ true) where
     abbrev p : Process
-    p = processAt (kernelOf area) slot
+    p = process_at (kernel_of area) slot
 
-    live : isLive p ≡ true
+    live : is_live p ≡ true
     live = running-live p running
 
     program-held : Held disc p.code
     program-held = record { sound = good.sound; file = program-at good slot live }
 
-    sp_low : p.sp ≤ stackSize
+    sp_low : p.sp ≤ stack_size
     sp_low = (live-record good slot live).registers.sp
 
     file-lies : Lies disc p.file
@@ -89,11 +90,11 @@ module _ (disc area : List ℕ) (passes : Passes disc area) where
         opened : Opened (files disc) p.file → Lies disc p.file
         opened o = record { offset = o.offset; held = λ some. record { sound = good.sound; file = open_at o } }
 
-    module _ (clock : ℕ) (d : Step) (size : length d.bytes ≡ stackSize) (means : Steps disc area clock p d) where
-      sound : Sound (program_of disc p) (localOf p) (effect_of (stack_of p) d)
+    module _ (clock : ℕ) (d : Step) (size : length d.bytes ≡ stack_size) (means : Steps disc area clock p d) where
+      sound : Sound (program_of disc p) (local_of p) (effect_of (stack_of p) d)
       sound =
-          subst⁻¹ (λ (e : Effect). Sound (program_of disc p) (localOf p) e) means.same
-          (exec-sound (program_of disc p) clock (localOf p) _ (within-local good slot live))
+          subst⁻¹ (λ (e : Effect). Sound (program_of disc p) (local_of p) e) means.same
+          (exec-sound (program_of disc p) clock (local_of p) _ (within-local good slot live))
 
       stack-size : length (stack_of p) ≡ p.sp
       stack-size = length-take-le p.sp p.stack (omega (arith, sp_low, (good.sized.each slot low).stack))
@@ -104,7 +105,7 @@ module _ (disc area : List ℕ) (passes : Passes disc area) where
       kept-size : length (take d.kept (stack_of p)) ≡ d.kept
       kept-size = length-take-le d.kept (stack_of p) means.kept
 
-      bounded : (a : Action) → Sound (program_of disc p) (localOf p) (effectBy a (stack_of p) (about d) (keeping (stack_of p) d))
+      bounded : (a : Action) → Sound (program_of disc p) (local_of p) (effect_by a (stack_of p) (about d) (keeping (stack_of p) d))
           → Bounds a p d
       unfolding Sound Asked
       bounded Push s = omega (arith, s.0.stack, length-append (take d.kept (stack_of p)) (about d), kept-size, bytes-size)
@@ -141,20 +142,20 @@ module _ (disc area : List ℕ) (passes : Passes disc area) where
 
     -- of a process that was copied out
     module _ (q : Process) (copied : q ≡ p) where
-      pub may-step : Held disc q.code × (q.sp ≤ stackSize) × (length area ≡ areaLength)
-          × Readable (kernelOf area).variables
+      pub may-step : Held disc q.code × (q.sp ≤ stack_size) × (length area ≡ area_length)
+          × Readable (kernel_of area).variables
       may-step =
-          subst⁻¹ (λ (r : Process). Held disc r.code × (r.sp ≤ stackSize) × (length area ≡ areaLength)
-          × Readable (kernelOf area).variables) copied
+          subst⁻¹ (λ (r : Process). Held disc r.code × (r.sp ≤ stack_size) × (length area ≡ area_length)
+          × Readable (kernel_of area).variables) copied
           (program-held, sp_low, area-size passes, variables-readable)
 
       module _ (clock : ℕ) (d : Step) where
-        pub carries : length d.bytes ≡ stackSize → Steps disc area clock q d → Carries disc area slot q d
+        pub carries : length d.bytes ≡ stack_size → Steps disc area clock q d → Carries disc area slot q d
         carries size =
             subst⁻¹ (λ (r : Process). Steps disc area clock r d → Carries disc area slot r d) copied (λ m. carries_own clock d size m)
 
         -- the step is the effect of the instruction in that slot
-        pub effect_is : Steps disc area clock q d → effect_of (stack_of q) d ≡ effectAt (kernelOf area) slot clock disc
+        pub effect_is : Steps disc area clock q d → effect_of (stack_of q) d ≡ effect_at (kernel_of area) slot clock disc
         effect_is =
-            subst⁻¹ (λ (r : Process). Steps disc area clock r d → effect_of (stack_of r) d ≡ effectAt (kernelOf area) slot clock disc)
+            subst⁻¹ (λ (r : Process). Steps disc area clock r d → effect_of (stack_of r) d ≡ effect_at (kernel_of area) slot clock disc)
             copied (λ m. m.same)

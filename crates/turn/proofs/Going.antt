@@ -11,8 +11,8 @@ use lib.ListN.{length, drop, get_or, take, drop_of_length-le, length-append, len
 use lib.Seq.{drop-cons, drop-drop, paste-zero, take_all}
 use Rattle.buffer.specs.Buffer.{overwrite}
 use Rattle.buffer.proofs.Buffer.{overwrite-joined, overwrite-length}
-use Rattle.machine.specs.Area.{AreBytes, Whole, kernelBytes, kernelOf}
-use Rattle.machine.specs.Operations.{inOrder}
+use Rattle.machine.specs.Area.{AreBytes, Whole, kernel_bytes, kernel_of}
+use Rattle.machine.specs.Operations.{in_order}
 use Rattle.machine.specs.Refusals.{Passes}
 use Rattle.machine.specs.Turn.{Turned}
 use Rattle.machine.specs.declared.Kernel.{Kernel}
@@ -20,7 +20,7 @@ use Rattle.machine.proofs.Bytes.Area.{kernel-encode-decode}
 use Rattle.machine.proofs.Changes.Change.{GoodState}
 use Rattle.machine.proofs.Demands.GoodCalls.{KeepsGood, good-back, good-passes, passes-good}
 use Rattle.machine.proofs.Demands.Lengths.{KeepsLength, PrintsAtMost}
-use Rattle.turn.specs.Turns.{TurnLeft, turnLeft, turnLeftBy}
+use Rattle.turn.specs.Turns.{TurnLeft, turn_left, turn_left_by}
 use Rattle.turn.proofs.Passing.{area-size}
 
 -- a text printed before
@@ -45,7 +45,7 @@ pub record Going (each : Kernel → ℕ → ℕ → List ℕ → Turned) (n : �
   pub little : printed ≤ i * n
   pub room : length l * n ≤ length out₀
   pub written : out ≡ overwrite out₀ 0 text
-  pub rest : inOrder each l k₀ clock disc₀ ≡ joined text (inOrder each (drop i l) (kernelOf area) clock disc)
+  pub rest : in_order each l k₀ clock disc₀ ≡ joined text (in_order each (drop i l) (kernel_of area) clock disc)
 
 -- bytes laid at the front of what lies behind a place
 overwrite-behind : (l : List ℕ) (n : ℕ) (s : List ℕ) → take n l ++ overwrite (drop n l) 0 s ≡ overwrite l n s
@@ -60,7 +60,7 @@ slots-from l i slot h e = drop-cons l i 0 h ∙ (λ t. e t ∷ drop (sym (add-on
 pub going-first : (each : Kernel → ℕ → ℕ → List ℕ → Turned) (n : ℕ) (l : List ℕ) (clock : ℕ) (disc area out : List ℕ) → Passes disc area
     → AreBytes area
     → length l * n ≤ length out
-    → Going each n l (kernelOf area) clock disc out 0 0 disc area out
+    → Going each n l (kernel_of area) clock disc out 0 0 disc area out
 going-first each n l clock disc area out passes bytes room =
     record {
       few = omega arith;
@@ -92,7 +92,7 @@ module _ {each : Kernel → ℕ → ℕ → List ℕ → Turned} {n : ℕ} {l : 
 
   module _ (steady : Steady each n) (slot : ℕ) (low : i < length l) (here : get_or l i 0 ≡ slot) where
     abbrev k : Kernel
-    k = kernelOf area
+    k = kernel_of area
 
     abbrev t : Turned
     t = each k slot clock disc
@@ -103,33 +103,33 @@ module _ {each : Kernel → ℕ → ℕ → List ℕ → Turned} {n : ℕ} {l : 
     after-good : GoodState t.kernel t.disc
     after-good = steady.good k slot clock disc good
 
-    next-rest : (disc' area' : List ℕ) → disc' ≡ t.disc → kernelOf area' ≡ t.kernel
-        → inOrder each (drop i l) k clock disc ≡ joined t.out (inOrder each (drop (i + 1) l) (kernelOf area') clock disc')
-    unfolding inOrder
+    next-rest : (disc' area' : List ℕ) → disc' ≡ t.disc → kernel_of area' ≡ t.kernel
+        → in_order each (drop i l) k clock disc ≡ joined t.out (in_order each (drop (i + 1) l) (kernel_of area') clock disc')
+    unfolding in_order
     next-rest disc' area' d j =
-        ap (λ (m : List ℕ). inOrder each m k clock disc) (slots-from l i slot low here)
-        ∙ (λ z. joined t.out (inOrder each (drop (i + 1) l) (sym j z) clock (sym d z)))
+        ap (λ (m : List ℕ). in_order each m k clock disc) (slots-from l i slot low here)
+        ∙ (λ z. joined t.out (in_order each (drop (i + 1) l) (sym j z) clock (sym d z)))
 
-    pub next-short : (m : ℕ) (disc' area' part lent : List ℕ) → turnLeft m disc' area' part ≡ turnLeftBy t lent → m ≤ n
+    pub next-short : (m : ℕ) (disc' area' part lent : List ℕ) → turn_left m disc' area' part ≡ turn_left_by t lent → m ≤ n
     next-short m disc' area' part lent left =
         let size : m ≡ length t.out = ap (λ (x : TurnLeft). x.count) left in
         omega (arith, steady.short k slot clock disc good)
 
     -- what is printed for this slot goes into the rest of the output
-    pub going_next : (m : ℕ) (disc' area' part lent out' : List ℕ) → turnLeft m disc' area' part ≡ turnLeftBy t lent
+    pub going_next : (m : ℕ) (disc' area' part lent out' : List ℕ) → turn_left m disc' area' part ≡ turn_left_by t lent
         → lent ≡ drop printed out → out' ≡ take printed out ++ part
         → Going each n l k₀ clock disc₀ out₀ (i + 1) (printed + m) disc' area' out'
     going_next m disc' area' part lent out' left behind joins =
         let size : m ≡ length t.out = ap (λ (x : TurnLeft). x.count) left in
-        let after : area' ≡ kernelBytes t.kernel = ap (λ (x : TurnLeft). x.area) left in
+        let after : area' ≡ kernel_bytes t.kernel = ap (λ (x : TurnLeft). x.area) left in
         let same : disc' ≡ t.disc = ap (λ (x : TurnLeft). x.disc) left in
-        let back : kernelOf area' ≡ t.kernel = ap kernelOf after ∙ good-back t.kernel t.disc after-good in
-        let rest : Turned = inOrder each (drop (i + 1) l) (kernelOf area') clock disc' in
+        let back : kernel_of area' ≡ t.kernel = ap kernel_of after ∙ good-back t.kernel t.disc after-good in
+        let rest : Turned = in_order each (drop (i + 1) l) (kernel_of area') clock disc' in
         record {
           few = omega arith;
           passes = subst⁻¹ (λ (x : TurnLeft). Passes x.disc x.area) left (good-passes t.kernel t.disc after-good);
           long = ap length same ∙ steady.same k slot clock disc good ∙ g.long;
-          whole = ap kernelBytes back ∙ sym after;
+          whole = ap kernel_bytes back ∙ sym after;
           text = g.text ++ t.out;
           count = (λ z. g.count z + size z) ∙ sym (length-append g.text t.out);
           little = omega (arith, add-mul i 1 n, g.little, next-short m disc' area' part lent left);
@@ -149,7 +149,7 @@ module _ {each : Kernel → ℕ → ℕ → List ℕ → Turned} {n : ℕ} {l : 
 
     -- the same, of the rest of the output as it is lent and written back
     pub going_on : (m : ℕ) (disc' area' part : List ℕ)
-        → turnLeft m disc' area' part ≡ turnLeftBy t (take (length out - printed) (drop printed out))
+        → turn_left m disc' area' part ≡ turn_left_by t (take (length out - printed) (drop printed out))
         → Going each n l k₀ clock disc₀ out₀ (i + 1) (printed + m) disc' area' (put_mid printed (length out - printed) out part)
     going_on m disc' area' part left =
         let room = out-room low in
@@ -159,10 +159,10 @@ module _ {each : Kernel → ℕ → ℕ → List ℕ → Turned} {n : ℕ} {l : 
         ∙ ap (λ (r : List ℕ). take printed out ++ r) (append-nil part))
 
   -- ---- behind the last slot
-  pub going-all : length l ≤ i → turnLeft printed disc area out ≡ turnLeftBy (inOrder each l k₀ clock disc₀) out₀
-  unfolding inOrder
+  pub going-all : length l ≤ i → turn_left printed disc area out ≡ turn_left_by (in_order each l k₀ clock disc₀) out₀
+  unfolding in_order
   going-all end =
-      let u : inOrder each l k₀ clock disc₀ ≡ record { kernel = kernelOf area; disc = disc; out = g.text } =
-      g.rest ∙ ap (λ (m : List ℕ). joined g.text (inOrder each m (kernelOf area) clock disc)) (drop_of_length-le l {i = i} end)
-      ∙ (λ z. record { kernel = kernelOf area; disc = disc; out = append-nil g.text z }) in
-      (λ z. turnLeft (g.count z) disc (sym g.whole z) (g.written z)) ∙ ap (λ (t : Turned). turnLeftBy t out₀) (sym u)
+      let u : in_order each l k₀ clock disc₀ ≡ record { kernel = kernel_of area; disc = disc; out = g.text } =
+      g.rest ∙ ap (λ (m : List ℕ). joined g.text (in_order each m (kernel_of area) clock disc)) (drop_of_length-le l {i = i} end)
+      ∙ (λ z. record { kernel = kernel_of area; disc = disc; out = append-nil g.text z }) in
+      (λ z. turn_left (g.count z) disc (sym g.whole z) (g.written z)) ∙ ap (λ (t : Turned). turn_left_by t out₀) (sym u)

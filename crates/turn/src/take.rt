@@ -1,14 +1,14 @@
 // One turn: the process is copied out and takes its step; of its record only what the step changed is written.
 ghost use Rattle.std.specs.Prelude.{◌≡◌, ◌<◌, ◌≤◌, true, length};
 ghost use Rattle.buffer.specs.Buffer.{overwrite};
-ghost use Rattle.machine.specs.Area.{kernelOf};
-ghost use Rattle.machine.specs.Limits.{slotCount, stackSize, turnRoom};
+ghost use Rattle.machine.specs.Area.{kernel_of};
+ghost use Rattle.machine.specs.Limits.{slot_count, stack_size, turn_room};
 ghost use Rattle.machine.specs.Refusals.{Passes};
-ghost use Rattle.machine.specs.State.{isRunning, processAt};
-ghost use Rattle.machine.specs.Turn.{carriedOut, turned};
-ghost use Rattle.process.specs.Stepping.{left, leftBy, stack_of};
+ghost use Rattle.machine.specs.State.{is_running, process_at};
+ghost use Rattle.machine.specs.Turn.{carried_out, turned};
+ghost use Rattle.process.specs.Stepping.{left, left_by, stack_of};
 ghost use Rattle.stack.specs.Steps.{effect_of};
-ghost use Rattle.turn.specs.Turns.{Carries, printedBy, turnLeft, turnLeftBy};
+ghost use Rattle.turn.specs.Turns.{Carries, printed_by, turn_left, turn_left_by};
 
 use area::processes::processes_of;
 use machine::Process;
@@ -25,7 +25,7 @@ use stack::{Action, Step};
 // What a step does beyond printing: its process goes on, sets a variable, ends, or reaches beyond itself.
 fn carry_out(disc: &mut [u8], area: &mut [u8], slot: usize, p: Process, d: Step)
     requires { Carries disc.old area.old slot p d }
-    ensures { left disc.new area.new ≡ leftBy (carriedOut (kernelOf area.old) slot
+    ensures { left disc.new area.new ≡ left_by (carried_out (kernel_of area.old) slot
         disc.old (effect_of (stack_of p) d)) }
 {
     let file = p.file;
@@ -53,8 +53,8 @@ fn carry_out(disc: &mut [u8], area: &mut [u8], slot: usize, p: Process, d: Step)
 
 // What the step prints, and how many bytes that is.
 fn print(d: Step, out: &mut [u8]) -> usize
-    requires { (d.len ≤ stackSize) × (turnRoom ≤ length out.old) }
-    ensures { (result ≡ length (printedBy d)) × (out.new ≡ overwrite out.old 0 (printedBy d)) }
+    requires { (d.len ≤ stack_size) × (turn_room ≤ length out.old) }
+    ensures { (result ≡ length (printed_by d)) × (out.new ≡ overwrite out.old 0 (printed_by d)) }
 {
     let action = d.action;
     if let Action::Print = action {
@@ -76,10 +76,10 @@ pub fn take_turn(
     clock: u32,
     out: &mut [u8],
 ) -> usize
-    requires { Passes disc.old area.old × (slot < slotCount) × (turnRoom ≤ length out.old)
-        × (p ≡ processAt (kernelOf area.old) slot) × (isRunning p ≡ true) }
-    ensures { turnLeft result disc.new area.new out.new
-        ≡ turnLeftBy (turned (kernelOf area.old) slot clock disc.old) out.old }
+    requires { Passes disc.old area.old × (slot < slot_count) × (turn_room ≤ length out.old)
+        × (p ≡ process_at (kernel_of area.old) slot) × (is_running p ≡ true) }
+    ensures { turn_left result disc.new area.new out.new
+        ≡ turn_left_by (turned (kernel_of area.old) slot clock disc.old) out.old }
 {
     let d = next_step(disc, area, p, clock);
     carry_out(disc, area, slot, p, d);
@@ -88,10 +88,10 @@ pub fn take_turn(
 
 // One of the ten processes.
 pub fn turn_slot(disc: &mut [u8], area: &mut [u8], slot: usize, clock: u32, out: &mut [u8]) -> usize
-    requires { Passes disc.old area.old × (slot < slotCount) × (turnRoom ≤ length out.old)
-        × (isRunning (processAt (kernelOf area.old) slot) ≡ true) }
-    ensures { turnLeft result disc.new area.new out.new
-        ≡ turnLeftBy (turned (kernelOf area.old) slot clock disc.old) out.old }
+    requires { Passes disc.old area.old × (slot < slot_count) × (turn_room ≤ length out.old)
+        × (is_running (process_at (kernel_of area.old) slot) ≡ true) }
+    ensures { turn_left result disc.new area.new out.new
+        ≡ turn_left_by (turned (kernel_of area.old) slot clock disc.old) out.old }
 {
     let processes = processes_of(area);
     let p = processes[slot];

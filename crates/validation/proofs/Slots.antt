@@ -9,13 +9,13 @@ use lib.Dec.{eqb}
 use lib.ListN.{get_or, length, take}
 use lib.Seq.{get_or-take, length-take-le, take-suc}
 use borrow.Author.Tests.{eq-eqb, eqb-false, eqb-true, ne_eqb}
-use Rattle.buffer.specs.Lists.{all, any, consIf, keep, pairs}
+use Rattle.buffer.specs.Lists.{all, any, cons_if, keep, pairs}
 use Rattle.buffer.proofs.Bools.{and_both, and_left, and_right, not-true-is-false, true-not-false}
 use Rattle.buffer.proofs.Lists.{all-each, pairs-at, pairs-snoc}
-use Rattle.machine.specs.GoodArea.{otherId}
-use Rattle.machine.specs.State.{isLive}
+use Rattle.machine.specs.GoodArea.{other_id}
+use Rattle.machine.specs.State.{is_live}
 use Rattle.machine.specs.declared.Process.{Process}
-use Rattle.validation.specs.Columns.{differs, isId, slotId}
+use Rattle.validation.specs.Columns.{differs, is_id, slot_id}
 
 -- ---- a slot beside others
 abbrev pub other : ℕ → ℕ → Bool
@@ -30,13 +30,13 @@ some-differs id l n = rw (ne_eqb id 0 n)
 
 -- ---- owners
 -- 0 is among the slots, and no owner
-pub owner-kept : (id : ℕ) (l : List ℕ) → not (eqb id 0) && any (eqb id) l ≡ any (eqb id) (keep isId l)
+pub owner-kept : (id : ℕ) (l : List ℕ) → not (eqb id 0) && any (eqb id) l ≡ any (eqb id) (keep is_id l)
 unfolding any keep
 owner-kept id [] = and-false (not (eqb id 0))
 owner-kept id (x ∷ l) = go (eqb id 0) refl (eqb x 0) refl (owner-kept id l)
   where
-    go : (b : Bool) → eqb id 0 ≡ b → (c : Bool) → eqb x 0 ≡ c → not b && any (eqb id) l ≡ any (eqb id) (keep isId l)
-        → not b && (eqb id x || any (eqb id) l) ≡ any (eqb id) (consIf (not c) x (keep isId l))
+    go : (b : Bool) → eqb id 0 ≡ b → (c : Bool) → eqb x 0 ≡ c → not b && any (eqb id) l ≡ any (eqb id) (keep is_id l)
+        → not b && (eqb id x || any (eqb id) l) ≡ any (eqb id) (cons_if (not c) x (keep is_id l))
     go true p true q e = e
     go true p false q e =
         let z : id ≡ 0 = eqb-true id 0 p in
@@ -65,38 +65,38 @@ module _ {A : Type 0} (r : A → A → Bool) (l : List A) (i : ℕ) (d : A) (h :
       e)
 
 -- ---- the IDs of good records
-abbrev liveId : Process → ℕ
-liveId p = p.id
+abbrev live_id : Process → ℕ
+live_id p = p.id
 
 -- where every live process has an ID that is not 0, those by slot say the same as those of the live processes
-module _ (good : Process → Bool) (named : (p : Process) → good p ≡ true → isLive p ≡ true → p.id ≡ 0 → ⊥) where
-  pub ids-kept : (l : List Process) → all good l ≡ true → keep isId (map slotId l) ≡ map liveId (keep isLive l)
-  unfolding all keep slotId
+module _ (good : Process → Bool) (named : (p : Process) → good p ≡ true → is_live p ≡ true → p.id ≡ 0 → ⊥) where
+  pub ids-kept : (l : List Process) → all good l ≡ true → keep is_id (map slot_id l) ≡ map live_id (keep is_live l)
+  unfolding all keep slot_id
   ids-kept [] g = refl
-  ids-kept (p ∷ l) g = go (isLive p) refl (ids-kept l (and_right (good p) (all good l) g))
+  ids-kept (p ∷ l) g = go (is_live p) refl (ids-kept l (and_right (good p) (all good l) g))
     where
-      go : (b : Bool) → isLive p ≡ b → keep isId (map slotId l) ≡ map liveId (keep isLive l)
-          → consIf (isId (cond b p.id 0)) (cond b p.id 0) (keep isId (map slotId l)) ≡ map liveId (consIf b p (keep isLive l))
+      go : (b : Bool) → is_live p ≡ b → keep is_id (map slot_id l) ≡ map live_id (keep is_live l)
+          → cons_if (is_id (cond b p.id 0)) (cond b p.id 0) (keep is_id (map slot_id l)) ≡ map live_id (cons_if b p (keep is_live l))
       go true t e = rw (ne_eqb p.id 0 (named p (and_left (good p) (all good l) g) t), e)
       go false t e = e
 
-  differ_same : (p q : Process) → good q ≡ true → differs (slotId p) (slotId q) ≡ otherId p q
-  unfolding slotId otherId
-  differ_same p q g = go (isLive p) (isLive q) refl
+  differ_same : (p q : Process) → good q ≡ true → differs (slot_id p) (slot_id q) ≡ other_id p q
+  unfolding slot_id other_id
+  differ_same p q g = go (is_live p) (is_live q) refl
     where
-      go : (a b : Bool) → isLive q ≡ b → differs (cond a p.id 0) (cond b q.id 0) ≡ not (a && (b && eqb p.id q.id))
+      go : (a b : Bool) → is_live q ≡ b → differs (cond a p.id 0) (cond b q.id 0) ≡ not (a && (b && eqb p.id q.id))
       go true true t = rw (ne_eqb q.id 0 (named q g t))
       go true false t = refl
       go false true t = rw (ne_eqb q.id 0 (named q g t), ne_eqb 0 q.id (λ e. named q g t (sym e)))
       go false false t = refl
 
-  differ-all : (p : Process) (l : List Process) → all good l ≡ true → all (differs (slotId p)) (map slotId l) ≡ all (otherId p) l
+  differ-all : (p : Process) (l : List Process) → all good l ≡ true → all (differs (slot_id p)) (map slot_id l) ≡ all (other_id p) l
   unfolding all
   differ-all p [] g = refl
   differ-all p (q ∷ l) g =
       rw (differ_same p q (and_left (good q) (all good l) g), differ-all p l (and_right (good q) (all good l) g))
 
-  pub ids-distinct : (l : List Process) → all good l ≡ true → pairs differs (map slotId l) ≡ pairs otherId l
+  pub ids-distinct : (l : List Process) → all good l ≡ true → pairs differs (map slot_id l) ≡ pairs other_id l
   unfolding pairs all
   ids-distinct [] g = refl
   ids-distinct (p ∷ l) g =

@@ -12,11 +12,11 @@ use Rattle.buffer.specs.Buffer.{word_at}
 use Rattle.buffer.specs.Lists.{all, any, pairs, tab}
 use Rattle.buffer.proofs.Equivalence.{all_both, all-tab-same}
 use Rattle.buffer.proofs.Lists.{tab-at, tab-length}
-use Rattle.variable.specs.Good.{beside, goodSize, goodVariable, goodVariables}
-use Rattle.variable.specs.Limits.{countAt, entries_at, entrySize, maxVariables, memorySize}
+use Rattle.variable.specs.Good.{beside, good_size, good_variable, good_variables}
+use Rattle.variable.specs.Limits.{count_at, entries_at, entry_size, max_variables, memory_size}
 use Rattle.validation.specs.Columns.{places, sized, words_of}
-use Rattle.validation.proofs.Clashes.{ownerColumn, word_of_part}
-use Rattle.variable.specs.Bytes.{variableIn, variablesOf}
+use Rattle.validation.proofs.Clashes.{owner_column, word_of_part}
+use Rattle.variable.specs.Bytes.{variable_in, variables_of}
 
 take-of-tab : {A : Type 0} (f : ℕ → A) (n m : ℕ) → m ≤ n → take m (tab f n) ≡ tab f m
 take-of-tab f n m h =
@@ -29,58 +29,60 @@ take-of-tab f n m h =
     get_or-take m (tab f n) i (f 0) l ∙ tab-at f n i (f 0) (omega arith) ∙ sym (tab-at f m i (f 0) l))
 
 -- who owns
-abbrev pub isOwner : List ℕ → ℕ → Bool
-isOwner live id = any (eqb id) live
+abbrev pub is_owner : List ℕ → ℕ → Bool
+is_owner live id = any (eqb id) live
 
-abbrev pub variableCount : List ℕ → ℕ
-variableCount area = get_or area countAt 0
+abbrev pub variable_count : List ℕ → ℕ
+variable_count area = get_or area count_at 0
 
 module _ (live area : List ℕ) where
-  pub too_many : maxVariables < variableCount area → goodVariables live (variablesOf area) ≡ false
-  unfolding goodVariables variablesOf
-  too_many h = rw (lt-leb (variableCount area) maxVariables h)
+  pub too_many : max_variables < variable_count area → good_variables live (variables_of area) ≡ false
+  unfolding good_variables variables_of
+  too_many h = rw (lt-leb (variable_count area) max_variables h)
 
-  pub no-variables : variableCount area ≡ 0 → goodVariables live (variablesOf area) ≡ true
-  unfolding goodVariables variablesOf all pairs
+  pub no-variables : variable_count area ≡ 0 → good_variables live (variables_of area) ≡ true
+  unfolding good_variables variables_of all pairs
   no-variables z = rw z
 
-  module _ (few : variableCount area ≤ maxVariables) where
+  module _ (few : variable_count area ≤ max_variables) where
     -- the owners in their column
-    column-head : take (variableCount area) (ownerColumn area (variableCount area)) ≡ words_of area 4 (variableCount area)
+    column-head : take (variable_count area) (owner_column area (variable_count area)) ≡ words_of area 4 (variable_count area)
     column-head =
-        let words = words_of area 4 (variableCount area) in
-        take_at words (drop (0 + length words) (replicate places 0)) (variableCount area)
-        (tab-length (λ i. word_at area (entries_at + i * entrySize + 4)) (variableCount area))
+        let words = words_of area 4 (variable_count area) in
+        take_at words (drop (0 + length words) (replicate places 0)) (variable_count area)
+        (tab-length (λ i. word_at area (entries_at + i * entry_size + 4)) (variable_count area))
 
-    owned : all (isOwner live) (take (variableCount area) (ownerColumn area (variableCount area)))
-        ≡ all (λ e. isOwner live e.owner) (tab (variableIn area) (variableCount area))
+    owned : all (is_owner live) (take (variable_count area) (owner_column area (variable_count area)))
+        ≡ all (λ e. is_owner live e.owner) (tab (variable_in area) (variable_count area))
     owned =
-        ap (all (isOwner live)) column-head
-        ∙ all-tab-same (isOwner live) (λ e. isOwner live e.owner) (λ i. word_at area (entries_at + i * entrySize + 4)) (variableIn area)
-        (variableCount area) (λ i h. ap (isOwner live) (sym (word_of_part area (entries_at + i * entrySize) entrySize 4 (omega arith))))
+        ap (all (is_owner live)) column-head
+        ∙ all-tab-same (is_owner live) (λ e. is_owner live e.owner) (λ i. word_at area (entries_at + i * entry_size + 4)) (variable_in area)
+        (variable_count area) (λ i h. ap (is_owner live) (sym (word_of_part area (entries_at + i * entry_size) entry_size 4 (omega arith))))
 
-    each : all (goodVariable live) (tab (variableIn area) (variableCount area))
-        ≡ all sized (tab (variableIn area) (variableCount area))
-        && all (isOwner live) (take (variableCount area) (ownerColumn area (variableCount area)))
-    unfolding goodVariable sized
+    each : all (good_variable live) (tab (variable_in area) (variable_count area))
+        ≡ all sized (tab (variable_in area) (variable_count area))
+        && all (is_owner live) (take (variable_count area) (owner_column area (variable_count area)))
+    unfolding good_variable sized
     each =
-        all-tab-same (goodVariable live) (λ e. sized e && isOwner live e.owner) (variableIn area) (variableIn area) (variableCount area)
-        (λ i h. sym (and_assoc (goodSize (variableIn area i).kind (variableIn area i).size)
-        (leb ((variableIn area i).address + (variableIn area i).size) memorySize) (isOwner live (variableIn area i).owner)))
-        ∙ all_both sized (λ e. isOwner live e.owner) (tab (variableIn area) (variableCount area))
-        ∙ ap (λ (b : Bool). all sized (tab (variableIn area) (variableCount area)) && b) (sym owned)
+        all-tab-same (good_variable live) (λ e. sized e && is_owner live e.owner) (variable_in area) (variable_in area)
+        (variable_count area)
+        (λ i h. sym (and_assoc (good_size (variable_in area i).kind (variable_in area i).size)
+        (leb ((variable_in area i).address + (variable_in area i).size) memory_size) (is_owner live (variable_in area i).owner)))
+        ∙ all_both sized (λ e. is_owner live e.owner) (tab (variable_in area) (variable_count area))
+        ∙ ap (λ (b : Bool). all sized (tab (variable_in area) (variable_count area)) && b) (sym owned)
 
-    pub in_parts : goodVariables live (variablesOf area)
-        ≡ all sized (tab (variableIn area) (variableCount area))
-        && (all (isOwner live) (take (variableCount area) (ownerColumn area (variableCount area)))
-        && pairs beside (tab (variableIn area) (variableCount area)))
-    unfolding goodVariables variablesOf
-    in_parts = rw (le-leb (variableCount area) maxVariables few, take-of-tab (variableIn area) maxVariables (variableCount area) few, each)
-        (and_assoc (all sized (tab (variableIn area) (variableCount area)))
-        (all (isOwner live) (take (variableCount area) (ownerColumn area (variableCount area))))
-        (pairs beside (tab (variableIn area) (variableCount area))))
+    pub in_parts : good_variables live (variables_of area)
+        ≡ all sized (tab (variable_in area) (variable_count area))
+        && (all (is_owner live) (take (variable_count area) (owner_column area (variable_count area)))
+        && pairs beside (tab (variable_in area) (variable_count area)))
+    unfolding good_variables variables_of
+    in_parts = rw
+        (le-leb (variable_count area) max_variables few, take-of-tab (variable_in area) max_variables (variable_count area) few, each)
+        (and_assoc (all sized (tab (variable_in area) (variable_count area)))
+        (all (is_owner live) (take (variable_count area) (owner_column area (variable_count area))))
+        (pairs beside (tab (variable_in area) (variable_count area))))
 
-  pub column-owners : (r : Bool) (o : List ℕ) → o ≡ ownerColumn area (variableCount area)
-      → r ≡ all (isOwner live) (take (variableCount area) o)
-      → r ≡ all (isOwner live) (take (variableCount area) (ownerColumn area (variableCount area)))
+  pub column-owners : (r : Bool) (o : List ℕ) → o ≡ owner_column area (variable_count area)
+      → r ≡ all (is_owner live) (take (variable_count area) o)
+      → r ≡ all (is_owner live) (take (variable_count area) (owner_column area (variable_count area)))
   column-owners r o e h = rw (← e) h

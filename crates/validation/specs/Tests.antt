@@ -1,9 +1,9 @@
 -- The tests that every operation on both buffers makes first, as one answer.
 use Rattle.std.specs.Prelude.{◌&&◌, List, ℕ, length}
-use Rattle.disc.specs.Directory.{goodDisc, isDiscLength}
+use Rattle.disc.specs.Directory.{good_disc, is_disc_length}
 use Rattle.store.specs.File.{unless}
-use Rattle.machine.specs.Answer.{goodArea}
-use Rattle.machine.specs.Area.{isAreaLength}
+use Rattle.machine.specs.Answer.{good_area}
+use Rattle.machine.specs.Area.{is_area_length}
 use Rattle.validation.specs.declared.Tested.{Tested}
 use Rattle.validation.specs.declared.Tested.TheVariants.{Pass, WrongLength, BadDisc, BadArea}
 
@@ -11,7 +11,7 @@ use Rattle.validation.specs.declared.Tested.TheVariants.{Pass, WrongLength, BadD
 -- good. 3: work area not good."
 unfoldable pub tested : List ℕ → List ℕ → Tested
 tested disc area =
-    unless (isDiscLength (length disc) && isAreaLength (length area)) WrongLength
-    (unless (goodDisc disc) BadDisc
-    (unless (goodArea disc area) BadArea
+    unless (is_disc_length (length disc) && is_area_length (length area)) WrongLength
+    (unless (good_disc disc) BadDisc
+    (unless (good_area disc area) BadArea
     Pass))

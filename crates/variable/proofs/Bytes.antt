@@ -13,158 +13,159 @@ use Rattle.buffer.proofs.Lists.{flat-around, tab-at, tab-length}
 use Rattle.buffer.proofs.Parts.{part_length, part-split}
 use Rattle.buffer.proofs.Runs.{overwrite-front, overwrite-middle}
 use Rattle.buffer.proofs.Words.{part_bytes, spelled, word-high, word_low}
-use Rattle.variable.specs.Bytes.{variableBytes, variableIn, variableOf, variablesBytes, variablesOf, withCount, withEntry, withMemory}
-use Rattle.variable.specs.Limits.{countAt, entries_at, entrySize, maxVariables, memorySize, variablesSize}
-use Rattle.variable.specs.Table.{Shaped, noVariable}
+use Rattle.variable.specs.Bytes.{variable_bytes, variable_in, variable_of, variables_bytes, variables_of, with_count, with_entry}
+use Rattle.variable.specs.Bytes.{with_memory}
+use Rattle.variable.specs.Limits.{count_at, entries_at, entry_size, max_variables, memory_size, variables_size}
+use Rattle.variable.specs.Table.{Shaped, no_variable}
 use Rattle.variable.specs.declared.Variable.{Variable}
 use Rattle.variable.specs.declared.Variables.{Variables}
 
 -- ---- one entry
-pub variable-encode-decode : (l : List ℕ) → ((i : ℕ) → get_or l i 0 < 256) → length l ≡ entrySize → variableBytes (variableOf l) ≡ l
+pub variable-encode-decode : (l : List ℕ) → ((i : ℕ) → get_or l i 0 < 256) → length l ≡ entry_size → variable_bytes (variable_of l) ≡ l
 unfolding tab
 variable-encode-decode l bytes h =
-    simp (word_low l bytes, word-high l bytes) (spelled l 0 entrySize (omega arith) ∙ take_all entrySize l (omega arith))
+    simp (word_low l bytes, word-high l bytes) (spelled l 0 entry_size (omega arith) ∙ take_all entry_size l (omega arith))
 
-pub variable-decode-encode : (e : Variable) → variableOf (variableBytes e) ≡ e
+pub variable-decode-encode : (e : Variable) → variable_of (variable_bytes e) ≡ e
 variable-decode-encode e = λ t.
     record { name = e.name; kind = e.kind; address = e.address; size = e.size; owner = word_split e.owner t }
 
-encoded : (e : Variable) → Encoded variableBytes variableOf entrySize e
+encoded : (e : Variable) → Encoded variable_bytes variable_of entry_size e
 encoded e = record { size = refl; back = variable-decode-encode e }
 
 -- the first i entries
-entries-length : (l : List Variable) (i : ℕ) → i ≤ length l → length (flat variableBytes (take i l)) ≡ i * entrySize
+entries-length : (l : List Variable) (i : ℕ) → i ≤ length l → length (flat variable_bytes (take i l)) ≡ i * entry_size
 entries-length l i h =
-    flat-length variableBytes variableOf entrySize (take i l) noVariable (λ j k. encoded (get_or (take i l) j noVariable))
-    ∙ ap (λ (m : ℕ). m * entrySize) (length-take-le i l h)
+    flat-length variable_bytes variable_of entry_size (take i l) no_variable (λ j k. encoded (get_or (take i l) j no_variable))
+    ∙ ap (λ (m : ℕ). m * entry_size) (length-take-le i l h)
 
 -- ---- bytes, read
-pub entry_read : (bytes : List ℕ) (i : ℕ) → i < maxVariables → get_or (variablesOf bytes).entries i noVariable ≡ variableIn bytes i
-unfolding variablesOf
-entry_read bytes i h = tab-at (variableIn bytes) maxVariables i noVariable h
+pub entry_read : (bytes : List ℕ) (i : ℕ) → i < max_variables → get_or (variables_of bytes).entries i no_variable ≡ variable_in bytes i
+unfolding variables_of
+entry_read bytes i h = tab-at (variable_in bytes) max_variables i no_variable h
 
-pub count-read : (bytes : List ℕ) → get_or bytes countAt 0 ≡ (variablesOf bytes).count
-unfolding variablesOf
+pub count-read : (bytes : List ℕ) → get_or bytes count_at 0 ≡ (variables_of bytes).count
+unfolding variables_of
 count-read bytes = refl
 
-pub decoded-shaped : (bytes : List ℕ) → variablesSize ≤ length bytes → Shaped (variablesOf bytes)
-unfolding variablesOf
-decoded-shaped bytes h = record { memory = length-take-le memorySize bytes (omega arith); entries = simp tab-length }
+pub decoded-shaped : (bytes : List ℕ) → variables_size ≤ length bytes → Shaped (variables_of bytes)
+unfolding variables_of
+decoded-shaped bytes h = record { memory = length-take-le memory_size bytes (omega arith); entries = simp tab-length }
 
 -- read and written again
-pub variables-encode-decode : (bytes : List ℕ) → ((i : ℕ) → get_or bytes i 0 < 256) → variablesSize ≤ length bytes
-    → variablesBytes (variablesOf bytes) ≡ take variablesSize bytes
-unfolding variablesOf tab
+pub variables-encode-decode : (bytes : List ℕ) → ((i : ℕ) → get_or bytes i 0 < 256) → variables_size ≤ length bytes
+    → variables_bytes (variables_of bytes) ≡ take variables_size bytes
+unfolding variables_of tab
 variables-encode-decode bytes small h =
     rw (
-      table-encode-decode variableBytes variableOf entrySize bytes entries_at maxVariables (λ i k. entry i k),
-      spelled bytes countAt 1 (omega arith),
-      ← part-split bytes 0 entries_at (maxVariables * entrySize),
-      ← part-split bytes 0 countAt 1,
+      table-encode-decode variable_bytes variable_of entry_size bytes entries_at max_variables (λ i k. entry i k),
+      spelled bytes count_at 1 (omega arith),
+      ← part-split bytes 0 entries_at (max_variables * entry_size),
+      ← part-split bytes 0 count_at 1,
     )
   where
-    entry : (i : ℕ) → i < maxVariables
-        → variableBytes (variableIn bytes i) ≡ part bytes (entries_at + i * entrySize) entrySize
+    entry : (i : ℕ) → i < max_variables
+        → variable_bytes (variable_in bytes i) ≡ part bytes (entries_at + i * entry_size) entry_size
     entry i k =
-        let at = entries_at + i * entrySize in
-        variable-encode-decode (part bytes at entrySize) (part_bytes bytes small at entrySize)
-        (part_length bytes at entrySize (omega arith))
+        let at = entries_at + i * entry_size in
+        variable-encode-decode (part bytes at entry_size) (part_bytes bytes small at entry_size)
+        (part_length bytes at entry_size (omega arith))
 
 -- ---- variables, written
 module _ (v : Variables) (shaped : Shaped v) where
   abbrev entries : List Variable
   entries = v.entries
 
-  entries-bytes-length : length (flat variableBytes entries) ≡ maxVariables * entrySize
+  entries-bytes-length : length (flat variable_bytes entries) ≡ max_variables * entry_size
   entries-bytes-length =
-      flat-length variableBytes variableOf entrySize entries noVariable (λ i h. encoded (get_or entries i noVariable))
-      ∙ ap (λ (n : ℕ). n * entrySize) shaped.entries
+      flat-length variable_bytes variable_of entry_size entries no_variable (λ i h. encoded (get_or entries i no_variable))
+      ∙ ap (λ (n : ℕ). n * entry_size) shaped.entries
 
-  front_length : length (v.memory ++ flat variableBytes entries) ≡ countAt
+  front_length : length (v.memory ++ flat variable_bytes entries) ≡ count_at
   front_length = simp length-append (omega (arith, shaped.memory, entries-bytes-length))
 
-  pub variables-bytes-length : length (variablesBytes v) ≡ variablesSize
+  pub variables-bytes-length : length (variables_bytes v) ≡ variables_size
   variables-bytes-length = simp length-append (omega (arith, shaped.memory, entries-bytes-length))
 
   -- written and read back, whatever lies behind
-  pub variables-decode-encode : (rest : List ℕ) → variablesOf (variablesBytes v ++ rest) ≡ v
-  unfolding variablesOf
+  pub variables-decode-encode : (rest : List ℕ) → variables_of (variables_bytes v ++ rest) ≡ v
+  unfolding variables_of
   variables-decode-encode rest =
-      let parted : variablesBytes v ++ rest ≡ v.memory ++ (flat variableBytes entries ++ (v.count ∷ rest)) = simp append_assoc in
-      let m : take memorySize (variablesBytes v ++ rest) ≡ v.memory = rw parted (take_at v.memory _ memorySize shaped.memory) in
-      let e : tab (variableIn (variablesBytes v ++ rest)) maxVariables ≡ entries =
-      simp parted (table-decode-encode variableBytes variableOf entrySize v.memory entries noVariable (v.count ∷ rest) entries_at
-      maxVariables shaped.memory shaped.entries (λ i h. encoded (get_or entries i noVariable))) in
-      let c : get_or (variablesBytes v ++ rest) countAt 0 ≡ v.count =
-      rw (append_assoc (v.memory ++ flat variableBytes entries) (v.count ∷ []) rest)
-      (get_or_at (v.memory ++ flat variableBytes entries) v.count rest 0 countAt front_length) in
+      let parted : variables_bytes v ++ rest ≡ v.memory ++ (flat variable_bytes entries ++ (v.count ∷ rest)) = simp append_assoc in
+      let m : take memory_size (variables_bytes v ++ rest) ≡ v.memory = rw parted (take_at v.memory _ memory_size shaped.memory) in
+      let e : tab (variable_in (variables_bytes v ++ rest)) max_variables ≡ entries =
+      simp parted (table-decode-encode variable_bytes variable_of entry_size v.memory entries no_variable (v.count ∷ rest) entries_at
+      max_variables shaped.memory shaped.entries (λ i h. encoded (get_or entries i no_variable))) in
+      let c : get_or (variables_bytes v ++ rest) count_at 0 ≡ v.count =
+      rw (append_assoc (v.memory ++ flat variable_bytes entries) (v.count ∷ []) rest)
+      (get_or_at (v.memory ++ flat variable_bytes entries) v.count rest 0 count_at front_length) in
       λ t. record { memory = m t; entries = e t; count = c t }
 
   -- what bytes say that are those of v
-  pub variables-said : {bytes : List ℕ} → bytes ≡ variablesBytes v → variablesOf bytes ≡ v
-  variables-said x = ap variablesOf (x ∙ sym (append-nil (variablesBytes v))) ∙ variables-decode-encode []
+  pub variables-said : {bytes : List ℕ} → bytes ≡ variables_bytes v → variables_of bytes ≡ v
+  variables-said x = ap variables_of (x ∙ sym (append-nil (variables_bytes v))) ∙ variables-decode-encode []
 
   -- ---- one part laid over
   -- the bytes around one entry
   abbrev before : ℕ → List ℕ
-  before i = v.memory ++ flat variableBytes (take i entries)
+  before i = v.memory ++ flat variable_bytes (take i entries)
 
   abbrev behind : ℕ → List ℕ
-  behind i = flat variableBytes (drop (suc i) entries) ++ (v.count ∷ [])
+  behind i = flat variable_bytes (drop (suc i) entries) ++ (v.count ∷ [])
 
   around : (i : ℕ) (e : Variable) (l : List Variable) → l ≡ take i entries ++ (e ∷ drop (suc i) entries)
-      → v.memory ++ flat variableBytes l ++ (v.count ∷ []) ≡ before i ++ variableBytes e ++ behind i
-  around i e l h = rw (h, flat-around variableBytes (take i entries) e (drop (suc i) entries)) (simp append_assoc)
+      → v.memory ++ flat variable_bytes l ++ (v.count ∷ []) ≡ before i ++ variable_bytes e ++ behind i
+  around i e l h = rw (h, flat-around variable_bytes (take i entries) e (drop (suc i) entries)) (simp append_assoc)
 
-  pub entry-bytes-put : (i : ℕ) (e : Variable) → i < maxVariables
-      → variablesBytes (withEntry v i e) ≡ overwrite (variablesBytes v) (entries_at + i * entrySize) (variableBytes e)
+  pub entry-bytes-put : (i : ℕ) (e : Variable) → i < max_variables
+      → variables_bytes (with_entry v i e) ≡ overwrite (variables_bytes v) (entries_at + i * entry_size) (variable_bytes e)
   entry-bytes-put i e h =
       let n = shaped.entries in
-      let old : Variable = get_or entries i noVariable in
-      let at = entries_at + i * entrySize in
+      let old : Variable = get_or entries i no_variable in
+      let at = entries_at + i * entry_size in
       let size : length (before i) ≡ at =
-      length-append v.memory (flat variableBytes (take i entries))
+      length-append v.memory (flat variable_bytes (take i entries))
       ∙ ap₂ ◌+◌ shaped.memory (entries-length entries i (omega arith)) in
       around i e (set entries i e) (set_split entries i e (omega arith))
-      ∙ sym (overwrite-middle (before i) (variableBytes old) (variableBytes e) (behind i) at size refl)
-      ∙ ap (λ (b : List ℕ). overwrite b at (variableBytes e)) (sym (around i old entries (split_at entries i noVariable (omega arith))))
+      ∙ sym (overwrite-middle (before i) (variable_bytes old) (variable_bytes e) (behind i) at size refl)
+      ∙ ap (λ (b : List ℕ). overwrite b at (variable_bytes e)) (sym (around i old entries (split_at entries i no_variable (omega arith))))
 
-  pub count-bytes-put : (n : ℕ) → variablesBytes (withCount v n) ≡ overwrite (variablesBytes v) countAt (n ∷ [])
+  pub count-bytes-put : (n : ℕ) → variables_bytes (with_count v n) ≡ overwrite (variables_bytes v) count_at (n ∷ [])
   count-bytes-put n =
-      let front : List ℕ = v.memory ++ flat variableBytes entries in
+      let front : List ℕ = v.memory ++ flat variable_bytes entries in
       let split : (c : ℕ) → front ++ (c ∷ []) ≡ front ++ (c ∷ []) ++ [] = λ c. sym (append-nil (front ++ (c ∷ []))) in
       split n
-      ∙ sym (overwrite-middle front (v.count ∷ []) (n ∷ []) [] countAt front_length refl)
-      ∙ ap (λ (b : List ℕ). overwrite b countAt (n ∷ [])) (sym (split v.count))
+      ∙ sym (overwrite-middle front (v.count ∷ []) (n ∷ []) [] count_at front_length refl)
+      ∙ ap (λ (b : List ℕ). overwrite b count_at (n ∷ [])) (sym (split v.count))
 
-  pub memory-bytes-put : (at : ℕ) (s : List ℕ) → at + length s ≤ memorySize
-      → variablesBytes (withMemory v (overwrite v.memory at s)) ≡ overwrite (variablesBytes v) at s
+  pub memory-bytes-put : (at : ℕ) (s : List ℕ) → at + length s ≤ memory_size
+      → variables_bytes (with_memory v (overwrite v.memory at s)) ≡ overwrite (variables_bytes v) at s
   memory-bytes-put at s h =
-      let rest : List ℕ = flat variableBytes entries ++ (v.count ∷ []) in
+      let rest : List ℕ = flat variable_bytes entries ++ (v.count ∷ []) in
       let n = shaped.memory in
-      append_assoc (overwrite v.memory at s) (flat variableBytes entries) (v.count ∷ [])
+      append_assoc (overwrite v.memory at s) (flat variable_bytes entries) (v.count ∷ [])
       ∙ sym (overwrite-front v.memory rest s at (omega arith))
-      ∙ ap (λ (b : List ℕ). overwrite b at s) (sym (append_assoc v.memory (flat variableBytes entries) (v.count ∷ [])))
+      ∙ ap (λ (b : List ℕ). overwrite b at s) (sym (append_assoc v.memory (flat variable_bytes entries) (v.count ∷ [])))
 
 -- ---- bytes that are all that their variables say
-module _ (bytes : List ℕ) (small : (i : ℕ) → get_or bytes i 0 < 256) (size : length bytes ≡ variablesSize) where
-  abbrev shaped : Shaped (variablesOf bytes)
+module _ (bytes : List ℕ) (small : (i : ℕ) → get_or bytes i 0 < 256) (size : length bytes ≡ variables_size) where
+  abbrev shaped : Shaped (variables_of bytes)
   shaped = decoded-shaped bytes (omega arith)
 
-  pub variables-whole : variablesBytes (variablesOf bytes) ≡ bytes
-  variables-whole = variables-encode-decode bytes small (omega arith) ∙ take_all variablesSize bytes (omega arith)
+  pub variables-whole : variables_bytes (variables_of bytes) ≡ bytes
+  variables-whole = variables-encode-decode bytes small (omega arith) ∙ take_all variables_size bytes (omega arith)
 
-  pub entry-written : (i : ℕ) (e : Variable) → i < maxVariables
-      → overwrite bytes (entries_at + i * entrySize) (variableBytes e) ≡ variablesBytes (withEntry (variablesOf bytes) i e)
+  pub entry-written : (i : ℕ) (e : Variable) → i < max_variables
+      → overwrite bytes (entries_at + i * entry_size) (variable_bytes e) ≡ variables_bytes (with_entry (variables_of bytes) i e)
   entry-written i e h =
-      sym (entry-bytes-put (variablesOf bytes) shaped i e h
-      ∙ ap (λ (l : List ℕ). overwrite l (entries_at + i * entrySize) (variableBytes e)) variables-whole)
+      sym (entry-bytes-put (variables_of bytes) shaped i e h
+      ∙ ap (λ (l : List ℕ). overwrite l (entries_at + i * entry_size) (variable_bytes e)) variables-whole)
 
-  pub count-written : (n : ℕ) → overwrite bytes countAt (n ∷ []) ≡ variablesBytes (withCount (variablesOf bytes) n)
+  pub count-written : (n : ℕ) → overwrite bytes count_at (n ∷ []) ≡ variables_bytes (with_count (variables_of bytes) n)
   count-written n =
-      sym (count-bytes-put (variablesOf bytes) shaped n ∙ ap (λ (l : List ℕ). overwrite l countAt (n ∷ [])) variables-whole)
+      sym (count-bytes-put (variables_of bytes) shaped n ∙ ap (λ (l : List ℕ). overwrite l count_at (n ∷ [])) variables-whole)
 
-  pub memory-written : (at : ℕ) (s : List ℕ) → at + length s ≤ memorySize
-      → overwrite bytes at s ≡ variablesBytes (withMemory (variablesOf bytes) (overwrite (variablesOf bytes).memory at s))
+  pub memory-written : (at : ℕ) (s : List ℕ) → at + length s ≤ memory_size
+      → overwrite bytes at s ≡ variables_bytes (with_memory (variables_of bytes) (overwrite (variables_of bytes).memory at s))
   memory-written at s h =
-      sym (memory-bytes-put (variablesOf bytes) shaped at s h ∙ ap (λ (l : List ℕ). overwrite l at s) variables-whole)
+      sym (memory-bytes-put (variables_of bytes) shaped at s h ∙ ap (λ (l : List ℕ). overwrite l at s) variables-whole)

@@ -10,8 +10,8 @@ use lib.Seq.{take_at}
 use borrow.Author.Tests.{eqb-true, ne_eqb}
 use Rattle.buffer.specs.Lists.{keep}
 use Rattle.buffer.proofs.Kept.{keep_all, keep-keep, keep-length, keep-map, keep-none, keep-swap}
-use Rattle.variable.specs.Limits.{maxVariables}
-use Rattle.variable.specs.Table.{Shaped, cell_of, counted, freed, freedAll, is_of, noVariable, owned, owned_by}
+use Rattle.variable.specs.Limits.{max_variables}
+use Rattle.variable.specs.Table.{Shaped, cell_of, counted, freed, freed_all, is_of, no_variable, owned, owned_by}
 use Rattle.variable.specs.declared.Variable.{Variable}
 use Rattle.variable.specs.declared.Variables.{Variables}
 use Rattle.variable.proofs.Views.{take_bound}
@@ -25,7 +25,7 @@ module _ (v : Variables) (gone : Variable → Bool) where
   unfolding freed
   freed-counted =
       let kept : List Variable = keep (λ e. not (gone e)) (counted v) in
-      rw append_assoc (take_at kept (replicate (v.count - length kept) noVariable ++ drop v.count v.entries) (length kept) refl)
+      rw append_assoc (take_at kept (replicate (v.count - length kept) no_variable ++ drop v.count v.entries) (length kept) refl)
 
   pub freed-count : (freed v gone).count ≤ v.count
   unfolding freed
@@ -34,7 +34,7 @@ module _ (v : Variables) (gone : Variable → Bool) where
       let b = take_bound v.count v.entries in
       omega arith
 
-  pub freed-shaped : v.count ≤ maxVariables → Shaped v → Shaped (freed v gone)
+  pub freed-shaped : v.count ≤ max_variables → Shaped v → Shaped (freed v gone)
   unfolding freed
   freed-shaped h s =
       let n = s.entries in
@@ -55,7 +55,7 @@ not-owned id other h e k = ne_eqb _ _ (λ q. h (sym (eqb-true _ _ k) ∙ q))
 
 module _ (v : Variables) (id : ℕ) where
   -- freeing by one process leaves every other's variables, in table order
-  pub owned-freed-all-other : (other : ℕ) → (other ≡ id → ⊥) → owned (freedAll v id) other ≡ owned v other
+  pub owned-freed-all-other : (other : ℕ) → (other ≡ id → ⊥) → owned (freed_all v id) other ≡ owned v other
   owned-freed-all-other other h = owned-freed v (owned_by id) other (not-owned id other h)
 
   pub owned-freed-other : (name other : ℕ) → (other ≡ id → ⊥) → owned (freed v (is_of name id)) other ≡ owned v other
@@ -63,11 +63,11 @@ module _ (v : Variables) (id : ℕ) where
       owned-freed v (is_of name id) other (λ e k. rw (not-owned id other h e k) (and-false (eqb e.name name)))
 
   -- Document 01: "Ending (STOP, kill, fault) frees the process's variables."
-  pub owned-freed-all : owned (freedAll v id) id ≡ []
+  pub owned-freed-all : owned (freed_all v id) id ≡ []
   unfolding owned
   owned-freed-all =
-      ap (λ (l : List Variable). map (cell_of (freedAll v id).memory) (keep (owned_by id) l)) (freed-counted v (owned_by id))
-      ∙ ap (λ (l : List Variable). map (cell_of (freedAll v id).memory) l)
+      ap (λ (l : List Variable). map (cell_of (freed_all v id).memory) (keep (owned_by id) l)) (freed-counted v (owned_by id))
+      ∙ ap (λ (l : List Variable). map (cell_of (freed_all v id).memory) l)
       (keep-none (owned_by id) (keep (λ e. not (owned_by id e)) (counted v)) (keep_all (λ e. not (owned_by id e)) (counted v)))
 
   -- one name goes from the list

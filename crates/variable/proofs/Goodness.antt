@@ -18,10 +18,10 @@ use Rattle.buffer.proofs.Parts.{part_length}
 use Rattle.buffer.proofs.Tables.{all_map}
 use Rattle.place.specs.Place.{apart}
 use Rattle.place.proofs.Place.{Fits, apart-sym}
-use Rattle.variable.specs.Assign.{added, assigned, highEnd, low_end, newVariable, takenRuns, valueBytes}
-use Rattle.variable.specs.Good.{beside, goodSize, goodVariable, goodVariables}
-use Rattle.variable.specs.Limits.{maxString, maxVariables, memorySize}
-use Rattle.variable.specs.Table.{Shaped, counted, freed, freedAll, is_of, owned_by, runOf}
+use Rattle.variable.specs.Assign.{added, assigned, high_end, low_end, new_variable, taken_runs, value_bytes}
+use Rattle.variable.specs.Good.{beside, good_size, good_variable, good_variables}
+use Rattle.variable.specs.Limits.{max_string, max_variables, memory_size}
+use Rattle.variable.specs.Table.{Shaped, counted, freed, freed_all, is_of, owned_by, run_of}
 use Rattle.variable.specs.declared.Value.{Value}
 use Rattle.variable.specs.declared.Variable.{Variable}
 use Rattle.variable.specs.declared.Variables.{Variables}
@@ -30,63 +30,63 @@ use Rattle.variable.proofs.Freeing.{freed-count, freed-counted, freed-shaped}
 use Rattle.variable.proofs.Setting.{assigned-keeps, place-address}
 
 -- ---- what the tests say
-pub good-size-bounds : (kind size : ℕ) → goodSize kind size ≡ true → (1 ≤ size) × (size ≤ maxString)
-unfolding goodSize
+pub good-size-bounds : (kind size : ℕ) → good_size kind size ≡ true → (1 ≤ size) × (size ≤ max_string)
+unfolding good_size
 good-size-bounds kind size h =
     ⊎_elim (fixed 1 1 (omega arith) (omega arith))
     (λ h. ⊎_elim (fixed 2 2 (omega arith) (omega arith)) (λ h. ⊎_elim (fixed 4 4 (omega arith) (omega arith)) text (or_cases _ _ h))
     (or_cases _ _ h))
     (or_cases _ _ h)
   where
-    fixed : (k n : ℕ) → 1 ≤ n → n ≤ maxString → eqb kind k && eqb size n ≡ true → (1 ≤ size) × (size ≤ maxString)
+    fixed : (k n : ℕ) → 1 ≤ n → n ≤ max_string → eqb kind k && eqb size n ≡ true → (1 ≤ size) × (size ≤ max_string)
     fixed k n lo hi e = let q : size ≡ n = eqb-true size n (and_right (eqb kind k) (eqb size n) e) in omega arith
 
-    text : eqb kind 3 && (leb 1 size && leb size maxString) ≡ true → (1 ≤ size) × (size ≤ maxString)
+    text : eqb kind 3 && (leb 1 size && leb size max_string) ≡ true → (1 ≤ size) × (size ≤ max_string)
     text e =
-        let b = and_right (eqb kind 3) (leb 1 size && leb size maxString) e in (
-          leb-true 1 size (and_left (leb 1 size) (leb size maxString) b),
-          leb-true size maxString (and_right (leb 1 size) (leb size maxString) b),
+        let b = and_right (eqb kind 3) (leb 1 size && leb size max_string) e in (
+          leb-true 1 size (and_left (leb 1 size) (leb size max_string) b),
+          leb-true size max_string (and_right (leb 1 size) (leb size max_string) b),
         )
 
 pub record GoodVariable (live : List ℕ) (e : Variable) : Type 0 where
-  pub size : goodSize e.kind e.size ≡ true
-  pub inside : e.address + e.size ≤ memorySize
+  pub size : good_size e.kind e.size ≡ true
+  pub inside : e.address + e.size ≤ memory_size
   pub owner : any (eqb e.owner) live ≡ true
 
-pub good-variable-is : (live : List ℕ) (e : Variable) → goodVariable live e ≡ true → GoodVariable live e
-unfolding goodVariable
+pub good-variable-is : (live : List ℕ) (e : Variable) → good_variable live e ≡ true → GoodVariable live e
+unfolding good_variable
 good-variable-is live e h =
-    let r = and_right (goodSize e.kind e.size) (leb (e.address + e.size) memorySize && any (eqb e.owner) live) h in
+    let r = and_right (good_size e.kind e.size) (leb (e.address + e.size) memory_size && any (eqb e.owner) live) h in
     record {
-      size = and_left (goodSize e.kind e.size) (leb (e.address + e.size) memorySize && any (eqb e.owner) live) h;
-      inside = leb-true _ _ (and_left (leb (e.address + e.size) memorySize) (any (eqb e.owner) live) r);
-      owner = and_right (leb (e.address + e.size) memorySize) (any (eqb e.owner) live) r;
+      size = and_left (good_size e.kind e.size) (leb (e.address + e.size) memory_size && any (eqb e.owner) live) h;
+      inside = leb-true _ _ (and_left (leb (e.address + e.size) memory_size) (any (eqb e.owner) live) r);
+      owner = and_right (leb (e.address + e.size) memory_size) (any (eqb e.owner) live) r;
     }
 
-pub is-good-variable : (live : List ℕ) (e : Variable) → GoodVariable live e → goodVariable live e ≡ true
-unfolding goodVariable
+pub is-good-variable : (live : List ℕ) (e : Variable) → GoodVariable live e → good_variable live e ≡ true
+unfolding good_variable
 is-good-variable live e g = and_both g.size (and_both (le-leb _ _ g.inside) g.owner)
 
 pub record GoodVariables (live : List ℕ) (v : Variables) : Type 0 where
-  pub few : v.count ≤ maxVariables
-  pub each : all (goodVariable live) (counted v) ≡ true
+  pub few : v.count ≤ max_variables
+  pub each : all (good_variable live) (counted v) ≡ true
   pub pairwise : pairs beside (counted v) ≡ true
 
 module _ (live : List ℕ) (v : Variables) where
-  pub good-variables-is : goodVariables live v ≡ true → GoodVariables live v
-  unfolding goodVariables
+  pub good-variables-is : good_variables live v ≡ true → GoodVariables live v
+  unfolding good_variables
   good-variables-is h =
-      let each = all (goodVariable live) (counted v) in
+      let each = all (good_variable live) (counted v) in
       let pairwise = pairs beside (counted v) in
-      let r = and_right (leb v.count maxVariables) (each && pairwise) h in
+      let r = and_right (leb v.count max_variables) (each && pairwise) h in
       record {
-        few = leb-true _ _ (and_left (leb v.count maxVariables) (each && pairwise) h);
+        few = leb-true _ _ (and_left (leb v.count max_variables) (each && pairwise) h);
         each = and_left each pairwise r;
         pairwise = and_right each pairwise r;
       }
 
-  pub is-good-variables : GoodVariables live v → goodVariables live v ≡ true
-  unfolding goodVariables
+  pub is-good-variables : GoodVariables live v → good_variables live v ≡ true
+  unfolding good_variables
   is-good-variables g = and_both (le-leb _ _ g.few) (and_both g.each g.pairwise)
 
 -- a good variable's value is as long as its entry says
@@ -99,31 +99,31 @@ value-length live v e s g =
 
 -- ---- freeing
 -- good for any live IDs among which the owners of what stays are
-pub freed-good : (live next : List ℕ) (v : Variables) (gone : Variable → Bool) → goodVariables live v ≡ true
+pub freed-good : (live next : List ℕ) (v : Variables) (gone : Variable → Bool) → good_variables live v ≡ true
     → ((e : Variable) → gone e ≡ false → any (eqb e.owner) live ≡ true → any (eqb e.owner) next ≡ true)
-    → goodVariables next (freed v gone) ≡ true
+    → good_variables next (freed v gone) ≡ true
 freed-good live next v gone h stays =
     let g = good-variables-is live v h in
     let c = freed-counted v gone in
     is-good-variables next (freed v gone)
     (record {
       few = omega (arith, freed-count v gone, g.few);
-      each = rw c (all-kept (λ e. not (gone e)) (goodVariable live) (goodVariable next) (counted v) still g.each);
+      each = rw c (all-kept (λ e. not (gone e)) (good_variable live) (good_variable next) (counted v) still g.each);
       pairwise = rw c (pairs-keep (λ e. not (gone e)) beside (counted v) g.pairwise);
     })
   where
-    still : (e : Variable) → not (gone e) ≡ true → goodVariable live e ≡ true → goodVariable next e ≡ true
+    still : (e : Variable) → not (gone e) ≡ true → good_variable live e ≡ true → good_variable next e ≡ true
     still e k b = let d = good-variable-is live e b in
         is-good-variable next e (record { size = d.size; inside = d.inside; owner = stays e (not-true (gone e) k) d.owner })
 
-pub freed-name-good : (live : List ℕ) (v : Variables) (name id : ℕ) → goodVariables live v ≡ true
-    → goodVariables live (freed v (is_of name id)) ≡ true
+pub freed-name-good : (live : List ℕ) (v : Variables) (name id : ℕ) → good_variables live v ≡ true
+    → good_variables live (freed v (is_of name id)) ≡ true
 freed-name-good live v name id h = freed-good live live v (is_of name id) h (λ e k o. o)
 
 -- and they are good for any live IDs that hold every other one
-pub freed-all-good : (live next : List ℕ) (v : Variables) (id : ℕ) → goodVariables live v ≡ true
+pub freed-all-good : (live next : List ℕ) (v : Variables) (id : ℕ) → good_variables live v ≡ true
     → ((owner : ℕ) → (owner ≡ id → ⊥) → any (eqb owner) live ≡ true → any (eqb owner) next ≡ true)
-    → goodVariables next (freedAll v id) ≡ true
+    → good_variables next (freed_all v id) ≡ true
 freed-all-good live next v id h others = freed-good live next v (owned_by id) h (λ e k o. others e.owner (eqb-false e.owner id k) o)
 
 -- ---- SET
@@ -135,11 +135,11 @@ all_both p q r (x ∷ l) h a b =
     and_both (h x (and_left (p x) (all p l) a) (and_left (q x) (all q l) b))
     (all_both p q r l h (and_right (p x) (all p l) a) (and_right (q x) (all q l) b))
 
-module _ (live : List ℕ) (v : Variables) (e : Variable) (bytes : List ℕ) (shaped : Shaped v) (room : v.count < maxVariables)
-    (run : Fits (takenRuns v) low_end highEnd e.size e.address) (sized : length bytes ≡ e.size) where
+module _ (live : List ℕ) (v : Variables) (e : Variable) (bytes : List ℕ) (shaped : Shaped v) (room : v.count < max_variables)
+    (run : Fits (taken_runs v) low_end high_end e.size e.address) (sized : length bytes ≡ e.size) where
   -- a new variable of a live process, in a free run and with a new name
-  pub added-good : goodVariables live v ≡ true → goodSize e.kind e.size ≡ true → any (eqb e.owner) live ≡ true
-      → all (λ d. not (is_of e.name e.owner d)) (counted v) ≡ true → goodVariables live (added v e bytes) ≡ true
+  pub added-good : good_variables live v ≡ true → good_size e.kind e.size ≡ true → any (eqb e.owner) live ≡ true
+      → all (λ d. not (is_of e.name e.owner d)) (counted v) ≡ true → good_variables live (added v e bytes) ≡ true
   unfolding beside
   added-good h size owner new =
       let g = good-variables-is live v h in
@@ -147,27 +147,27 @@ module _ (live : List ℕ) (v : Variables) (e : Variable) (bytes : List ℕ) (sh
       is-good-variables live (added v e bytes)
       (record {
         few = omega (arith, added-count v e bytes shaped room run sized);
-        each = rw (c, all_snoc (goodVariable live) (counted v) e)
+        each = rw (c, all_snoc (good_variable live) (counted v) e)
             (and_both g.each (is-good-variable live e (record { size = size; inside = run.high; owner = owner })));
         pairwise = rw (c, pairs-snoc beside (counted v) e)
             (and_both g.pairwise
-            (all_both (λ d. apart (runOf e) (runOf d)) (λ d. not (is_of e.name e.owner d)) (λ d. beside d e) (counted v) besides
-            (sym (all_map (apart (runOf e)) runOf (counted v)) ∙ run.free) new));
+            (all_both (λ d. apart (run_of e) (run_of d)) (λ d. not (is_of e.name e.owner d)) (λ d. beside d e) (counted v) besides
+            (sym (all_map (apart (run_of e)) run_of (counted v)) ∙ run.free) new));
       })
     where
-      besides : (d : Variable) → apart (runOf e) (runOf d) ≡ true → not (is_of e.name e.owner d) ≡ true → beside d e ≡ true
-      besides d a n = and_both (apart-sym (runOf e) (runOf d) a) n
+      besides : (d : Variable) → apart (run_of e) (run_of d) ≡ true → not (is_of e.name e.owner d) ≡ true → beside d e ≡ true
+      besides d a n = and_both (apart-sym (run_of e) (run_of d) a) n
 
 -- a SET by a live process of a value of a good size keeps the table good
-pub assigned-good : (live : List ℕ) (v : Variables) (name id : ℕ) (x : Value) → Shaped v → length (valueBytes x) ≡ x.size
-    → goodVariables live v ≡ true → goodSize x.kind x.size ≡ true → any (eqb id) live ≡ true
-    → goodVariables live (assigned v name id x).variables ≡ true
+pub assigned-good : (live : List ℕ) (v : Variables) (name id : ℕ) (x : Value) → Shaped v → length (value_bytes x) ≡ x.size
+    → good_variables live v ≡ true → good_size x.kind x.size ≡ true → any (eqb id) live ≡ true
+    → good_variables live (assigned v name id x).variables ≡ true
 assigned-good live v name id x shaped sized h size owner =
     let rest : Variables = freed v (is_of name id) in
-    assigned-keeps v name id x (λ (w : Variables). goodVariables live w ≡ true) h
+    assigned-keeps v name id x (λ (w : Variables). good_variables live w ≡ true) h
     (λ a e.
     let r = place-address rest x.size a e in
-    added-good live rest (newVariable name id x a) (valueBytes x) (freed-shaped v (is_of name id) (good-variables-is live v h).few shaped)
+    added-good live rest (new_variable name id x a) (value_bytes x) (freed-shaped v (is_of name id) (good-variables-is live v h).few shaped)
     r.0 r.1 sized
     (freed-name-good live v name id h) size owner
     (rw (freed-counted v (is_of name id)) (keep_all (λ d. not (is_of name id d)) (counted v))))

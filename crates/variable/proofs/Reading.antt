@@ -7,23 +7,23 @@ use lib.Dec.{eqb}
 use lib.ListN.{length, get_or, replicate}
 use lib.Seq.{get_or-take, take_at}
 use native.Mathlib.Omega.{arith}
-use Rattle.buffer.specs.Lists.{consIf, hereOr, index, keep, later}
+use Rattle.buffer.specs.Lists.{cons_if, here_or, index, keep, later}
 use Rattle.buffer.specs.declared.Found.{Found}
 use Rattle.buffer.specs.declared.Found.TheVariants.{At, Nowhere}
 use Rattle.buffer.proofs.Tables.{index_at}
-use Rattle.variable.specs.Assign.{valueBytes, value_of}
-use Rattle.variable.specs.Limits.{valueSize}
-use Rattle.variable.specs.Table.{Cell, cell_of, counted, find, is_of, noVariable, owned, owned_by}
+use Rattle.variable.specs.Assign.{value_bytes, value_of}
+use Rattle.variable.specs.Limits.{value_size}
+use Rattle.variable.specs.Table.{Cell, cell_of, counted, find, is_of, no_variable, owned, owned_by}
 use Rattle.variable.specs.declared.Variables.{Variables}
 use Rattle.variable.proofs.Views.{take_bound}
 
 -- what is made of a search in l: `next` of what it found, or `none`
-abbrev pub foundIn : {A C : Type 0} → List A → A → (A → C) → C → Found → C
-foundIn l d next none (At i) = next (get_or l i d)
-foundIn l d next none Nowhere = none
+abbrev pub found_in : {A C : Type 0} → List A → A → (A → C) → C → Found → C
+found_in l d next none (At i) = next (get_or l i d)
+found_in l d next none Nowhere = none
 
 found-later : {A C : Type 0} (x : A) (l : List A) (d : A) (next : A → C) (none : C) (f : Found)
-    → foundIn (x ∷ l) d next none (later f) ≡ foundIn l d next none f
+    → found_in (x ∷ l) d next none (later f) ≡ found_in l d next none f
 found-later x l d next none (At i) = refl
 found-later x l d next none Nowhere = refl
 
@@ -35,18 +35,18 @@ module _ {A B C : Type 0} (p : A → Bool) (f : A → B) (r : B → Bool) (d : A
   abbrev both : A → Bool
   both x = r (f x) && p x
 
-  found-kept : (l : List A) → foundIn (kept l) e next none (index r (kept l)) ≡ foundIn l d (λ x. next (f x)) none (index both l)
+  found-kept : (l : List A) → found_in (kept l) e next none (index r (kept l)) ≡ found_in l d (λ x. next (f x)) none (index both l)
   unfolding index keep
   found-kept [] = refl
   found-kept (x ∷ l) = go (r (f x)) refl (p x) (found-kept l)
     where
-      behind : foundIn (x ∷ l) d (λ y. next (f y)) none (later (index both l)) ≡ foundIn l d (λ y. next (f y)) none (index both l)
+      behind : found_in (x ∷ l) d (λ y. next (f y)) none (later (index both l)) ≡ found_in l d (λ y. next (f y)) none (index both l)
       behind = found-later x l d (λ y. next (f y)) none (index both l)
 
       go : (b : Bool) → r (f x) ≡ b → (a : Bool)
-          → foundIn (kept l) e next none (index r (kept l)) ≡ foundIn l d (λ y. next (f y)) none (index both l)
-          → foundIn (map f (consIf a x (keep p l))) e next none (index r (map f (consIf a x (keep p l))))
-          ≡ foundIn (x ∷ l) d (λ y. next (f y)) none (hereOr (b && a) (index both l))
+          → found_in (kept l) e next none (index r (kept l)) ≡ found_in l d (λ y. next (f y)) none (index both l)
+          → found_in (map f (cons_if a x (keep p l))) e next none (index r (map f (cons_if a x (keep p l))))
+          ≡ found_in (x ∷ l) d (λ y. next (f y)) none (here_or (b && a) (index both l))
       go true q true h = rw q
       go false q true h = rw q (found-later (f x) (kept l) e next none (index r (kept l)) ∙ h ∙ sym behind)
       go true q false h = h ∙ sym behind
@@ -58,10 +58,10 @@ module _ (v : Variables) (name id : ℕ) where
 
   -- a process's own variable of a name is the table's first of that name and owner
   pub variable-found : {C : Type 0} (d : Cell) (next : Cell → C) (none : C)
-      → foundIn (owned v id) d next none (index named (owned v id))
-      ≡ foundIn (counted v) noVariable (λ e. next (cell_of v.memory e)) none (find v name id)
+      → found_in (owned v id) d next none (index named (owned v id))
+      ≡ found_in (counted v) no_variable (λ e. next (cell_of v.memory e)) none (find v name id)
   unfolding find owned
-  variable-found d next none = found-kept (owned_by id) (cell_of v.memory) named noVariable d next none (counted v)
+  variable-found d next none = found-kept (owned_by id) (cell_of v.memory) named no_variable d next none (counted v)
 
   -- a variable among the process's own, the one of that name
   pub record Own (d x : Cell) : Type 0 where
@@ -71,22 +71,22 @@ module _ (v : Variables) (name id : ℕ) where
 
   module _ (d : Cell) where
     abbrev alone : Found → List Cell
-    alone f = foundIn (owned v id) d (λ c. c ∷ []) [] f
+    alone f = found_in (owned v id) d (λ c. c ∷ []) [] f
 
     -- found in the table: found among its own, and the same
-    pub find-own : (i : ℕ) → find v name id ≡ At i → Own d (cell_of v.memory (get_or (counted v) i noVariable))
+    pub find-own : (i : ℕ) → find v name id ≡ At i → Own d (cell_of v.memory (get_or (counted v) i no_variable))
     find-own i h = go (index named (owned v id)) refl (variable-found d (λ c. c ∷ []) []
-        ∙ ap (foundIn (counted v) noVariable (λ e. cell_of v.memory e ∷ []) []) h)
+        ∙ ap (found_in (counted v) no_variable (λ e. cell_of v.memory e ∷ []) []) h)
       where
-        go : (f : Found) → index named (owned v id) ≡ f → alone f ≡ cell_of v.memory (get_or (counted v) i noVariable) ∷ []
-            → Own d (cell_of v.memory (get_or (counted v) i noVariable))
+        go : (f : Found) → index named (owned v id) ≡ f → alone f ≡ cell_of v.memory (get_or (counted v) i no_variable) ∷ []
+            → Own d (cell_of v.memory (get_or (counted v) i no_variable))
         go (At k) q e = record { place = k; found = q; is = cc }
         go Nowhere q e = absurd (let z : ◌≡◌ {A = ℕ} 0 1 = cc in omega arith)
 
     -- none in the table: none among its own
     pub find-own-none : find v name id ≡ Nowhere → index named (owned v id) ≡ Nowhere
     find-own-none h = go (index named (owned v id)) (variable-found d (λ c. c ∷ []) []
-        ∙ ap (foundIn (counted v) noVariable (λ e. cell_of v.memory e ∷ []) []) h)
+        ∙ ap (found_in (counted v) no_variable (λ e. cell_of v.memory e ∷ []) []) h)
       where
         go : (f : Found) → alone f ≡ [] → f ≡ Nowhere
         go (At k) e = absurd (let z : ◌≡◌ {A = ℕ} 0 1 = cc in omega arith)
@@ -94,13 +94,13 @@ module _ (v : Variables) (name id : ℕ) where
 
 -- a counted variable is the table's entry at that place
 pub find-counted : (v : Variables) (name id i : ℕ) → find v name id ≡ At i
-    → (i < v.count) × (get_or (counted v) i noVariable ≡ get_or v.entries i noVariable)
+    → (i < v.count) × (get_or (counted v) i no_variable ≡ get_or v.entries i no_variable)
 unfolding find
 find-counted v name id i h =
-    let f = index_at (is_of name id) noVariable (counted v) i h in
+    let f = index_at (is_of name id) no_variable (counted v) i h in
     let n : i < v.count = omega (arith, f.inside, take_bound v.count v.entries) in
-    (n, get_or-take v.count v.entries i noVariable n)
+    (n, get_or-take v.count v.entries i no_variable n)
 
 -- a value's bytes are those it was made of
-pub value_made : (kind : ℕ) (bytes : List ℕ) → valueBytes (value_of kind bytes) ≡ bytes
-value_made kind bytes = take_at bytes (replicate (valueSize - length bytes) 0) (length bytes) refl
+pub value_made : (kind : ℕ) (bytes : List ℕ) → value_bytes (value_of kind bytes) ≡ bytes
+value_made kind bytes = take_at bytes (replicate (value_size - length bytes) 0) (length bytes) refl

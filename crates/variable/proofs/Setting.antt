@@ -12,11 +12,11 @@ use Rattle.buffer.specs.declared.Found.TheVariants.{At, Nowhere}
 use Rattle.place.specs.Place.{fits, place}
 use Rattle.place.specs.declared.Run.{Run}
 use Rattle.place.proofs.Place.{Fits, no-place-none-fits, place-fits}
-use Rattle.variable.specs.Assign.{added, addressOr, assignAt, assigned, entryLimit, highEnd, ifEntry, low_end, newCell, newVariable}
-use Rattle.variable.specs.Assign.{placeFor, placing, takenRuns, valueBytes, value_of, assignedCells}
-use Rattle.variable.specs.Bytes.{variablesBytes, variablesOf}
+use Rattle.variable.specs.Assign.{added, address_or, assign_at, assigned, entry_limit, high_end, if_entry, low_end, new_cell, new_variable}
+use Rattle.variable.specs.Assign.{place_for, placing, taken_runs, value_bytes, value_of, assigned_cells}
+use Rattle.variable.specs.Bytes.{variables_bytes, variables_of}
 use Rattle.variable.specs.Closing.{SetLeaves}
-use Rattle.variable.specs.Limits.{maxVariables, memorySize}
+use Rattle.variable.specs.Limits.{max_variables, memory_size}
 use Rattle.variable.specs.Table.{Cell, Shaped, freed, is_of, owned}
 use Rattle.variable.specs.declared.Placing.{Placing}
 use Rattle.variable.specs.declared.Placing.TheVariants.{Address, NoEntry, NoRun}
@@ -47,7 +47,7 @@ module _ (runs : List Run) (low high used limit n : ℕ) where
   unfolding placing
   says p e = go (ltb used limit) refl (place runs low high n) refl e
     where
-      go : (b : Bool) → ltb used limit ≡ b → (f : Found) → place runs low high n ≡ f → ifEntry b (addressOr f) ≡ p → Says p
+      go : (b : Bool) → ltb used limit ≡ b → (f : Found) → place runs low high n ≡ f → if_entry b (address_or f) ≡ p → Says p
       go true k (At a) h e = subst Says e (ltb-true _ _ k, place-fits runs low high n a h)
       go true k Nowhere h e = subst Says e (no-place-none-fits runs low high n h)
       go false k f h e = subst Says e (ltb-false _ _ k)
@@ -66,40 +66,40 @@ module _ (runs : List Run) (low high used limit n : ℕ) where
 
 -- the same of a table
 module _ (v : Variables) (n : ℕ) where
-  pub place-address : (a : ℕ) → placeFor v n ≡ Address a → (v.count < entryLimit) × Fits (takenRuns v) low_end highEnd n a
-  unfolding placeFor
-  place-address a e = placing-address (takenRuns v) low_end highEnd v.count entryLimit n a e
+  pub place-address : (a : ℕ) → place_for v n ≡ Address a → (v.count < entry_limit) × Fits (taken_runs v) low_end high_end n a
+  unfolding place_for
+  place-address a e = placing-address (taken_runs v) low_end high_end v.count entry_limit n a e
 
-  pub place-no-entry : placeFor v n ≡ NoEntry → entryLimit ≤ v.count
-  unfolding placeFor
-  place-no-entry e = placing-no-entry (takenRuns v) low_end highEnd v.count entryLimit n e
+  pub place-no-entry : place_for v n ≡ NoEntry → entry_limit ≤ v.count
+  unfolding place_for
+  place-no-entry e = placing-no-entry (taken_runs v) low_end high_end v.count entry_limit n e
 
-  pub place-no-run : placeFor v n ≡ NoRun → (j : ℕ) → fits (takenRuns v) low_end highEnd n j ≡ false
-  unfolding placeFor
-  place-no-run e = placing-no-run (takenRuns v) low_end highEnd v.count entryLimit n e
+  pub place-no-run : place_for v n ≡ NoRun → (j : ℕ) → fits (taken_runs v) low_end high_end n j ≡ false
+  unfolding place_for
+  place-no-run e = placing-no-run (taken_runs v) low_end high_end v.count entry_limit n e
 
 -- ---- SET
 module _ (v : Variables) (name id : ℕ) (x : Value) where
   abbrev rest : Variables
   rest = freed v (is_of name id)
 
-  pub assigned-placing : (assigned v name id x).placing ≡ placeFor rest x.size
+  pub assigned-placing : (assigned v name id x).placing ≡ place_for rest x.size
   unfolding assigned
-  assigned-placing = go (placeFor rest x.size)
+  assigned-placing = go (place_for rest x.size)
     where
-      go : (p : Placing) → (assignAt p v rest name id x).placing ≡ p
+      go : (p : Placing) → (assign_at p v rest name id x).placing ≡ p
       go (Address a) = refl
       go NoEntry = refl
       go NoRun = refl
 
   -- what holds of the table as it was, and of the one with the new variable, holds after a SET
   pub assigned-keeps : (P : Variables → Type 0) → P v
-      → ((a : ℕ) → placeFor rest x.size ≡ Address a → P (added rest (newVariable name id x a) (valueBytes x)))
+      → ((a : ℕ) → place_for rest x.size ≡ Address a → P (added rest (new_variable name id x a) (value_bytes x)))
       → P (assigned v name id x).variables
   unfolding assigned
-  assigned-keeps P old new = go (placeFor rest x.size) refl
+  assigned-keeps P old new = go (place_for rest x.size) refl
     where
-      go : (p : Placing) → placeFor rest x.size ≡ p → P (assignAt p v rest name id x).variables
+      go : (p : Placing) → place_for rest x.size ≡ p → P (assign_at p v rest name id x).variables
       go (Address a) e = new a e
       go NoEntry e = old
       go NoRun e = old
@@ -109,92 +109,92 @@ module _ (v : Variables) (name id : ℕ) (x : Value) where
   unfolding assigned
   assigned-refused p n e = go p n (sym assigned-placing ∙ e)
     where
-      go : (p : Placing) → NotPlaced p → placeFor rest x.size ≡ p → (assigned v name id x).variables ≡ v
+      go : (p : Placing) → NotPlaced p → place_for rest x.size ≡ p → (assigned v name id x).variables ≡ v
       go (Address a) none h = absurd none
       go NoEntry none h = rw h
       go NoRun none h = rw h
 
   -- "no entry" only with as many variables as there can be left after freeing the old one
-  pub assigned-no-entry : (assigned v name id x).placing ≡ NoEntry → maxVariables ≤ rest.count
+  pub assigned-no-entry : (assigned v name id x).placing ≡ NoEntry → max_variables ≤ rest.count
   assigned-no-entry e = place-no-entry rest x.size (sym assigned-placing ∙ e)
 
   -- "no run" only where no address fits among the variables left
-  pub assigned-no-run : (assigned v name id x).placing ≡ NoRun → (a : ℕ) → fits (takenRuns rest) low_end highEnd x.size a ≡ false
+  pub assigned-no-run : (assigned v name id x).placing ≡ NoRun → (a : ℕ) → fits (taken_runs rest) low_end high_end x.size a ≡ false
   assigned-no-run e = place-no-run rest x.size (sym assigned-placing ∙ e)
 
   -- ---- kept in either case
-  module _ (shaped : Shaped v) (few : v.count ≤ maxVariables) (sized : length (valueBytes x) ≡ x.size) where
+  module _ (shaped : Shaped v) (few : v.count ≤ max_variables) (sized : length (value_bytes x) ≡ x.size) where
     left : Shaped rest
     left = freed-shaped v (is_of name id) few shaped
 
     pub assigned-shaped : Shaped (assigned v name id x).variables
     assigned-shaped = assigned-keeps Shaped shaped (λ a e. let r = place-address rest x.size a e in
-        added-shaped rest (newVariable name id x a) (valueBytes x) left r.0 r.1 sized)
+        added-shaped rest (new_variable name id x a) (value_bytes x) left r.0 r.1 sized)
 
     -- every other process's variables, in table order
     pub assigned-other : (other : ℕ) → (other ≡ id → ⊥) → owned (assigned v name id x).variables other ≡ owned v other
     assigned-other other h =
         assigned-keeps (λ (w : Variables). owned w other ≡ owned v other) refl
         (λ a e. let r = place-address rest x.size a e in
-        owned-added-other rest (newVariable name id x a) (valueBytes x) left r.0 r.1 sized other h
+        owned-added-other rest (new_variable name id x a) (value_bytes x) left r.0 r.1 sized other h
         ∙ owned-freed-other v id name other h)
 
     -- ---- a SET that is done
     module _ (a : ℕ) (done : (assigned v name id x).placing ≡ Address a) where
       abbrev new : Variable
-      new = newVariable name id x a
+      new = new_variable name id x a
 
-      placed : placeFor rest x.size ≡ Address a
+      placed : place_for rest x.size ≡ Address a
       placed = sym assigned-placing ∙ done
 
-      room : rest.count < maxVariables
+      room : rest.count < max_variables
       room = (place-address rest x.size a placed).0
 
-      pub assigned-run : Fits (takenRuns rest) low_end highEnd x.size a
+      pub assigned-run : Fits (taken_runs rest) low_end high_end x.size a
       assigned-run = (place-address rest x.size a placed).1
 
-      pub assigned-is : (assigned v name id x).variables ≡ added rest new (valueBytes x)
+      pub assigned-is : (assigned v name id x).variables ≡ added rest new (value_bytes x)
       unfolding assigned
       assigned-is = rw placed
 
       -- Document 01: "A SET without fault drops the old variable, then adds the new one"
-      pub assigned-own : owned (assigned v name id x).variables id ≡ assignedCells (owned v id) (newCell name x)
-      unfolding assignedCells
+      pub assigned-own : owned (assigned v name id x).variables id ≡ assigned_cells (owned v id) (new_cell name x)
+      unfolding assigned_cells
       assigned-own =
           ap (λ (w : Variables). owned w id) assigned-is
-          ∙ owned-added-own rest new (valueBytes x) left room assigned-run sized
-          ∙ ap (λ (l : List Cell). l ++ (newCell name x ∷ [])) (owned-freed-name v id name)
+          ∙ owned-added-own rest new (value_bytes x) left room assigned-run sized
+          ∙ ap (λ (l : List Cell). l ++ (new_cell name x ∷ [])) (owned-freed-name v id name)
 
-      pub assigned-bytes : part (assigned v name id x).variables.memory a x.size ≡ valueBytes x
+      pub assigned-bytes : part (assigned v name id x).variables.memory a x.size ≡ value_bytes x
       assigned-bytes = ap (λ (w : Variables). part w.memory a x.size) assigned-is
-          ∙ added-bytes rest new (valueBytes x) left room assigned-run sized
+          ∙ added-bytes rest new (value_bytes x) left room assigned-run sized
 
 -- ---- what a SET leaves of the bytes
-module _ (v : Variables) (shaped : Shaped v) (few : v.count ≤ maxVariables) (name id kind : ℕ) (bytes : List ℕ) where
+module _ (v : Variables) (shaped : Shaped v) (few : v.count ≤ max_variables) (name id kind : ℕ) (bytes : List ℕ) where
   abbrev value : Value
   value = value_of kind bytes
 
   abbrev others : Variables
   others = freed v (is_of name id)
 
-  pub set-refused : (p : Placing) {left : List ℕ} → NotPlaced p → placeFor others (length bytes) ≡ p → left ≡ variablesBytes v
+  pub set-refused : (p : Placing) {left : List ℕ} → NotPlaced p → place_for others (length bytes) ≡ p → left ≡ variables_bytes v
       → SetLeaves p left (assigned v name id value)
   unfolding assigned
   set-refused (Address a) n h x = absurd n
   set-refused NoEntry n h x = rw h (record { placing = refl; variables = x })
   set-refused NoRun n h x = rw h (record { placing = refl; variables = x })
 
-  module _ (a : ℕ) (h : placeFor others (length bytes) ≡ Address a) where
-    pub set_room : (others.count < maxVariables) × (a + length bytes ≤ memorySize)
+  module _ (a : ℕ) (h : place_for others (length bytes) ≡ Address a) where
+    pub set_room : (others.count < max_variables) × (a + length bytes ≤ memory_size)
     set_room = let r = place-address others (length bytes) a h in
         (r.0, r.1.high)
 
-    pub set-done : {one two : List ℕ} → one ≡ variablesBytes others
-        → two ≡ variablesBytes (added (variablesOf one) (newVariable name id value a) bytes)
+    pub set-done : {one two : List ℕ} → one ≡ variables_bytes others
+        → two ≡ variables_bytes (added (variables_of one) (new_variable name id value a) bytes)
         → SetLeaves (Address a) two (assigned v name id value)
     unfolding assigned
     set-done {one} {two} x y =
-        let rest : variablesOf one ≡ others = variables-said others (freed-shaped v (is_of name id) few shaped) x in
-        let made : bytes ≡ valueBytes value = sym (value_made kind bytes) in
+        let rest : variables_of one ≡ others = variables-said others (freed-shaped v (is_of name id) few shaped) x in
+        let made : bytes ≡ value_bytes value = sym (value_made kind bytes) in
         rw h
-        (record { placing = refl; variables = y ∙ (λ t. variablesBytes (added (rest t) (newVariable name id value a) (made t))) })
+        (record { placing = refl; variables = y ∙ (λ t. variables_bytes (added (rest t) (new_variable name id value a) (made t))) })

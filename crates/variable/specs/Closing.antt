@@ -3,9 +3,9 @@ use Rattle.std.specs.Prelude.{ℕ, ◌-◌, ◌≤◌, ◌≡◌, Bool, not, Lis
 use Rattle.buffer.specs.Lists.{keep}
 use Rattle.place.specs.Place.{filled}
 use Rattle.place.specs.declared.Run.{Run}
-use Rattle.variable.specs.Bytes.{variablesBytes, withEntries}
-use Rattle.variable.specs.Limits.{maxVariables}
-use Rattle.variable.specs.Table.{noVariable}
+use Rattle.variable.specs.Bytes.{variables_bytes, with_entries}
+use Rattle.variable.specs.Limits.{max_variables}
+use Rattle.variable.specs.Table.{no_variable}
 use Rattle.variable.specs.declared.Assigned.{Assigned}
 use Rattle.variable.specs.declared.Placing.{Placing}
 use Rattle.variable.specs.declared.Taken.{Taken}
@@ -15,15 +15,15 @@ use Rattle.variable.specs.declared.Variables.{Variables}
 -- of the first n entries the kept ones that stay stand in front; those from n on are as they were
 pub record ClosedUp (v : Variables) (n : ℕ) (gone : Variable → Bool) (bytes : List ℕ) (kept : ℕ) : Type 0 where
   pub entries : List Variable
-  pub size : length entries ≡ maxVariables
-  pub says : bytes ≡ variablesBytes (withEntries v entries)
+  pub size : length entries ≡ max_variables
+  pub says : bytes ≡ variables_bytes (with_entries v entries)
   pub bound : kept ≤ n
   pub first : take kept entries ≡ keep (λ e. not (gone e)) (take n v.entries)
   pub behind : drop n entries ≡ drop n v.entries
 
 -- nothing from one place up to another
 abbrev pub blanked : List Variable → ℕ → ℕ → List Variable
-blanked l from end = take from l ++ replicate (end - from) noVariable ++ drop end l
+blanked l from end = take from l ++ replicate (end - from) no_variable ++ drop end l
 
 -- these runs and no other
 pub record Lists (t : Taken) (runs : List Run) : Type 0 where
@@ -33,4 +33,4 @@ pub record Lists (t : Taken) (runs : List Run) : Type 0 where
 -- what a SET answers, and the bytes that it leaves
 pub record SetLeaves (answer : Placing) (bytes : List ℕ) (a : Assigned) : Type 0 where
   pub placing : answer ≡ a.placing
-  pub variables : bytes ≡ variablesBytes a.variables
+  pub variables : bytes ≡ variables_bytes a.variables

@@ -8,7 +8,7 @@ use Rattle.buffer.specs.Buffer.{part}
 use Rattle.buffer.specs.Lists.{index, keep}
 use Rattle.buffer.specs.declared.Found.{Found}
 use Rattle.place.specs.declared.Run.{Run}
-use Rattle.variable.specs.Limits.{maxVariables, memorySize}
+use Rattle.variable.specs.Limits.{max_variables, memory_size}
 use Rattle.variable.specs.declared.Variable.{Variable}
 use Rattle.variable.specs.declared.Variables.{Variables}
 
@@ -18,8 +18,8 @@ counted v = take v.count v.entries
 
 -- the arrays have their lengths
 pub record Shaped (v : Variables) : Type 0 where
-  pub memory : length v.memory ≡ memorySize
-  pub entries : length v.entries ≡ maxVariables
+  pub memory : length v.memory ≡ memory_size
+  pub entries : length v.entries ≡ max_variables
 
 -- ---- whose a variable is
 abbrev pub owned_by : ℕ → Variable → Bool
@@ -33,8 +33,8 @@ unfoldable pub find : Variables → ℕ → ℕ → Found
 find v name id = index (is_of name id) (counted v)
 
 -- ---- what a variable holds
-abbrev pub runOf : Variable → Run
-runOf e = record { start = e.address; len = e.size }
+abbrev pub run_of : Variable → Run
+run_of e = record { start = e.address; len = e.size }
 
 -- Document 01: "variables: name, type, value bytes"
 pub record Cell : Type 0 where
@@ -50,8 +50,8 @@ unfoldable pub owned : Variables → ℕ → List Cell
 owned v id = map (cell_of v.memory) (keep (owned_by id) (counted v))
 
 -- ---- freeing
-abbrev pub noVariable : Variable
-noVariable = record { name = 0; kind = 0; address = 0; size = 0; owner = 0 }
+abbrev pub no_variable : Variable
+no_variable = record { name = 0; kind = 0; address = 0; size = 0; owner = 0 }
 
 -- Document 01: "Freed memory keeps its bytes; freed entries close up, zeros behind."
 unfoldable pub freed : Variables → (Variable → Bool) → Variables
@@ -59,15 +59,15 @@ freed v gone =
     let kept = keep (λ e. not (gone e)) (counted v) in
     record {
       memory = v.memory;
-      entries = kept ++ replicate (v.count - length kept) noVariable
+      entries = kept ++ replicate (v.count - length kept) no_variable
           ++ drop v.count v.entries;
       count = length kept;
     }
 
 -- Document 01: "Ending (STOP, kill, fault) frees the process's variables."
-abbrev pub freedAll : Variables → ℕ → Variables
-freedAll v id = freed v (owned_by id)
+abbrev pub freed_all : Variables → ℕ → Variables
+freed_all v id = freed v (owned_by id)
 
 -- one test for both ways of freeing: every variable of a process, or the one of that name
-abbrev pub isGone : Bool → ℕ → ℕ → Variable → Bool
-isGone every name id e = (every || eqb e.name name) && eqb e.owner id
+abbrev pub is_gone : Bool → ℕ → ℕ → Variable → Bool
+is_gone every name id e = (every || eqb e.name name) && eqb e.owner id

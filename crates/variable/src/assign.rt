@@ -1,12 +1,12 @@
 // SET: a place for the new value, the entry and its bytes.
 ghost use Rattle.std.specs.Prelude.{◌≡◌, ◌+◌, ◌≤◌, ◌<◌, length, take};
 ghost use Rattle.buffer.specs.Buffer.{overwrite};
-ghost use Rattle.place.specs.Place.{maxRuns};
-ghost use Rattle.variable.specs.Assign.{added, assigned, placing, placingFault, takenRuns, value_of};
-ghost use Rattle.variable.specs.Bytes.{variablesBytes, variablesOf, withMemory};
+ghost use Rattle.place.specs.Place.{max_runs};
+ghost use Rattle.variable.specs.Assign.{added, assigned, placing, placing_fault, taken_runs, value_of};
+ghost use Rattle.variable.specs.Bytes.{variables_bytes, variables_of, with_memory};
 ghost use Rattle.variable.specs.Closing.{Lists, SetLeaves};
-ghost use Rattle.variable.specs.Limits.{maxVariables, memorySize, valueSize, variablesSize};
-ghost use Rattle.variable.specs.Table.{freed, is_of, runOf};
+ghost use Rattle.variable.specs.Limits.{max_variables, memory_size, value_size, variables_size};
+ghost use Rattle.variable.specs.Table.{freed, is_of, run_of};
 
 use crate::free::free;
 use crate::table::{count_of, entry_at, is_of, put_count, put_entry};
@@ -22,7 +22,7 @@ const HIGH_END: usize = MEMORY_SIZE;
 const ENTRY_LIMIT: usize = MAX_VARIABLES;
 
 fn run_of(e: Variable) -> Run
-    ensures { result ≡ runOf e }
+    ensures { result ≡ run_of e }
 {
     Run {
         start: e.address as u16,
@@ -32,9 +32,9 @@ fn run_of(e: Variable) -> Run
 
 // The runs of all variables but one: what is taken once that one is freed.
 fn runs_beside(variables: &[u8], name: u8, owner: u16) -> Taken
-    requires { (length variables.now ≡ variablesSize)
-        × ((variablesOf variables.now).count ≤ maxVariables) }
-    ensures { Lists result (takenRuns (freed (variablesOf variables.now) (is_of name owner))) }
+    requires { (length variables.now ≡ variables_size)
+        × ((variables_of variables.now).count ≤ max_variables) }
+    ensures { Lists result (taken_runs (freed (variables_of variables.now) (is_of name owner))) }
 {
     let count = count_of(variables);
     let mut runs = place::no_runs();
@@ -66,7 +66,7 @@ fn place_for(
     limit: usize,
     n: usize,
 ) -> Placing
-    requires { (count ≤ maxRuns) × (high < 65536) × (1 ≤ n) }
+    requires { (count ≤ max_runs) × (high < 65536) × (1 ≤ n) }
     ensures { result ≡ placing (take count runs) low high used limit n }
 {
     if limit <= used {
@@ -80,7 +80,7 @@ fn place_for(
 
 // Document 01's fault number of a placing, 0 where there is none.
 pub fn placing_fault(p: Placing) -> u8
-    ensures { result ≡ placingFault p }
+    ensures { result ≡ placing_fault p }
 {
     match p {
         Placing::Address(_) => 0,
@@ -90,19 +90,19 @@ pub fn placing_fault(p: Placing) -> u8
 }
 
 fn put_memory(variables: &mut [u8], at: usize, bytes: &[u8])
-    requires { (length variables.old ≡ variablesSize) × (at + length bytes.now ≤ memorySize) }
-    ensures { variables.new ≡ variablesBytes (withMemory (variablesOf variables.old)
-        (overwrite (variablesOf variables.old).memory at bytes.now)) }
+    requires { (length variables.old ≡ variables_size) × (at + length bytes.now ≤ memory_size) }
+    ensures { variables.new ≡ variables_bytes (with_memory (variables_of variables.old)
+        (overwrite (variables_of variables.old).memory at bytes.now)) }
 {
     buffer::bytes::overwrite_at(variables, at, bytes);
 }
 
 // The new entry last, the value's bytes in memory.
 fn add(variables: &mut [u8], e: Variable, bytes: &[u8])
-    requires { (length variables.old ≡ variablesSize) × ((variablesOf variables.old).count < maxVariables)
-        × (e.address + length bytes.now ≤ memorySize) }
+    requires { (length variables.old ≡ variables_size) × ((variables_of variables.old).count < max_variables)
+        × (e.address + length bytes.now ≤ memory_size) }
     ensures { variables.new
-        ≡ variablesBytes (added (variablesOf variables.old) e bytes.now) }
+        ≡ variables_bytes (added (variables_of variables.old) e bytes.now) }
 {
     let used = count_of(variables);
     put_memory(variables, e.address as usize, bytes);
@@ -113,10 +113,10 @@ fn add(variables: &mut [u8], e: Variable, bytes: &[u8])
 // Document 01: "SET first frees the old variable"; document 02, Q-10: "at the start of the shortest free run that fits,
 // the lowest of equals". The place is looked for as if the old one were gone, so a SET that finds none writes nothing.
 pub fn assign(variables: &mut [u8], name: u8, kind: u8, owner: u16, bytes: &[u8]) -> Placing
-    requires { (length variables.old ≡ variablesSize) × ((variablesOf variables.old).count ≤ maxVariables)
-        × (1 ≤ length bytes.now) × (length bytes.now ≤ valueSize) }
+    requires { (length variables.old ≡ variables_size) × ((variables_of variables.old).count ≤ max_variables)
+        × (1 ≤ length bytes.now) × (length bytes.now ≤ value_size) }
     ensures { SetLeaves result variables.new
-        (assigned (variablesOf variables.old) name owner (value_of kind bytes.now)) }
+        (assigned (variables_of variables.old) name owner (value_of kind bytes.now)) }
 {
     let n = bytes.len();
     let taken = runs_beside(variables, name, owner);

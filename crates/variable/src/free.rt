@@ -1,16 +1,16 @@
 // Freeing, in place. Document 01: "Freed memory keeps its bytes; freed entries close up, zeros behind."
 ghost use Rattle.std.specs.Prelude.{◌≡◌, ◌≤◌, length};
-ghost use Rattle.variable.specs.Bytes.{variablesBytes, variablesOf, withEntries};
+ghost use Rattle.variable.specs.Bytes.{variables_bytes, variables_of, with_entries};
 ghost use Rattle.variable.specs.Closing.{ClosedUp, blanked};
-ghost use Rattle.variable.specs.Limits.{maxVariables, variablesSize};
-ghost use Rattle.variable.specs.Table.{freed, isGone, noVariable};
+ghost use Rattle.variable.specs.Limits.{max_variables, variables_size};
+ghost use Rattle.variable.specs.Table.{freed, is_gone, no_variable};
 
 use crate::Variable;
 use crate::table::{count_of, entry_at, is_of, put_count, put_entry};
 
 // Whether freeing takes this entry: every one of the owner, or the one of that name.
 fn is_gone(e: Variable, every: bool, name: u8, owner: u16) -> bool
-    ensures { result ≡ isGone every name owner e }
+    ensures { result ≡ is_gone every name owner e }
 {
     if every {
         return e.owner == owner;
@@ -19,7 +19,7 @@ fn is_gone(e: Variable, every: bool, name: u8, owner: u16) -> bool
 }
 
 fn no_variable() -> Variable
-    ensures { result ≡ noVariable }
+    ensures { result ≡ no_variable }
 {
     Variable {
         name: 0,
@@ -32,8 +32,8 @@ fn no_variable() -> Variable
 
 // The entries that stay, moved up; how many they are. An entry that has its place already is not written.
 fn close_up(variables: &mut [u8], count: usize, every: bool, name: u8, owner: u16) -> usize
-    requires { (length variables.old ≡ variablesSize) × (count ≤ maxVariables) }
-    ensures { ClosedUp (variablesOf variables.old) count (isGone every name owner)
+    requires { (length variables.old ≡ variables_size) × (count ≤ max_variables) }
+    ensures { ClosedUp (variables_of variables.old) count (is_gone every name owner)
         variables.new result }
 {
     let mut kept: usize = 0;
@@ -54,9 +54,9 @@ fn close_up(variables: &mut [u8], count: usize, every: bool, name: u8, owner: u1
 
 // Zeros from one entry up to another.
 fn blank(variables: &mut [u8], from: usize, end: usize)
-    requires { (length variables.old ≡ variablesSize) × (from ≤ end) × (end ≤ maxVariables) }
-    ensures { variables.new ≡ variablesBytes (withEntries (variablesOf variables.old)
-        (blanked (variablesOf variables.old).entries from end)) }
+    requires { (length variables.old ≡ variables_size) × (from ≤ end) × (end ≤ max_variables) }
+    ensures { variables.new ≡ variables_bytes (with_entries (variables_of variables.old)
+        (blanked (variables_of variables.old).entries from end)) }
 {
     let mut i = from;
     while i < end {
@@ -67,10 +67,10 @@ fn blank(variables: &mut [u8], from: usize, end: usize)
 
 // Document 01: "Ending (STOP, kill, fault) frees the process's variables."; "SET first frees the old variable".
 pub fn free(variables: &mut [u8], every: bool, name: u8, owner: u16)
-    requires { (length variables.old ≡ variablesSize)
-        × ((variablesOf variables.old).count ≤ maxVariables) }
+    requires { (length variables.old ≡ variables_size)
+        × ((variables_of variables.old).count ≤ max_variables) }
     ensures { variables.new
-        ≡ variablesBytes (freed (variablesOf variables.old) (isGone every name owner)) }
+        ≡ variables_bytes (freed (variables_of variables.old) (is_gone every name owner)) }
 {
     let count = count_of(variables);
     let kept = close_up(variables, count, every, name, owner);

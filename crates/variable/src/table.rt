@@ -1,22 +1,22 @@
 // The table: its entries and their count, and the lookup.
 ghost use Rattle.std.specs.Prelude.{◌≡◌, ◌<◌, ◌≤◌, get_or, length};
-ghost use Rattle.variable.specs.Bytes.{variableBytes, variablesBytes, variablesOf, withCount, withEntry};
-ghost use Rattle.variable.specs.Limits.{maxVariables, variablesSize};
-ghost use Rattle.variable.specs.Table.{find, is_of, noVariable};
+ghost use Rattle.variable.specs.Bytes.{variable_bytes, variables_bytes, variables_of, with_count, with_entry};
+ghost use Rattle.variable.specs.Limits.{max_variables, variables_size};
+ghost use Rattle.variable.specs.Table.{find, is_of, no_variable};
 
 use crate::{COUNT_AT, ENTRIES_AT, ENTRY_SIZE, Variable};
 use buffer::Found;
 
 pub fn count_of(variables: &[u8]) -> usize
-    requires { length variables.now ≡ variablesSize }
-    ensures { result ≡ (variablesOf variables.now).count }
+    requires { length variables.now ≡ variables_size }
+    ensures { result ≡ (variables_of variables.now).count }
 {
     variables[COUNT_AT] as usize
 }
 
 pub fn put_count(variables: &mut [u8], count: u8)
-    requires { length variables.old ≡ variablesSize }
-    ensures { variables.new ≡ variablesBytes (withCount (variablesOf variables.old) count) }
+    requires { length variables.old ≡ variables_size }
+    ensures { variables.new ≡ variables_bytes (with_count (variables_of variables.old) count) }
 {
     let bytes = [count];
     buffer::bytes::overwrite_at(variables, COUNT_AT, &bytes);
@@ -24,8 +24,8 @@ pub fn put_count(variables: &mut [u8], count: u8)
 
 // Document 01: "25 variable entries of name 1, type 1, address 1, size 1, process ID 2."
 pub fn entry_at(variables: &[u8], i: usize) -> Variable
-    requires { (length variables.now ≡ variablesSize) × (i < maxVariables) }
-    ensures { result ≡ get_or (variablesOf variables.now).entries i noVariable }
+    requires { (length variables.now ≡ variables_size) × (i < max_variables) }
+    ensures { result ≡ get_or (variables_of variables.now).entries i no_variable }
 {
     let at = ENTRIES_AT + i * ENTRY_SIZE;
     let end = at + ENTRY_SIZE;
@@ -40,7 +40,7 @@ pub fn entry_at(variables: &[u8], i: usize) -> Variable
 }
 
 fn entry_bytes(e: Variable) -> [u8; ENTRY_SIZE]
-    ensures { result ≡ variableBytes e }
+    ensures { result ≡ variable_bytes e }
 {
     [
         e.name,
@@ -54,8 +54,8 @@ fn entry_bytes(e: Variable) -> [u8; ENTRY_SIZE]
 
 // One entry's six bytes and no other.
 pub fn put_entry(variables: &mut [u8], i: usize, e: Variable)
-    requires { (length variables.old ≡ variablesSize) × (i < maxVariables) }
-    ensures { variables.new ≡ variablesBytes (withEntry (variablesOf variables.old) i e) }
+    requires { (length variables.old ≡ variables_size) × (i < max_variables) }
+    ensures { variables.new ≡ variables_bytes (with_entry (variables_of variables.old) i e) }
 {
     let bytes = entry_bytes(e);
     buffer::bytes::overwrite_at(variables, ENTRIES_AT + i * ENTRY_SIZE, &bytes);
@@ -72,9 +72,9 @@ pub fn is_of(e: Variable, name: u8, owner: u16) -> bool
 
 // The place of the variable of that name and process.
 pub fn find_variable(variables: &[u8], name: u8, owner: u16) -> Found
-    requires { (length variables.now ≡ variablesSize)
-        × ((variablesOf variables.now).count ≤ maxVariables) }
-    ensures { result ≡ find (variablesOf variables.now) name owner }
+    requires { (length variables.now ≡ variables_size)
+        × ((variables_of variables.now).count ≤ max_variables) }
+    ensures { result ≡ find (variables_of variables.now) name owner }
 {
     let count = count_of(variables);
     let mut i: usize = 0;

@@ -5,12 +5,12 @@ use Rattle.machine.specs.Refusals.{Passes}
 use Rattle.machine.specs.Trace.{Storage}
 use Rattle.machine.specs.declared.Kernel.{Kernel}
 use Rattle.machine.proofs.Changes.Change.{GoodState}
-use Rattle.views.specs.Same.{refusesRoom, viewAt, view_of}
+use Rattle.views.specs.Same.{refuses_room, view_at, view_of}
 
 pub record SameState (k₁ k₂ : Kernel) (d₁ d₂ : List ℕ) : Type 0 where
   pub good₁ : GoodState k₁ d₁
   pub good₂ : GoodState k₂ d₂
-  pub same : viewAt k₁ d₁ ≡ viewAt k₂ d₂
+  pub same : view_at k₁ d₁ ≡ view_at k₂ d₂
 
 pub record Alike (s₁ s₂ : Storage) : Type 0 where
   pub passes₁ : Passes s₁.disc s₁.area
@@ -19,4 +19,4 @@ pub record Alike (s₁ s₂ : Storage) : Type 0 where
 
 -- a call that refuses room on either
 abbrev pub Lacks : Call → Storage → Storage → Type 0
-Lacks c s₁ s₂ = (refusesRoom c s₁ || refusesRoom c s₂) ≡ true
+Lacks c s₁ s₂ = (refuses_room c s₁ || refuses_room c s₂) ≡ true

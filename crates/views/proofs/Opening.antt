@@ -16,29 +16,29 @@ use Rattle.float.specs.Whole.{in_range, size_of, sized, whole_of}
 use Rattle.float.specs.declared.whole.Size.{Size}
 use Rattle.float.specs.declared.whole.Size.TheVariants.{Is, Refused}
 use Rattle.float.specs.declared.whole.Whole.TheVariants as whole
-use Rattle.number.specs.Compare.{sizeWithin}
+use Rattle.number.specs.Compare.{size_within}
 use Rattle.number.specs.declared.Number.{Number}
 use Rattle.number.specs.declared.Number.TheVariants.{Char, Int, Float}
 use Rattle.place.specs.Place.{run_from}
-use Rattle.disc.specs.Directory.{FileAt, entry_at, fileCount, lookup, runOf}
-use Rattle.disc.specs.Layout.{maxFiles}
-use Rattle.disc.specs.Name.{goodName, padded}
+use Rattle.disc.specs.Directory.{FileAt, entry_at, file_count, lookup, run_of}
+use Rattle.disc.specs.Layout.{max_files}
+use Rattle.disc.specs.Name.{good_name, padded}
 use Rattle.disc.proofs.Goodness.{good-entry-at}
 use Rattle.disc.proofs.Lookups.{lookup-at}
-use Rattle.store.specs.File.{admission, denyIfFound, goodSize, place_of, sizeLimit, startOr, stored, unless, writtenAt}
+use Rattle.store.specs.File.{admission, deny_if_found, good_size, place_of, size_limit, start_or, stored, unless, written_at}
 use Rattle.store.specs.declared.Admission.{Admission}
 use Rattle.store.specs.declared.Admission.TheVariants.{Start, Denied}
 use Rattle.store.specs.declared.Refusal.{Refusal}
 use Rattle.store.specs.declared.Refusal.TheVariants.{BadName, BadSize, DirectoryFull, NameExists}
 use Rattle.store.proofs.Admissions.{Admitted, admitted, zeros-admitted}
 use Rattle.store.proofs.Changes.{Inside}
-use Rattle.machine.specs.Beyond.{advanced, answered, created, createdAt, fileRun, newFileSize, opened, openedAt, written}
+use Rattle.machine.specs.Beyond.{advanced, answered, created, created_at, file_run, new_file_size, opened, opened_at, written}
 use Rattle.machine.specs.Effect.{opens}
-use Rattle.machine.specs.State.{Local, isLive, processAt, withFile, withLocal, withProcess}
+use Rattle.machine.specs.State.{Local, is_live, process_at, with_file, with_local, with_process}
 use Rattle.machine.specs.declared.Kernel.{Kernel}
 use Rattle.machine.specs.declared.Process.{Process}
 use Rattle.machine.proofs.Changes.Change.{GoodState}
-use Rattle.views.specs.Same.{aside, asideKernel, lacksRoom, newLacks, openLacks, requestLacks, shownFiles, viewAt, whose}
+use Rattle.views.specs.Same.{aside, aside_kernel, lacks_room, new_lacks, open_lacks, request_lacks, shown_files, view_at, whose}
 use Rattle.views.proofs.Appended.{appended-files, appended-kernel, appended-new}
 use Rattle.views.proofs.First.{same-len, same-lookup, same-open, same_count, same_live}
 use Rattle.views.proofs.Overwritten.{overwritten-files-at, overwritten-kernel-at}
@@ -63,7 +63,7 @@ within-size true (pos zero) n e = absurd (refused-size n e)
 within-size true (pos (suc k)) n e = ap pos (size-is e)
 within-size true (negsuc k) n e = absurd (refused-size n e)
 
-same-size : (a b : ℕ) (size : Number) (n m : ℕ) → sizeWithin a size ≡ Is n → sizeWithin b size ≡ Is m → n ≡ m
+same-size : (a b : ℕ) (size : Number) (n m : ℕ) → size_within a size ≡ Is n → size_within b size ≡ Is m → n ≡ m
 unfolding size_of whole_of
 same-size a b (Char x) n m e f = positive (sym (within-size (in_range a x) x n e) ∙ within-size (in_range b x) x m f)
 same-size a b (Int x) n m e f = positive (sym (within-size (in_range a x) x n e) ∙ within-size (in_range b x) x m f)
@@ -84,73 +84,74 @@ decides good small few name place =
     unless good (Denied BadName)
     (unless small (Denied BadSize)
     (unless few (Denied DirectoryFull)
-    (denyIfFound name (startOr place))))
+    (deny_if_found name (start_or place))))
 
-alike : (g a b c : Bool) (f x y : Found) → (lacksRoom (decides g a c f x) || lacksRoom (decides g b c f y) ≡ true)
+alike : (g a b c : Bool) (f x y : Found) → (lacks_room (decides g a c f x) || lacks_room (decides g b c f y) ≡ true)
     ⊎ BothAdmit (decides g a c f x) (decides g b c f y)
 alike false a b c f x y = inr (both-denied BadName)
 alike true false b c f x y = inl refl
-alike true true false c f x y = inl (or-true (lacksRoom (decides true true c f x)))
+alike true true false c f x y = inl (or-true (lacks_room (decides true true c f x)))
 alike true true true false f x y = inr (both-denied DirectoryFull)
 alike true true true true (At i) x y = inr (both-denied NameExists)
 alike true true true true Nowhere Nowhere y = inl refl
 alike true true true true Nowhere (At s) Nowhere = inl refl
 alike true true true true Nowhere (At s) (At t) = inr (both-start s t)
 
-module _ (k₁ k₂ : Kernel) (d₁ d₂ : List ℕ) (g₁ : GoodState k₁ d₁) (g₂ : GoodState k₂ d₂) (same : viewAt k₁ d₁ ≡ viewAt k₂ d₂) where
-  pub admitted-alike : (name : List ℕ) (n : ℕ) → (lacksRoom (admission d₁ name n) || lacksRoom (admission d₂ name n) ≡ true)
+module _ (k₁ k₂ : Kernel) (d₁ d₂ : List ℕ) (g₁ : GoodState k₁ d₁) (g₂ : GoodState k₂ d₂) (same : view_at k₁ d₁ ≡ view_at k₂ d₂) where
+  pub admitted-alike : (name : List ℕ) (n : ℕ) → (lacks_room (admission d₁ name n) || lacks_room (admission d₂ name n) ≡ true)
       ⊎ BothAdmit (admission d₁ name n) (admission d₂ name n)
   unfolding admission
   admitted-alike name n =
       let a = admission d₁ name n in
-      subst (λ b. (lacksRoom a || lacksRoom b ≡ true) ⊎ BothAdmit a b)
-      (λ z. decides (goodName name) (goodSize d₂ n) (ltb (same_count k₁ k₂ d₁ d₂ g₁ g₂ same z) maxFiles)
+      subst (λ b. (lacks_room a || lacks_room b ≡ true) ⊎ BothAdmit a b)
+      (λ z. decides (good_name name) (good_size d₂ n) (ltb (same_count k₁ k₂ d₁ d₂ g₁ g₂ same z) max_files)
       (same-lookup k₁ k₂ d₁ d₂ g₁ g₂ same name z) (place_of d₂ n))
-      (alike (goodName name) (goodSize d₁ n) (goodSize d₂ n) (ltb (fileCount d₁) maxFiles) (lookup d₁ name) (place_of d₁ n) (place_of d₂ n))
+      (alike (good_name name) (good_size d₁ n) (good_size d₂ n) (ltb (file_count d₁) max_files) (lookup d₁ name) (place_of d₁ n)
+      (place_of d₂ n))
 
   -- a file that is let in on both: the discs show one more, and records show as before
   module _ (name : List ℕ) (bytes : List ℕ) (s t : ℕ) (a : Admitted d₁ name (length bytes) s) (b : Admitted d₂ name (length bytes) t) where
-    pub entered-files : shownFiles (stored d₁ name bytes s) ≡ shownFiles (stored d₂ name bytes t)
+    pub entered-files : shown_files (stored d₁ name bytes s) ≡ shown_files (stored d₂ name bytes t)
     entered-files =
         appended-files bytes g₁.sound a
         ∙ (λ z. (same z).files ++ (record { name = padded name; len = length bytes; bytes = bytes } ∷ []))
         ∙ sym (appended-files bytes g₂.sound b)
 
-    pub entered-kernel : asideKernel (stored d₁ name bytes s) k₁ ≡ asideKernel (stored d₂ name bytes t) k₂
+    pub entered-kernel : aside_kernel (stored d₁ name bytes s) k₁ ≡ aside_kernel (stored d₂ name bytes t) k₂
     entered-kernel =
         appended-kernel bytes g₁.sound a k₁ g₁ ∙ (λ z. (same z).kernel) ∙ sym (appended-kernel bytes g₂.sound b k₂ g₂)
 
-    pub entered-view : viewAt k₁ (stored d₁ name bytes s) ≡ viewAt k₂ (stored d₂ name bytes t)
+    pub entered-view : view_at k₁ (stored d₁ name bytes s) ≡ view_at k₂ (stored d₂ name bytes t)
     entered-view = λ z. record { files = entered-files z; kernel = entered-kernel z }
 
-  module _ (slot : ℕ) (live : isLive (processAt k₁ slot) ≡ true) where
+  module _ (slot : ℕ) (live : is_live (process_at k₁ slot) ≡ true) where
     abbrev p₁ : Process
-    p₁ = processAt k₁ slot
+    p₁ = process_at k₁ slot
 
     abbrev p₂ : Process
-    p₂ = processAt k₂ slot
+    p₂ = process_at k₂ slot
 
-    live₂ : isLive p₂ ≡ true
+    live₂ : is_live p₂ ≡ true
     live₂ = sym (same_live k₁ k₂ d₁ d₂ g₁ g₂ same slot) ∙ live
 
-    own : (l : Local) → aside d₁ (withLocal p₁ l) ≡ aside d₂ (withLocal p₂ l)
+    own : (l : Local) → aside d₁ (with_local p₁ l) ≡ aside d₂ (with_local p₂ l)
     own l = local-same d₁ d₂ p₁ p₂ (record-same k₁ k₂ d₁ d₂ g₁ g₂ same slot live) l
 
     -- ---- OPEN of a file that is there
-    old-same : (i : ℕ) → i < fileCount d₁ → (name : List ℕ) (size : Number) (l : Local)
-        → SameAnswered (openedAt k₁ slot d₁ (At i) name size l) (openedAt k₂ slot d₂ (At i) name size l)
+    old-same : (i : ℕ) → i < file_count d₁ → (name : List ℕ) (size : Number) (l : Local)
+        → SameAnswered (opened_at k₁ slot d₁ (At i) name size l) (opened_at k₂ slot d₂ (At i) name size l)
     old-same i h name size l =
-        let m : i < fileCount d₂ = subst (λ (n : ℕ). i < n) (same_count k₁ k₂ d₁ d₂ g₁ g₂ same) h in
+        let m : i < file_count d₂ = subst (λ (n : ℕ). i < n) (same_count k₁ k₂ d₁ d₂ g₁ g₂ same) h in
         both-go (put-view k₁ k₂ d₁ d₂ g₁ g₂ same slot live _ _
-        (open-shows d₁ (withLocal p₁ l) (runOf (entry_at d₁ i)) i live (λ e. omega (arith, (good-entry-at d₁ g₁.sound i h).some))
+        (open-shows d₁ (with_local p₁ l) (run_of (entry_at d₁ i)) i live (λ e. omega (arith, (good-entry-at d₁ g₁.sound i h).some))
         (whose-itself d₁ g₁.sound i h)
-        ∙ (λ z. withFile (own l z) (record { start = i; len = same-len k₁ k₂ d₁ d₂ g₁ g₂ same i h z; offset = 0 }))
-        ∙ sym (open-shows d₂ (withLocal p₂ l) (runOf (entry_at d₂ i)) i live₂ (λ e. omega (arith, (good-entry-at d₂ g₂.sound i m).some))
+        ∙ (λ z. with_file (own l z) (record { start = i; len = same-len k₁ k₂ d₁ d₂ g₁ g₂ same i h z; offset = 0 }))
+        ∙ sym (open-shows d₂ (with_local p₂ l) (run_of (entry_at d₂ i)) i live₂ (λ e. omega (arith, (good-entry-at d₂ g₂.sound i m).some))
         (whose-itself d₂ g₂.sound i m))))
 
     -- ---- OPEN of a new file
     new-start : (name : List ℕ) (n s t : ℕ) → admission d₁ name n ≡ Start s → admission d₂ name n ≡ Start t → (l : Local)
-        → SameAnswered (createdAt k₁ slot d₁ (Start s) name n l) (createdAt k₂ slot d₂ (Start t) name n l)
+        → SameAnswered (created_at k₁ slot d₁ (Start s) name n l) (created_at k₂ slot d₂ (Start t) name n l)
     new-start name n s t e f l =
         both-go (λ z. record {
           files = entered-files name (zeros n) s t a b z;
@@ -175,58 +176,58 @@ module _ (k₁ k₂ : Kernel) (d₁ d₂ : List ℕ) (g₁ : GoodState k₁ d₁
         some : n ≡ 0 → ⊥
         some z = omega (arith, let-in.some)
 
-        place₁ : whose after₁ (run_from s n) ≡ fileCount d₁
+        place₁ : whose after₁ (run_from s n) ≡ file_count d₁
         place₁ = ap (λ (m : ℕ). whose after₁ (run_from s m)) (sym (length-replicate n 0)) ∙ appended-new (zeros n) g₁.sound a
 
-        place₂ : whose after₂ (run_from t n) ≡ fileCount d₂
+        place₂ : whose after₂ (run_from t n) ≡ file_count d₂
         place₂ = ap (λ (m : ℕ). whose after₂ (run_from t m)) (sym (length-replicate n 0)) ∙ appended-new (zeros n) g₂.sound b
 
-        base : aside after₁ (withLocal p₁ l) ≡ aside after₂ (withLocal p₂ l)
+        base : aside after₁ (with_local p₁ l) ≡ aside after₂ (with_local p₂ l)
         base = local-same after₁ after₂ p₁ p₂ (record-of k₁ k₂ after₁ after₂ (entered-kernel name (zeros n) s t a b) slot) l
 
-        record-after : aside after₁ (withFile (withLocal p₁ l) (opened (run_from s n)))
-            ≡ aside after₂ (withFile (withLocal p₂ l) (opened (run_from t n)))
+        record-after : aside after₁ (with_file (with_local p₁ l) (opened (run_from s n)))
+            ≡ aside after₂ (with_file (with_local p₂ l) (opened (run_from t n)))
         record-after =
-            open-shows after₁ (withLocal p₁ l) (run_from s n) (fileCount d₁) live some place₁
-            ∙ (λ z. withFile (base z) (record { start = same_count k₁ k₂ d₁ d₂ g₁ g₂ same z; len = n; offset = 0 }))
-            ∙ sym (open-shows after₂ (withLocal p₂ l) (run_from t n) (fileCount d₂) live₂ some place₂)
+            open-shows after₁ (with_local p₁ l) (run_from s n) (file_count d₁) live some place₁
+            ∙ (λ z. with_file (base z) (record { start = same_count k₁ k₂ d₁ d₂ g₁ g₂ same z; len = n; offset = 0 }))
+            ∙ sym (open-shows after₂ (with_local p₂ l) (run_from t n) (file_count d₂) live₂ some place₂)
 
     created-by : (name : List ℕ) (n : ℕ) (l : Local) (a b : Admission) → admission d₁ name n ≡ a → admission d₂ name n ≡ b → BothAdmit a b
-        → SameAnswered (createdAt k₁ slot d₁ a name n l) (createdAt k₂ slot d₂ b name n l)
+        → SameAnswered (created_at k₁ slot d₁ a name n l) (created_at k₂ slot d₂ b name n l)
     created-by name n l _ _ e f (both-denied r) = both-break refl
     created-by name n l _ _ e f (both-start s t) = new-start name n s t e f l
 
     abbrev Opens : Size → Size → List ℕ → Local → Type 0
     Opens a b name l =
-        (newLacks a d₁ name || newLacks b d₂ name ≡ true) ⊎ SameAnswered (created k₁ slot d₁ a name l) (created k₂ slot d₂ b name l)
+        (new_lacks a d₁ name || new_lacks b d₂ name ≡ true) ⊎ SameAnswered (created k₁ slot d₁ a name l) (created k₂ slot d₂ b name l)
 
     sized-alike : (name : List ℕ) (n : ℕ) (l : Local) → Opens (Is n) (Is n) name l
     sized-alike name n l =
         ⊎_elim inl (λ b. inr (created-by name n l (admission d₁ name n) (admission d₂ name n) refl refl b)) (admitted-alike name n)
 
-    new-alike : (name : List ℕ) (size : Number) (l : Local) (a b : Size) → newFileSize d₁ size ≡ a → newFileSize d₂ size ≡ b
+    new-alike : (name : List ℕ) (size : Number) (l : Local) (a b : Size) → new_file_size d₁ size ≡ a → new_file_size d₂ size ≡ b
         → Opens a b name l
     new-alike name size l Refused b e f = inl refl
-    new-alike name size l (Is n) Refused e f = inl (or-true (newLacks (Is n) d₁ name))
+    new-alike name size l (Is n) Refused e f = inl (or-true (new_lacks (Is n) d₁ name))
     new-alike name size l (Is n) (Is m) e f =
-        subst (λ (x : ℕ). Opens (Is n) (Is x) name l) (same-size (sizeLimit d₁) (sizeLimit d₂) size n m e f) (sized-alike name n l)
+        subst (λ (x : ℕ). Opens (Is n) (Is x) name l) (same-size (size_limit d₁) (size_limit d₂) size n m e f) (sized-alike name n l)
 
     pub opens-same : (name : List ℕ) (size : Number) (l : Local)
-        → (requestLacks (opens name size l) d₁ || requestLacks (opens name size l) d₂ ≡ true)
+        → (request_lacks (opens name size l) d₁ || request_lacks (opens name size l) d₂ ≡ true)
         ⊎ SameAnswered (answered k₁ slot d₁ (opens name size l)) (answered k₂ slot d₂ (opens name size l))
     unfolding answered
     opens-same name size l =
         subst
-        (λ (f : Found). (openLacks (lookup d₁ name) (newFileSize d₁ size) d₁ name || openLacks f (newFileSize d₂ size) d₂ name ≡ true)
-        ⊎ SameAnswered (openedAt k₁ slot d₁ (lookup d₁ name) name size l) (openedAt k₂ slot d₂ f name size l))
+        (λ (f : Found). (open_lacks (lookup d₁ name) (new_file_size d₁ size) d₁ name || open_lacks f (new_file_size d₂ size) d₂ name ≡ true)
+        ⊎ SameAnswered (opened_at k₁ slot d₁ (lookup d₁ name) name size l) (opened_at k₂ slot d₂ f name size l))
         (same-lookup k₁ k₂ d₁ d₂ g₁ g₂ same name)
         (go (lookup d₁ name) refl)
       where
         go : (f : Found) → lookup d₁ name ≡ f
-            → (openLacks f (newFileSize d₁ size) d₁ name || openLacks f (newFileSize d₂ size) d₂ name ≡ true)
-            ⊎ SameAnswered (openedAt k₁ slot d₁ f name size l) (openedAt k₂ slot d₂ f name size l)
+            → (open_lacks f (new_file_size d₁ size) d₁ name || open_lacks f (new_file_size d₂ size) d₂ name ≡ true)
+            ⊎ SameAnswered (opened_at k₁ slot d₁ f name size l) (opened_at k₂ slot d₂ f name size l)
         go (At i) q = inr (old-same i (lookup-at d₁ name i q).inside name size l)
-        go Nowhere q = new-alike name size l (newFileSize d₁ size) (newFileSize d₂ size) refl refl
+        go Nowhere q = new-alike name size l (new_file_size d₁ size) (new_file_size d₂ size) refl refl
 
     -- ---- WRITE
     offset : p₁.file.offset ≡ p₂.file.offset
@@ -237,36 +238,36 @@ module _ (k₁ k₂ : Kernel) (d₁ d₂ : List ℕ) (g₁ : GoodState k₁ d₁
 
     module _ (bytes : List ℕ) (some : p₁.file.len ≡ 0 → ⊥) (fits : p₁.file.offset + length bytes ≤ p₁.file.len) where
       abbrev after₁ : List ℕ
-      after₁ = writtenAt d₁ (fileRun p₁.file) p₁.file.offset bytes
+      after₁ = written_at d₁ (file_run p₁.file) p₁.file.offset bytes
 
       abbrev after₂ : List ℕ
-      after₂ = writtenAt d₂ (fileRun p₂.file) p₂.file.offset bytes
+      after₂ = written_at d₂ (file_run p₂.file) p₂.file.offset bytes
 
-      file-of₁ : FileAt d₁ (fileRun p₁.file)
+      file-of₁ : FileAt d₁ (file_run p₁.file)
       file-of₁ = file₁ k₁ k₂ d₁ d₂ g₁ g₂ same slot live some
 
-      file-of₂ : FileAt d₂ (fileRun p₂.file)
+      file-of₂ : FileAt d₂ (file_run p₂.file)
       file-of₂ = file₂ k₁ k₂ d₁ d₂ g₁ g₂ same slot live some
 
-      inside₁ : Inside d₁ (fileRun p₁.file) p₁.file.offset (length bytes)
+      inside₁ : Inside d₁ (file_run p₁.file) p₁.file.offset (length bytes)
       inside₁ = record { held = record { sound = g₁.sound; file = file-of₁ }; fits = fits }
 
-      inside₂ : Inside d₂ (fileRun p₂.file) p₂.file.offset (length bytes)
+      inside₂ : Inside d₂ (file_run p₂.file) p₂.file.offset (length bytes)
       inside₂ = record { held = record { sound = g₂.sound; file = file-of₂ }; fits = omega (arith, offset, size, fits) }
 
-      files-after : shownFiles after₁ ≡ shownFiles after₂
+      files-after : shown_files after₁ ≡ shown_files after₂
       files-after =
           overwritten-files-at d₁ d₂ g₁.sound g₂.sound (λ z. (same z).files) p₁.file.offset bytes file-of₁ file-of₂
           (same-open k₁ k₂ d₁ d₂ g₁ g₂ same slot live some) fits
-          ∙ (λ z. shownFiles (writtenAt d₂ (fileRun p₂.file) (offset z) bytes))
+          ∙ (λ z. shown_files (written_at d₂ (file_run p₂.file) (offset z) bytes))
 
-      kernel-after : asideKernel after₁ k₁ ≡ asideKernel after₂ k₂
+      kernel-after : aside_kernel after₁ k₁ ≡ aside_kernel after₂ k₂
       kernel-after =
           overwritten-kernel-at bytes inside₁ k₁ ∙ (λ z. (same z).kernel) ∙ sym (overwritten-kernel-at bytes inside₂ k₂)
 
       view-after : (l : Local)
-          → viewAt (withProcess k₁ slot (withFile (withLocal p₁ l) (advanced p₁.file (length bytes)))) after₁
-          ≡ viewAt (withProcess k₂ slot (withFile (withLocal p₂ l) (advanced p₂.file (length bytes)))) after₂
+          → view_at (with_process k₁ slot (with_file (with_local p₁ l) (advanced p₁.file (length bytes)))) after₁
+          ≡ view_at (with_process k₂ slot (with_file (with_local p₂ l) (advanced p₂.file (length bytes)))) after₂
       view-after l =
           λ z. record {
             files = files-after z;

@@ -8,18 +8,18 @@ use Rattle.buffer.specs.declared.Found.TheVariants.{At, Nowhere}
 use Rattle.buffer.proofs.Bools.{and_right}
 use Rattle.disc.specs.declared.Entry.{Entry}
 use Rattle.store.specs.File.{unless}
-use Rattle.machine.specs.Answer.{Answer, Buffers, Call, turn, command, share, run, answer, commandAnswer, run_at, turnedAnswer}
-use Rattle.machine.specs.Area.{kernelBytes, kernelOf}
-use Rattle.machine.specs.Beyond.{answered, fileRun}
-use Rattle.machine.specs.Effect.{Effect, Request, asks, assigns, awaits, closes, faults, forks, goes, opens, reads, readsString, stops}
+use Rattle.machine.specs.Answer.{Answer, Buffers, Call, turn, command, share, run, answer, command_answer, run_at, turned_answer}
+use Rattle.machine.specs.Area.{kernel_bytes, kernel_of}
+use Rattle.machine.specs.Beyond.{answered, file_run}
+use Rattle.machine.specs.Effect.{Effect, Request, asks, assigns, awaits, closes, faults, forks, goes, opens, reads, reads_string, stops}
 use Rattle.machine.specs.Effect.{writes}
-use Rattle.machine.specs.Limits.{maxShare, slotCount, turnRoom}
-use Rattle.machine.specs.Operations.{Command, Commanded, becomes, commanded, commandAt, changed, kill, resume, shareAt, shared, suspend}
+use Rattle.machine.specs.Limits.{max_share, slot_count, turn_room}
+use Rattle.machine.specs.Operations.{Command, Commanded, becomes, commanded, command_at, changed, kill, resume, share_at, shared, suspend}
 use Rattle.machine.specs.Operations.{refused as declined}
 use Rattle.machine.specs.Start.{Starting, started, starting, starts}
-use Rattle.machine.specs.State.{hasId, isLive, isRunning, noProcess, paused, processAt, running, slotOf, withState}
+use Rattle.machine.specs.State.{has_id, is_live, is_running, no_process, paused, process_at, running, slot_of, with_state}
 use Rattle.machine.specs.Trace.{Storage, lending}
-use Rattle.machine.specs.Turn.{carriedOut, effectAt, turned}
+use Rattle.machine.specs.Turn.{carried_out, effect_at, turned}
 use Rattle.machine.specs.declared.Kernel.{Kernel}
 use Rattle.machine.specs.declared.Process.{Process}
 use Rattle.machine.proofs.Changes.Change.{GoodState, begins}
@@ -28,26 +28,26 @@ use Rattle.machine.proofs.Changes.LiveRecords.{running-live}
 use Rattle.machine.proofs.Changes.Slots.{slot_at}
 use Rattle.machine.proofs.Operations.Commanding.{command-good, share-good}
 use Rattle.machine.proofs.Demands.GoodCalls.{good-back, passes-good, turn-good}
-use Rattle.views.specs.Same.{aside, effectLacks, viewAt, whose}
+use Rattle.views.specs.Same.{aside, effect_lacks, view_at, whose}
 use Rattle.views.proofs.Alike.{Alike, Lacks}
 use Rattle.views.proofs.Doing.{SameDone, Stepped, on-both-good, refused-same, tested-same}
 use Rattle.views.proofs.First.{index-alike, same-record, same-slots, same_effect, same_id, same_live}
 use Rattle.views.proofs.Opening.{opens-same, writes-same}
 use Rattle.views.proofs.Putting.{share-same}
-use Rattle.views.proofs.Running.{eventText}
+use Rattle.views.proofs.Running.{event_text}
 use Rattle.views.proofs.Starting.{SameStarting, both-refuse, both-start, forked-same, started-view, starting-same}
 use Rattle.views.proofs.Turning.{SameTurned, answering-same, assigns-same, awaited-same, both-go, ended-view, faults-same, goes-same}
 use Rattle.views.proofs.Turning.{moves-on}
 use Rattle.views.proofs.Turning.{number-same, put-view, stops-same, text-same}
 
 -- ---- one instruction
-module _ (k₁ k₂ : Kernel) (d₁ d₂ : List ℕ) (g₁ : GoodState k₁ d₁) (g₂ : GoodState k₂ d₂) (same : viewAt k₁ d₁ ≡ viewAt k₂ d₂)
-    (slot : ℕ) (live : isLive (processAt k₁ slot) ≡ true) where
+module _ (k₁ k₂ : Kernel) (d₁ d₂ : List ℕ) (g₁ : GoodState k₁ d₁) (g₂ : GoodState k₂ d₂) (same : view_at k₁ d₁ ≡ view_at k₂ d₂)
+    (slot : ℕ) (live : is_live (process_at k₁ slot) ≡ true) where
   abbrev Carries : Effect → Type 0
-  Carries e = (effectLacks e d₁ || effectLacks e d₂ ≡ true) ⊎ SameTurned (carriedOut k₁ slot d₁ e) (carriedOut k₂ slot d₂ e)
+  Carries e = (effect_lacks e d₁ || effect_lacks e d₂ ≡ true) ⊎ SameTurned (carried_out k₁ slot d₁ e) (carried_out k₂ slot d₂ e)
 
   request-carried : (r : Request) → Carries (asks r)
-  unfolding carriedOut answered
+  unfolding carried_out answered
   request-carried (opens name size l) =
       ⊎_elim inl (λ a. inr (answering-same k₁ k₂ d₁ d₂ g₁ g₂ same slot live _ _ a))
       (opens-same k₁ k₂ d₁ d₂ g₁ g₂ same slot live name size l)
@@ -57,7 +57,7 @@ module _ (k₁ k₂ : Kernel) (d₁ d₂ : List ℕ) (g₁ : GoodState k₁ d₁
       inr (answering-same k₁ k₂ d₁ d₂ g₁ g₂ same slot live _ _ (writes-same k₁ k₂ d₁ d₂ g₁ g₂ same slot live bytes l))
   request-carried (reads kind l) =
       inr (answering-same k₁ k₂ d₁ d₂ g₁ g₂ same slot live _ _ (number-same k₁ k₂ d₁ d₂ g₁ g₂ same slot live kind l))
-  request-carried (readsString l) =
+  request-carried (reads_string l) =
       inr (answering-same k₁ k₂ d₁ d₂ g₁ g₂ same slot live _ _ (text-same k₁ k₂ d₁ d₂ g₁ g₂ same slot live l))
   request-carried (forks name l) =
       inr (answering-same k₁ k₂ d₁ d₂ g₁ g₂ same slot live _ _ (forked-same k₁ k₂ d₁ d₂ g₁ g₂ same slot live name l))
@@ -71,17 +71,18 @@ module _ (k₁ k₂ : Kernel) (d₁ d₂ : List ℕ) (g₁ : GoodState k₁ d₁
   carried (faults n) = inr (faults-same k₁ k₂ d₁ d₂ g₁ g₂ same slot live n)
   carried (asks r) = request-carried r
 
-  pub turned-alike : (clock : ℕ) → (effectLacks (effectAt k₁ slot clock d₁) d₁ || effectLacks (effectAt k₂ slot clock d₂) d₂ ≡ true)
+  pub turned-alike : (clock : ℕ) → (effect_lacks (effect_at k₁ slot clock d₁) d₁ || effect_lacks (effect_at k₂ slot clock d₂) d₂ ≡ true)
       ⊎ SameTurned (turned k₁ slot clock d₁) (turned k₂ slot clock d₂)
   unfolding turned
   turned-alike clock =
-      let e = effectAt k₁ slot clock d₁ in
-      subst (λ (f : Effect). (effectLacks e d₁ || effectLacks f d₂ ≡ true) ⊎ SameTurned (carriedOut k₁ slot d₁ e) (carriedOut k₂ slot d₂ f))
+      let e = effect_at k₁ slot clock d₁ in
+      subst
+      (λ (f : Effect). (effect_lacks e d₁ || effect_lacks f d₂ ≡ true) ⊎ SameTurned (carried_out k₁ slot d₁ e) (carried_out k₂ slot d₂ f))
       (same_effect k₁ k₂ d₁ d₂ g₁ g₂ same slot clock live) (carried e)
 
 -- a live process that is paused or goes on shows as before, but for its state
-state-shows : (disc : List ℕ) (p : Process) (state : ℕ) → isLive p ≡ true → isLive (withState p state) ≡ true
-    → aside disc (withState p state) ≡ withState (aside disc p) state
+state-shows : (disc : List ℕ) (p : Process) (state : ℕ) → is_live p ≡ true → is_live (with_state p state) ≡ true
+    → aside disc (with_state p state) ≡ with_state (aside disc p) state
 unfolding aside
 state-shows disc p state live after =
     λ z. record {
@@ -98,12 +99,12 @@ state-shows disc p state live after =
       stack = p.stack;
     }
   where
-    code : cond (isLive (withState p state)) (whose disc p.code) 0 ≡ cond (isLive p) (whose disc p.code) 0
+    code : cond (is_live (with_state p state)) (whose disc p.code) 0 ≡ cond (is_live p) (whose disc p.code) 0
     code = ap (λ (b : Bool). cond b (whose disc p.code) 0) (after ∙ sym live)
 
-    file : cond (isLive (withState p state) && not (eqb p.file.len 0)) (whose disc (fileRun p.file)) 0
-        ≡ cond (isLive p && not (eqb p.file.len 0)) (whose disc (fileRun p.file)) 0
-    file = ap (λ (b : Bool). cond (b && not (eqb p.file.len 0)) (whose disc (fileRun p.file)) 0) (after ∙ sym live)
+    file : cond (is_live (with_state p state) && not (eqb p.file.len 0)) (whose disc (file_run p.file)) 0
+        ≡ cond (is_live p && not (eqb p.file.len 0)) (whose disc (file_run p.file)) 0
+    file = ap (λ (b : Bool). cond (b && not (eqb p.file.len 0)) (whose disc (file_run p.file)) 0) (after ∙ sym live)
 
 -- ---- calls
 module _ (s₁ s₂ : Storage) (h : Alike s₁ s₂) (out : List ℕ) where
@@ -114,10 +115,10 @@ module _ (s₁ s₂ : Storage) (h : Alike s₁ s₂) (out : List ℕ) where
   b₂ = lending s₂ out
 
   abbrev k₁ : Kernel
-  k₁ = kernelOf s₁.area
+  k₁ = kernel_of s₁.area
 
   abbrev k₂ : Kernel
-  k₂ = kernelOf s₂.area
+  k₂ = kernel_of s₂.area
 
   g₁ : GoodState k₁ s₁.disc
   g₁ = passes-good s₁.disc s₁.area h.passes₁
@@ -125,29 +126,29 @@ module _ (s₁ s₂ : Storage) (h : Alike s₁ s₂) (out : List ℕ) where
   g₂ : GoodState k₂ s₂.disc
   g₂ = passes-good s₂.disc s₂.area h.passes₂
 
-  record-alike : (slot : ℕ) → aside s₁.disc (processAt k₁ slot) ≡ aside s₂.disc (processAt k₂ slot)
+  record-alike : (slot : ℕ) → aside s₁.disc (process_at k₁ slot) ≡ aside s₂.disc (process_at k₂ slot)
   record-alike slot = same-record k₁ k₂ s₁.disc s₂.disc g₁ g₂ h.same slot
 
-  runs-alike : (slot : ℕ) → isRunning (processAt k₁ slot) ≡ isRunning (processAt k₂ slot)
+  runs-alike : (slot : ℕ) → is_running (process_at k₁ slot) ≡ is_running (process_at k₂ slot)
   unfolding aside
-  runs-alike slot = ap isRunning (record-alike slot)
+  runs-alike slot = ap is_running (record-alike slot)
 
   -- two good states behind a call that show the same
-  back : (k l : Kernel) (d e : List ℕ) → GoodState k d → GoodState l e → viewAt k d ≡ viewAt l e
-      → viewAt (kernelOf (kernelBytes k)) d ≡ viewAt (kernelOf (kernelBytes l)) e
-  back k l d e g f v = ap (λ x. viewAt x d) (good-back k d g) ∙ v ∙ ap (λ x. viewAt x e) (sym (good-back l e f))
+  back : (k l : Kernel) (d e : List ℕ) → GoodState k d → GoodState l e → view_at k d ≡ view_at l e
+      → view_at (kernel_of (kernel_bytes k)) d ≡ view_at (kernel_of (kernel_bytes l)) e
+  back k l d e g f v = ap (λ x. view_at x d) (good-back k d g) ∙ v ∙ ap (λ x. view_at x e) (sym (good-back l e f))
 
   pub turn-stepped : (slot clock : ℕ) → Stepped (turn slot clock) s₁ s₂ out
   unfolding answer
   turn-stepped slot clock =
       on-both-good (turn slot clock) s₁ s₂ h out _ _
-      (tested-same (turn slot clock) s₁ s₂ h out (leb turnRoom (length out)) (leb turnRoom (length out)) refl 4 _ _
-      (λ room. tested-same (turn slot clock) s₁ s₂ h out (ltb slot slotCount && isRunning (processAt k₁ slot))
-      (ltb slot slotCount && isRunning (processAt k₂ slot)) (λ z. ltb slot slotCount && runs-alike slot z) 16 _ _
-      (λ t. runs (and_right (ltb slot slotCount) (isRunning (processAt k₁ slot)) t))))
+      (tested-same (turn slot clock) s₁ s₂ h out (leb turn_room (length out)) (leb turn_room (length out)) refl 4 _ _
+      (λ room. tested-same (turn slot clock) s₁ s₂ h out (ltb slot slot_count && is_running (process_at k₁ slot))
+      (ltb slot slot_count && is_running (process_at k₂ slot)) (λ z. ltb slot slot_count && runs-alike slot z) 16 _ _
+      (λ t. runs (and_right (ltb slot slot_count) (is_running (process_at k₁ slot)) t))))
     where
-      runs : isRunning (processAt k₁ slot) ≡ true → Lacks (turn slot clock) s₁ s₂
-          ⊎ SameDone (turn slot clock) (turnedAnswer (turned k₁ slot clock s₁.disc) b₁) (turnedAnswer (turned k₂ slot clock s₂.disc) b₂)
+      runs : is_running (process_at k₁ slot) ≡ true → Lacks (turn slot clock) s₁ s₂
+          ⊎ SameDone (turn slot clock) (turned_answer (turned k₁ slot clock s₁.disc) b₁) (turned_answer (turned k₂ slot clock s₂.disc) b₂)
       runs r =
           ⊎_elim inl
           (λ t. inr (record {
@@ -156,20 +157,20 @@ module _ (s₁ s₂ : Storage) (h : Alike s₁ s₂) (out : List ℕ) where
             view = back _ _ _ _ (turn-good k₁ slot clock s₁.disc g₁ r)
                 (turn-good k₂ slot clock s₂.disc g₂ (sym (runs-alike slot) ∙ r)) t.1;
           }))
-          (turned-alike k₁ k₂ s₁.disc s₂.disc g₁ g₂ h.same slot (running-live (processAt k₁ slot) r) clock)
+          (turned-alike k₁ k₂ s₁.disc s₂.disc g₁ g₂ h.same slot (running-live (process_at k₁ slot) r) clock)
 
   -- ---- commands and shares: refused alike, or states that show the same
   data SameCommanded : Commanded → Commanded → Type 0 where
     both-declined : (n : ℕ) → SameCommanded (declined n) (declined n)
-    both-become : (k l : Kernel) → viewAt k s₁.disc ≡ viewAt l s₂.disc → SameCommanded (becomes k) (becomes l)
+    both-become : (k l : Kernel) → view_at k s₁.disc ≡ view_at l s₂.disc → SameCommanded (becomes k) (becomes l)
 
-  slot-alike : (id : ℕ) → slotOf k₁ id ≡ slotOf k₂ id
-  unfolding slotOf
+  slot-alike : (id : ℕ) → slot_of k₁ id ≡ slot_of k₂ id
+  unfolding slot_of
   slot-alike id =
-      index-alike (hasId id) (hasId id) noProcess k₁.processes k₂.processes (same-slots k₁ k₂ s₁.disc s₂.disc g₁ g₂ h.same)
+      index-alike (has_id id) (has_id id) no_process k₁.processes k₂.processes (same-slots k₁ k₂ s₁.disc s₂.disc g₁ g₂ h.same)
       (λ i m z. same_live k₁ k₂ s₁.disc s₂.disc g₁ g₂ h.same i z && eqb (same_id k₁ k₂ s₁.disc s₂.disc g₁ g₂ h.same i z) id)
 
-  state-alike : (slot : ℕ) → (processAt k₁ slot).state ≡ (processAt k₂ slot).state
+  state-alike : (slot : ℕ) → (process_at k₁ slot).state ≡ (process_at k₂ slot).state
   unfolding aside
   state-alike slot = ap (λ (p : Process). p.state) (record-alike slot)
 
@@ -180,16 +181,16 @@ module _ (s₁ s₂ : Storage) (h : Alike s₁ s₂) (out : List ℕ) where
   choice true false e n a b k = absurd (let z : ◌≡◌ {A = ℕ} 0 1 = cc in omega arith)
   choice false true e n a b k = absurd (let z : ◌≡◌ {A = ℕ} 0 1 = cc in omega arith)
 
-  changed-alike : (slot state : ℕ) → isLive (processAt k₁ slot) ≡ true → ((p : Process) → isLive (withState p state) ≡ true)
+  changed-alike : (slot state : ℕ) → is_live (process_at k₁ slot) ≡ true → ((p : Process) → is_live (with_state p state) ≡ true)
       → SameCommanded (changed k₁ slot state) (changed k₂ slot state)
   changed-alike slot state live after =
-      choice (eqb (processAt k₁ slot).state state) (eqb (processAt k₂ slot).state state) (λ z. eqb (state-alike slot z) state) 15 _ _
+      choice (eqb (process_at k₁ slot).state state) (eqb (process_at k₂ slot).state state) (λ z. eqb (state-alike slot z) state) 15 _ _
       (λ e. both-become _ _ (put-view k₁ k₂ s₁.disc s₂.disc g₁ g₂ h.same slot live _ _
-      (state-shows s₁.disc (processAt k₁ slot) state live (after (processAt k₁ slot)) ∙ (λ z. withState (record-alike slot z) state)
-      ∙ sym (state-shows s₂.disc (processAt k₂ slot) state (sym (same_live k₁ k₂ s₁.disc s₂.disc g₁ g₂ h.same slot) ∙ live) (after
-      (processAt k₂ slot))))))
+      (state-shows s₁.disc (process_at k₁ slot) state live (after (process_at k₁ slot)) ∙ (λ z. with_state (record-alike slot z) state)
+      ∙ sym (state-shows s₂.disc (process_at k₂ slot) state (sym (same_live k₁ k₂ s₁.disc s₂.disc g₁ g₂ h.same slot) ∙ live) (after
+      (process_at k₂ slot))))))
 
-  command-at : (f : Found) (id : ℕ) → slotOf k₁ id ≡ f → (c : Command) → SameCommanded (commandAt f c k₁) (commandAt f c k₂)
+  command-at : (f : Found) (id : ℕ) → slot_of k₁ id ≡ f → (c : Command) → SameCommanded (command_at f c k₁) (command_at f c k₂)
   command-at Nowhere id e c = both-declined 14
   command-at (At slot) id e suspend = changed-alike slot paused (slot_at k₁ id slot e).1 (λ p. refl)
   command-at (At slot) id e resume = changed-alike slot running (slot_at k₁ id slot e).1 (λ p. refl)
@@ -199,30 +200,30 @@ module _ (s₁ s₂ : Storage) (h : Alike s₁ s₂) (out : List ℕ) where
   commanded-alike : (c : Command) (id : ℕ) → SameCommanded (commanded c id k₁) (commanded c id k₂)
   unfolding commanded
   commanded-alike c id =
-      subst (λ (f : Found). SameCommanded (commandAt (slotOf k₁ id) c k₁) (commandAt f c k₂)) (slot-alike id)
-      (command-at (slotOf k₁ id) id refl c)
+      subst (λ (f : Found). SameCommanded (command_at (slot_of k₁ id) c k₁) (command_at f c k₂)) (slot-alike id)
+      (command-at (slot_of k₁ id) id refl c)
 
   unless-choice : (x : Bool) (n : ℕ) (a b : Commanded) → SameCommanded a b
       → SameCommanded (unless x (declined n) a) (unless x (declined n) b)
   unless-choice true n a b k = k
   unless-choice false n a b k = both-declined n
 
-  share-at : (f : Found) (id : ℕ) → slotOf k₁ id ≡ f → (n : ℕ) → SameCommanded (shareAt f n k₁) (shareAt f n k₂)
+  share-at : (f : Found) (id : ℕ) → slot_of k₁ id ≡ f → (n : ℕ) → SameCommanded (share_at f n k₁) (share_at f n k₂)
   share-at Nowhere id e n = both-declined 14
   share-at (At slot) id e n =
-      unless-choice (leb 1 n && leb n maxShare) 22 _ _
+      unless-choice (leb 1 n && leb n max_share) 22 _ _
       (both-become _ _ (put-view k₁ k₂ s₁.disc s₂.disc g₁ g₂ h.same slot (slot_at k₁ id slot e).1 _ _
       (share-same s₁.disc s₂.disc _ _ (record-alike slot) n)))
 
   shared-alike : (id n : ℕ) → SameCommanded (shared id n k₁) (shared id n k₂)
   unfolding shared
   shared-alike id n =
-      subst (λ (f : Found). SameCommanded (shareAt (slotOf k₁ id) n k₁) (shareAt f n k₂)) (slot-alike id)
-      (share-at (slotOf k₁ id) id refl n)
+      subst (λ (f : Found). SameCommanded (share_at (slot_of k₁ id) n k₁) (share_at f n k₂)) (slot-alike id)
+      (share-at (slot_of k₁ id) id refl n)
 
-  by-commanded : (c : Call) → ((x y : Answer) → eventText c x ≡ eventText c y) → (a b : Commanded) → SameCommanded a b
+  by-commanded : (c : Call) → ((x y : Answer) → event_text c x ≡ event_text c y) → (a b : Commanded) → SameCommanded a b
       → ((j : Kernel) → a ≡ becomes j → GoodState j s₁.disc) → ((j : Kernel) → b ≡ becomes j → GoodState j s₂.disc)
-      → SameDone c (commandAnswer a b₁) (commandAnswer b b₂)
+      → SameDone c (command_answer a b₁) (command_answer b b₂)
   by-commanded c quiet _ _ (both-declined n) l₁ l₂ = refused-same c s₁ s₂ h out n
   by-commanded c quiet _ _ (both-become k l v) l₁ l₂ =
       record { done = refl; text = quiet _ _; view = back k l s₁.disc s₂.disc (l₁ k refl) (l₂ l refl) v }

@@ -7,7 +7,7 @@ use Rattle.buffer.specs.declared.Found.TheVariants.{At, Nowhere}
 use Rattle.float.specs.declared.whole.Size.{Size}
 use Rattle.float.specs.declared.whole.Size.TheVariants.{Is, Refused}
 use Rattle.place.specs.declared.Run.{Run}
-use Rattle.disc.specs.Directory.{contents, files as entries, lookup, runOf}
+use Rattle.disc.specs.Directory.{contents, files as entries, lookup, run_of}
 use Rattle.disc.specs.declared.Entry.{Entry}
 use Rattle.store.specs.File.{admission}
 use Rattle.store.specs.declared.Admission.{Admission}
@@ -17,18 +17,18 @@ use Rattle.store.specs.declared.Refusal.TheVariants.{WrongLength, BadDisc, Short
 use Rattle.store.specs.declared.Refusal.TheVariants.{DirectoryFull}
 use Rattle.store.specs.declared.Refusal.TheVariants.{NoRun, NoSuchFile}
 use Rattle.machine.specs.Answer.{Call, Other, turn, round, command, share, run, other, store, retrieve, erase, files}
-use Rattle.machine.specs.Answer.{freeSpace, list}
-use Rattle.machine.specs.Area.{kernelOf}
-use Rattle.machine.specs.Beyond.{fileRun, newFileSize}
+use Rattle.machine.specs.Answer.{free_space, list}
+use Rattle.machine.specs.Area.{kernel_of}
+use Rattle.machine.specs.Beyond.{file_run, new_file_size}
 use Rattle.machine.specs.Effect.{Effect, goes, assigns, stops, faults, asks, Request, opens, closes, writes, reads}
-use Rattle.machine.specs.Effect.{readsString, forks}
+use Rattle.machine.specs.Effect.{reads_string, forks}
 use Rattle.machine.specs.Effect.{awaits}
-use Rattle.machine.specs.Observation.{slotIn}
+use Rattle.machine.specs.Observation.{slot_in}
 use Rattle.machine.specs.Refusals.{Passes}
-use Rattle.machine.specs.State.{isLive}
-use Rattle.machine.specs.Suppositions.{isDoneBy}
+use Rattle.machine.specs.State.{is_live}
+use Rattle.machine.specs.Suppositions.{is_done_by}
 use Rattle.machine.specs.Trace.{Event, Invocation, Storage, events}
-use Rattle.machine.specs.Turn.{effectAt}
+use Rattle.machine.specs.Turn.{effect_at}
 use Rattle.machine.specs.declared.Kernel.{Kernel}
 use Rattle.machine.specs.declared.OpenFile.{OpenFile}
 use Rattle.machine.specs.declared.Process.{Process}
@@ -41,21 +41,21 @@ pub record Shown : Type 0 where
   pub bytes : List ℕ
 
 abbrev pub shown : List ℕ → Entry → Shown
-shown disc e = record { name = e.name; len = e.len; bytes = contents disc (runOf e) }
+shown disc e = record { name = e.name; len = e.len; bytes = contents disc (run_of e) }
 
-abbrev pub isAtRun : Run → Entry → Bool
-isAtRun r e = eqb e.start r.start && eqb e.len r.len
+abbrev pub is_at_run : Run → Entry → Bool
+is_at_run r e = eqb e.start r.start && eqb e.len r.len
 
 -- the place in the directory of the file that a record names: a start stands for it
 abbrev pub whose : List ℕ → Run → ℕ
-whose disc r = slotIn (index (isAtRun r) (entries disc))
+whose disc r = slot_in (index (is_at_run r) (entries disc))
 
-abbrev pub codeAside : List ℕ → Process → Run
-codeAside disc p = record { start = cond (isLive p) (whose disc p.code) 0; len = p.code.len }
+abbrev pub code_aside : List ℕ → Process → Run
+code_aside disc p = record { start = cond (is_live p) (whose disc p.code) 0; len = p.code.len }
 
-abbrev pub fileAside : List ℕ → Process → OpenFile
-fileAside disc p = record {
-  start = cond (isLive p && not (eqb p.file.len 0)) (whose disc (fileRun p.file)) 0;
+abbrev pub file_aside : List ℕ → Process → OpenFile
+file_aside disc p = record {
+  start = cond (is_live p && not (eqb p.file.len 0)) (whose disc (file_run p.file)) 0;
   len = p.file.len;
   offset = p.file.offset;
 }
@@ -67,100 +67,100 @@ aside disc p =
       id = p.id;
       state = p.state;
       fault = p.fault;
-      code = codeAside disc p;
+      code = code_aside disc p;
       pc = p.pc;
       loopstart = p.loopstart;
-      file = fileAside disc p;
+      file = file_aside disc p;
       sp = p.sp;
       share = p.share;
       stack = p.stack;
     }
 
 -- the kernel's state, starts aside
-abbrev pub asideKernel : List ℕ → Kernel → Kernel
-asideKernel disc k =
+abbrev pub aside_kernel : List ℕ → Kernel → Kernel
+aside_kernel disc k =
     record { variables = k.variables; next = k.next; zeros = k.zeros; processes = map (aside disc) k.processes }
 
-abbrev pub shownFiles : List ℕ → List Shown
-shownFiles disc = map (shown disc) (entries disc)
+abbrev pub shown_files : List ℕ → List Shown
+shown_files disc = map (shown disc) (entries disc)
 
 pub record View : Type 0 where
   pub files : List Shown
   pub kernel : Kernel
 
-abbrev pub viewAt : Kernel → List ℕ → View
-viewAt k disc = record { files = shownFiles disc; kernel = asideKernel disc k }
+abbrev pub view_at : Kernel → List ℕ → View
+view_at k disc = record { files = shown_files disc; kernel = aside_kernel disc k }
 
 abbrev pub view_of : Storage → View
-view_of s = viewAt (kernelOf s.area) s.disc
+view_of s = view_at (kernel_of s.area) s.disc
 
 -- ---- "refuses a place or size": store's 6 and 9, and OPEN's new file by these
-abbrev pub isOfRoom : Refusal → Bool
-isOfRoom WrongLength = false
-isOfRoom BadDisc = false
-isOfRoom ShortOutput = false
-isOfRoom BadName = false
-isOfRoom BadSize = true
-isOfRoom NameExists = false
-isOfRoom DirectoryFull = false
-isOfRoom NoRun = true
-isOfRoom NoSuchFile = false
+abbrev pub is_of_room : Refusal → Bool
+is_of_room WrongLength = false
+is_of_room BadDisc = false
+is_of_room ShortOutput = false
+is_of_room BadName = false
+is_of_room BadSize = true
+is_of_room NameExists = false
+is_of_room DirectoryFull = false
+is_of_room NoRun = true
+is_of_room NoSuchFile = false
 
-abbrev pub lacksRoom : Admission → Bool
-lacksRoom (Start s) = false
-lacksRoom (Denied r) = isOfRoom r
+abbrev pub lacks_room : Admission → Bool
+lacks_room (Start s) = false
+lacks_room (Denied r) = is_of_room r
 
-abbrev pub newLacks : Size → List ℕ → List ℕ → Bool
-newLacks Refused disc name = true
-newLacks (Is n) disc name = lacksRoom (admission disc name n)
+abbrev pub new_lacks : Size → List ℕ → List ℕ → Bool
+new_lacks Refused disc name = true
+new_lacks (Is n) disc name = lacks_room (admission disc name n)
 
-abbrev pub openLacks : Found → Size → List ℕ → List ℕ → Bool
-openLacks (At i) size disc name = false
-openLacks Nowhere size disc name = newLacks size disc name
+abbrev pub open_lacks : Found → Size → List ℕ → List ℕ → Bool
+open_lacks (At i) size disc name = false
+open_lacks Nowhere size disc name = new_lacks size disc name
 
-abbrev pub requestLacks : Request → List ℕ → Bool
-requestLacks (opens name size l) disc = openLacks (lookup disc name) (newFileSize disc size) disc name
-requestLacks (closes l) disc = false
-requestLacks (writes bytes l) disc = false
-requestLacks (reads kind l) disc = false
-requestLacks (readsString l) disc = false
-requestLacks (forks name l) disc = false
-requestLacks (awaits id stay go) disc = false
+abbrev pub request_lacks : Request → List ℕ → Bool
+request_lacks (opens name size l) disc = open_lacks (lookup disc name) (new_file_size disc size) disc name
+request_lacks (closes l) disc = false
+request_lacks (writes bytes l) disc = false
+request_lacks (reads kind l) disc = false
+request_lacks (reads_string l) disc = false
+request_lacks (forks name l) disc = false
+request_lacks (awaits id stay go) disc = false
 
-abbrev pub effectLacks : Effect → List ℕ → Bool
-effectLacks (goes l out) disc = false
-effectLacks (assigns name kind bytes l) disc = false
-effectLacks stops disc = false
-effectLacks (faults n) disc = false
-effectLacks (asks r) disc = requestLacks r disc
+abbrev pub effect_lacks : Effect → List ℕ → Bool
+effect_lacks (goes l out) disc = false
+effect_lacks (assigns name kind bytes l) disc = false
+effect_lacks stops disc = false
+effect_lacks (faults n) disc = false
+effect_lacks (asks r) disc = request_lacks r disc
 
-abbrev pub otherLacks : Other → List ℕ → Bool
-otherLacks (store name bytes) disc = lacksRoom (admission disc name (length bytes))
-otherLacks (retrieve name) disc = false
-otherLacks (erase name) disc = false
-otherLacks files disc = false
-otherLacks freeSpace disc = false
-otherLacks list disc = false
+abbrev pub other_lacks : Other → List ℕ → Bool
+other_lacks (store name bytes) disc = lacks_room (admission disc name (length bytes))
+other_lacks (retrieve name) disc = false
+other_lacks (erase name) disc = false
+other_lacks files disc = false
+other_lacks free_space disc = false
+other_lacks list disc = false
 
-abbrev pub refusesRoom : Call → Storage → Bool
-refusesRoom (turn slot clock) s = effectLacks (effectAt (kernelOf s.area) slot clock s.disc) s.disc
-refusesRoom (round clock) s = false
-refusesRoom (command c id) s = false
-refusesRoom (share id turns) s = false
-refusesRoom (run name) s = false
-refusesRoom (other o) s = otherLacks o s.disc
+abbrev pub refuses_room : Call → Storage → Bool
+refuses_room (turn slot clock) s = effect_lacks (effect_at (kernel_of s.area) slot clock s.disc) s.disc
+refuses_room (round clock) s = false
+refuses_room (command c id) s = false
+refuses_room (share id turns) s = false
+refuses_room (run name) s = false
+refuses_room (other o) s = other_lacks o s.disc
 
 -- ---- the claim
 -- the same call, done or refused alike, with the same text
 pub record Prints (e f : Event) : Type 0 where
   pub call : e.call ≡ f.call
-  pub done : isDoneBy e.number ≡ isDoneBy f.number
+  pub done : is_done_by e.number ≡ is_done_by f.number
   pub text : e.text ≡ f.text
 
 pub data SameUntil : List Event → List Event → Type 0 where
   over : SameUntil [] []
   either : (e f : Event) (es fs : List Event)
-      → refusesRoom e.call e.before || refusesRoom f.call f.before ≡ true → SameUntil (e ∷ es) (f ∷ fs)
+      → refuses_room e.call e.before || refuses_room f.call f.before ≡ true → SameUntil (e ∷ es) (f ∷ fs)
   both : (e f : Event) (es fs : List Event) → Prints e f → SameUntil es fs → SameUntil (e ∷ es) (f ∷ fs)
 
 -- no edition is named: it holds of every two good storages that differ in places alone

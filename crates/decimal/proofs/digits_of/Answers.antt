@@ -3,12 +3,12 @@ use Prim.Native.Nat.{◌<◌}
 use mathlib.Core.Path.{refl, ◌∙◌}
 use native.Mathlib.Omega.{arith}
 use lib.ListN.{length-set}
-use Rattle.decimal.specs.Decimal.{lastDigits}
+use Rattle.decimal.specs.Decimal.{last_digits}
 use Rattle.decimal.proofs.Laws.{digit-next, room, shorter, zeros-shorter}
 use Rattle.decimal.proofs.digits_of.Goals as goal
 
 pub loop-rest-init : goal.loop-rest-init
-unfolding lastDigits
+unfolding last_digits
 loop-rest-init c = (omega arith, refl, omega arith, refl, rw c.digit.ensures)
 
 pub loop-rest-preserved : goal.loop-rest-preserved

@@ -4,13 +4,13 @@ use borrow.Author.Rules.{rules}
 use mir.Facts.{to_z-of_z}
 use mir.Syntax.{w32}
 use lib.IntN.{ℤ}
-use Rattle.machine.specs.Answer.{answer, otherAnswer}
+use Rattle.machine.specs.Answer.{answer, other_answer}
 use Rattle.export.specs.Returned.{returned}
 use Rattle.export.proofs.Numbered.{numbered}
 use Rattle.export.proofs.arduinos_free_space.Goals as goal
 
 pub returns : goal.returns
-unfolding answer otherAnswer
+unfolding answer other_answer
 returns c area out =
     let a = c.args in
     numbered _ _ _ (to_z-of_z {w = w32} (search rules) ∙ c.number.ensures)

@@ -3,15 +3,15 @@ use mathlib.Core.Path.{ap, ◌∙◌}
 use borrow.Author.Rules.{rules}
 use mir.Facts.{to_z-of_z}
 use mir.Syntax.{w32}
-use Rattle.machine.specs.Answer.{answer, onOutput, otherAnswer}
+use Rattle.machine.specs.Answer.{answer, on_output, other_answer}
 use Rattle.operation.specs.Answers.{lent}
 use Rattle.store.specs.Answer.{Reported}
 use Rattle.export.proofs.Numbered.{numbered}
 use Rattle.export.proofs.arduinos_retrieve.Goals as goal
 
 pub returns : goal.returns
-unfolding answer otherAnswer
+unfolding answer other_answer
 returns c area =
     let a = c.args in
     numbered _ _ _ (to_z-of_z {w = w32} (search rules) ∙ c.number.ensures)
-    (ap (λ (r : Reported). onOutput r (lent a.disc.now area a.out.now)) c.retrieve.ensures)
+    (ap (λ (r : Reported). on_output r (lent a.disc.now area a.out.now)) c.retrieve.ensures)

@@ -11,49 +11,49 @@ use Rattle.buffer.specs.Lists.{tab}
 use Rattle.buffer.proofs.Buffer.{word_split}
 use Rattle.buffer.proofs.Parts.{part-split}
 use Rattle.buffer.proofs.Words.{spelled, word-high, word_low}
-use Rattle.disc.specs.Layout.{nameSize}
-use Rattle.machine.specs.Area.{AreBytes, processBytes, processOf, registerBytes, registerSize, stackAt}
-use Rattle.machine.specs.Limits.{recordSize, stackSize}
+use Rattle.disc.specs.Layout.{name_size}
+use Rattle.machine.specs.Area.{AreBytes, process_bytes, process_of, register_bytes, register_size, stack_at}
+use Rattle.machine.specs.Limits.{record_size, stack_size}
 use Rattle.machine.specs.declared.Process.{Process}
 use Rattle.machine.proofs.Bytes.Sizes.{SizedProcess}
 
 -- ---- a record's bytes, read and written again
 module _ (l : List ℕ) (bytes : AreBytes l) where
-  registers-encode-decode : length l ≡ recordSize → registerBytes (processOf l) ≡ part l nameSize registerSize
+  registers-encode-decode : length l ≡ record_size → register_bytes (process_of l) ≡ part l name_size register_size
   unfolding tab
-  registers-encode-decode h = simp (word_low l bytes, word-high l bytes) (spelled l nameSize registerSize (omega arith))
+  registers-encode-decode h = simp (word_low l bytes, word-high l bytes) (spelled l name_size register_size (omega arith))
 
-  pub process-encode-decode : length l ≡ recordSize → processBytes (processOf l) ≡ l
+  pub process-encode-decode : length l ≡ record_size → process_bytes (process_of l) ≡ l
   process-encode-decode h =
       rw (registers-encode-decode h)
-      (ap (λ (s : List ℕ). s ++ part l stackAt stackSize) (sym (part-split l 0 nameSize registerSize))
-      ∙ sym (part-split l 0 stackAt stackSize)
-      ∙ take_all recordSize l (omega arith))
+      (ap (λ (s : List ℕ). s ++ part l stack_at stack_size) (sym (part-split l 0 name_size register_size))
+      ∙ sym (part-split l 0 stack_at stack_size)
+      ∙ take_all record_size l (omega arith))
 
 -- ---- a record, written and read back
 -- what lies behind the name
-abbrev behindName : Process → List ℕ
-behindName p = registerBytes p ++ p.stack
+abbrev behind_name : Process → List ℕ
+behind_name p = register_bytes p ++ p.stack
 
 module _ (p : Process) (sized : SizedProcess p) where
-  pub process-bytes-length : length (processBytes p) ≡ recordSize
+  pub process-bytes-length : length (process_bytes p) ≡ record_size
   process-bytes-length = simp length-append (omega arith)
 
-  byte : (i : ℕ) → get_or (processBytes p) (nameSize + i) 0 ≡ get_or (behindName p) i 0
-  byte i = rw (append_assoc p.name (registerBytes p) p.stack, ← sized.name) (get_or-append-add p.name (behindName p) i 0)
+  byte : (i : ℕ) → get_or (process_bytes p) (name_size + i) 0 ≡ get_or (behind_name p) i 0
+  byte i = rw (append_assoc p.name (register_bytes p) p.stack, ← sized.name) (get_or-append-add p.name (behind_name p) i 0)
 
-  word : (i w : ℕ) → get_or (behindName p) i 0 ≡ w % 256 → get_or (behindName p) (i + 1) 0 ≡ w / 256
-      → word_at (processBytes p) (nameSize + i) ≡ w
+  word : (i w : ℕ) → get_or (behind_name p) i 0 ≡ w % 256 → get_or (behind_name p) (i + 1) 0 ≡ w / 256
+      → word_at (process_bytes p) (name_size + i) ≡ w
   word i w a b = rw (byte i, add_assoc, byte (i + 1), a, b) (word_split w)
 
-  name : take nameSize (processBytes p) ≡ p.name
-  name = rw (append_assoc p.name (registerBytes p) p.stack) (take_at p.name (behindName p) nameSize sized.name)
+  name : take name_size (process_bytes p) ≡ p.name
+  name = rw (append_assoc p.name (register_bytes p) p.stack) (take_at p.name (behind_name p) name_size sized.name)
 
-  stack : part (processBytes p) stackAt stackSize ≡ p.stack
-  stack = rw (drop_at (p.name ++ registerBytes p) p.stack stackAt (simp length-append (omega arith)))
-      (take_all stackSize p.stack (omega arith))
+  stack : part (process_bytes p) stack_at stack_size ≡ p.stack
+  stack = rw (drop_at (p.name ++ register_bytes p) p.stack stack_at (simp length-append (omega arith)))
+      (take_all stack_size p.stack (omega arith))
 
-  pub process-decode-encode : processOf (processBytes p) ≡ p
+  pub process-decode-encode : process_of (process_bytes p) ≡ p
   process-decode-encode = λ t. record {
     name = name t;
     id = word 0 p.id refl refl t;

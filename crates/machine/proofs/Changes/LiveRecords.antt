@@ -8,7 +8,7 @@ use lib.Dec.{eqb}
 use lib.ListN.{length}
 use Rattle.store.proofs.Contents.{contents-length}
 use Rattle.variable.proofs.Views.{take_bound}
-use Rattle.machine.specs.State.{isLive, isRunning, localOf, paused, processAt}
+use Rattle.machine.specs.State.{is_live, is_running, local_of, paused, process_at}
 use Rattle.machine.specs.Turn.{program_of}
 use Rattle.machine.specs.declared.Kernel.{Kernel}
 use Rattle.machine.specs.declared.Process.{Process}
@@ -17,22 +17,22 @@ use Rattle.machine.proofs.Changes.Directories.{live-record}
 use Rattle.buffer.proofs.Disjunctions.{or-first}
 use Rattle.machine.proofs.Instructions.Sound.{Within}
 
-pub running-live : (p : Process) → isRunning p ≡ true → isLive p ≡ true
+pub running-live : (p : Process) → is_running p ≡ true → is_live p ≡ true
 running-live p h = or-first (eqb p.state paused) h
 
-module _ {k : Kernel} {disc : List ℕ} (good : GoodState k disc) (slot : ℕ) (live : isLive (processAt k slot) ≡ true) where
+module _ {k : Kernel} {disc : List ℕ} (good : GoodState k disc) (slot : ℕ) (live : is_live (process_at k slot) ≡ true) where
   -- a program is as long as its record says, since it is a file of a good disc
-  pub program-length : length (program_of disc (processAt k slot)) ≡ (processAt k slot).code.len
-  program-length = contents-length disc (processAt k slot).code
+  pub program-length : length (program_of disc (process_at k slot)) ≡ (process_at k slot).code.len
+  program-length = contents-length disc (process_at k slot).code
 
   -- so the state it has lies within its program and its stack within its 32 bytes
-  pub within-local : Within (length (program_of disc (processAt k slot))) (localOf (processAt k slot))
-  within-local = subst (λ (n : ℕ). Within n (localOf (processAt k slot))) (sym program-length) fits
+  pub within-local : Within (length (program_of disc (process_at k slot))) (local_of (process_at k slot))
+  within-local = subst (λ (n : ℕ). Within n (local_of (process_at k slot))) (sym program-length) fits
     where
-      fits : Within (processAt k slot).code.len (localOf (processAt k slot))
+      fits : Within (process_at k slot).code.len (local_of (process_at k slot))
       fits =
           record {
-            stack = omega (arith, take_bound (processAt k slot).sp (processAt k slot).stack, (live-record good slot live).registers.sp);
+            stack = omega (arith, take_bound (process_at k slot).sp (process_at k slot).stack, (live-record good slot live).registers.sp);
             pc = (live-record good slot live).registers.pc;
             loop = (live-record good slot live).registers.loop;
           }

@@ -12,9 +12,9 @@ use lib.ListN.{length}
 use borrow.Author.Tests.{leb-true, leb-false}
 use Rattle.buffer.specs.Lists.{all, pairs, tab}
 use Rattle.float.specs.Whole.{sized, size_of, whole_of, within}
-use Rattle.disc.specs.Directory.{DiscLength, fileCount, goodDisc, goodFiles}
-use Rattle.disc.specs.Layout.{maxFiles}
-use Rattle.store.specs.File.{sizeLimit}
+use Rattle.disc.specs.Directory.{DiscLength, file_count, good_disc, good_files}
+use Rattle.disc.specs.Layout.{max_files}
+use Rattle.store.specs.File.{size_limit}
 use Rattle.store.specs.Room.{HasRoom}
 use Rattle.store.proofs.Rooms.{empty-has-room, size-limit-is}
 use Rattle.machine.specs.Answer.{Answer, Buffers, answer, other, store}
@@ -24,7 +24,7 @@ use Rattle.machine.specs.Tests.{Decides, Tests, passed, test}
 use Rattle.machine.proofs.Demands.Refused.{call-decided}
 use Rattle.machine.proofs.Done.Files.{store-done}
 
-module _ (b : Buffers) (name bytes : List ℕ) (long : DiscLength (length b.disc)) (none : fileCount b.disc ≡ 0)
+module _ (b : Buffers) (name bytes : List ℕ) (long : DiscLength (length b.disc)) (none : file_count b.disc ≡ 0)
     (good : IsName name) where
   abbrev a : Answer
   a = answer (other (store name bytes)) b
@@ -37,8 +37,8 @@ module _ (b : Buffers) (name bytes : List ℕ) (long : DiscLength (length b.disc
   past n rest h (inl p) = p.1
   past n rest h (inr p) = absurd (p.0 h)
 
-  good-disc : goodDisc b.disc ≡ true
-  unfolding goodDisc goodFiles tab all pairs
+  good-disc : good_disc b.disc ≡ true
+  unfolding good_disc good_files tab all pairs
   good-disc = rw none refl
 
   no-file : NoFile b.disc name
@@ -52,7 +52,7 @@ module _ (b : Buffers) (name bytes : List ℕ) (long : DiscLength (length b.disc
   from-lookup = test 7 (NoFile b.disc name) from_place
 
   abbrev from-count : Tests
-  from-count = test 8 (fileCount b.disc < maxFiles) from-lookup
+  from-count = test 8 (file_count b.disc < max_files) from-lookup
 
   abbrev from-size : Tests
   from-size = test 6 fits from-count
@@ -64,13 +64,13 @@ module _ (b : Buffers) (name bytes : List ℕ) (long : DiscLength (length b.disc
   by_size =
       past 5 from-size good
       (past 2 from-name good-disc
-      (past 1 (test 2 (goodDisc b.disc ≡ true) from-name) long (call-decided (other (store name bytes)) b).is))
+      (past 1 (test 2 (good_disc b.disc ≡ true) from-name) long (call-decided (other (store name bytes)) b).is))
 
   takes : Decides from-size b a → (fits × (a.number ≡ pos 0)) ⊎ ((fits → ⊥) × (a.number ≡ neg_ℤ (pos 6)))
   takes (inr p) = inr (p.0, p.1)
   takes (inl p) =
       let f : fits = p.0 in
-      let few : fileCount b.disc < maxFiles = omega (arith, none) in
+      let few : file_count b.disc < max_files = omega (arith, none) in
       let room : HasRoom b.disc (length bytes) = empty-has-room b.disc none (length bytes) f.0 f.1 in
       let d = past 9 passed room (past 7 from_place no-file (past 8 from-lookup few p.1)) in
       inl (f, d.1 ∙ ap pos (store-done b name bytes d.0 d.1).0)
@@ -79,15 +79,15 @@ pub empty-disc-takes : EmptyDiscTakes
 empty-disc-takes b name bytes long none good = takes b name bytes long none good (by_size b name bytes long none good)
 
 -- n as a size
-taken : (disc : List ℕ) (n : ℕ) → Taken disc n (sized (within (sizeLimit disc) (pos n)))
-taken disc n = go n (leb n (sizeLimit disc)) refl
+taken : (disc : List ℕ) (n : ℕ) → Taken disc n (sized (within (size_limit disc) (pos n)))
+taken disc n = go n (leb n (size_limit disc)) refl
   where
-    go : (n : ℕ) (small : Bool) → leb n (sizeLimit disc) ≡ small
-        → Taken disc n (sized (within (sizeLimit disc) (pos n)))
+    go : (n : ℕ) (small : Bool) → leb n (size_limit disc) ≡ small
+        → Taken disc n (sized (within (size_limit disc) (pos n)))
     go zero true e = inr (λ f. omega (arith, f.0), rw e refl)
     go zero false e = inr (λ f. omega (arith, f.0), rw e refl)
     go (suc m) true e = inl ((omega arith, leb-true _ _ e), rw e refl)
-    go (suc m) false e = inr (λ f. omega (arith, f.1, leb-false (suc m) (sizeLimit disc) e), rw e refl)
+    go (suc m) false e = inr (λ f. omega (arith, f.1, leb-false (suc m) (size_limit disc) e), rw e refl)
 
 pub open-takes : OpenTakes
 unfolding size_of whole_of

@@ -9,21 +9,21 @@ use borrow.Author.Tests.{eq-eqb, eqb-true, not-true}
 use Rattle.buffer.specs.declared.Found.{Found}
 use Rattle.buffer.specs.declared.Found.TheVariants.{At, Nowhere}
 use Rattle.buffer.proofs.Bools.{and_both, and_left, and_right}
-use Rattle.disc.specs.Directory.{entry_at, isDiscLength, lookup}
+use Rattle.disc.specs.Directory.{entry_at, is_disc_length, lookup}
 use Rattle.disc.proofs.Lookups.{lookup-at}
 use Rattle.store.specs.File.{erased, stored}
 use Rattle.store.proofs.Calls.{store-cases}
-use Rattle.machine.specs.Answer.{Answer, Buffers, Other, store, retrieve, erase, files, freeSpace, list, Call, turn, round}
+use Rattle.machine.specs.Answer.{Answer, Buffers, Other, store, retrieve, erase, files, free_space, list, Call, turn, round}
 use Rattle.machine.specs.Answer.{command, share, run, other}
-use Rattle.machine.specs.Answer.{answer, commandAnswer, eraseAt, goodArea, onDisc, onGood, otherAnswer, run_at}
-use Rattle.machine.specs.Area.{isAreaLength, kernelBytes, kernelOf}
-use Rattle.machine.specs.Limits.{roundRoom, slotCount, turnRoom}
-use Rattle.machine.specs.Operations.{Command, Commanded, becomes, refused as declined, commanded, inOrder, inUse, listText, roundOf}
-use Rattle.machine.specs.Operations.{shareOfTurns, shared, slots, turnIfRunning, turnsDue}
+use Rattle.machine.specs.Answer.{answer, command_answer, erase_at, good_area, on_disc, on_good, other_answer, run_at}
+use Rattle.machine.specs.Area.{is_area_length, kernel_bytes, kernel_of}
+use Rattle.machine.specs.Limits.{round_room, slot_count, turn_room}
+use Rattle.machine.specs.Operations.{Command, Commanded, becomes, refused as declined, commanded, in_order, in_use, list_text, round_of}
+use Rattle.machine.specs.Operations.{share_of_turns, shared, slots, turn_if_running, turns_due}
 use Rattle.machine.specs.Refusals.{Passes}
 use Rattle.machine.specs.Start.{Starting, starts, refuses, started, starting}
-use Rattle.machine.specs.Stack.{topString}
-use Rattle.machine.specs.State.{isRunning, localOf, processAt}
+use Rattle.machine.specs.Stack.{top_string}
+use Rattle.machine.specs.State.{is_running, local_of, process_at}
 use Rattle.machine.specs.Turn.{Turned, turned}
 use Rattle.machine.specs.declared.Kernel.{Kernel}
 use Rattle.machine.proofs.Operations.Tests.{tried}
@@ -38,52 +38,52 @@ use Rattle.machine.proofs.Operations.Turning.{turn-change}
 use Rattle.machine.proofs.Bytes.Sizes.{decoded-sized}
 
 -- ---- good buffers and good states
-pub area-length : {disc area : List ℕ} → Passes disc area → isAreaLength (length area) ≡ true
-area-length {disc} p = and_right (isDiscLength (length disc)) _ p.sizes
+pub area-length : {disc area : List ℕ} → Passes disc area → is_area_length (length area) ≡ true
+area-length {disc} p = and_right (is_disc_length (length disc)) _ p.sizes
 
-pub passes-good : (disc area : List ℕ) → Passes disc area → GoodState (kernelOf area) disc
-unfolding goodArea
+pub passes-good : (disc area : List ℕ) → Passes disc area → GoodState (kernel_of area) disc
+unfolding good_area
 passes-good disc area p =
     record {
       sized = decoded-sized area (eqb-true _ _ (area-length p));
-      long = and_left (isDiscLength (length disc)) _ p.sizes;
+      long = and_left (is_disc_length (length disc)) _ p.sizes;
       sound = p.disc-good;
       area = p.area-good;
     }
 
 -- the area's bytes may be others that say the same
-pub good-passes-as : (disc area : List ℕ) → isAreaLength (length area) ≡ true → GoodState (kernelOf area) disc → Passes disc area
-unfolding goodArea
+pub good-passes-as : (disc area : List ℕ) → is_area_length (length area) ≡ true → GoodState (kernel_of area) disc → Passes disc area
+unfolding good_area
 good-passes-as disc area long g = record { sizes = and_both g.long long; disc-good = g.sound; area-good = g.area }
 
-pub good-back : (k : Kernel) (disc : List ℕ) → GoodState k disc → kernelOf (kernelBytes k) ≡ k
+pub good-back : (k : Kernel) (disc : List ℕ) → GoodState k disc → kernel_of (kernel_bytes k) ≡ k
 good-back k disc g = kernel-decode-encode k g.sized
 
-pub good-passes : (k : Kernel) (disc : List ℕ) → GoodState k disc → Passes disc (kernelBytes k)
+pub good-passes : (k : Kernel) (disc : List ℕ) → GoodState k disc → Passes disc (kernel_bytes k)
 good-passes k disc g =
-    good-passes-as disc (kernelBytes k) (eq-eqb _ _ (kernel-bytes-length k g.sized))
+    good-passes-as disc (kernel_bytes k) (eq-eqb _ _ (kernel-bytes-length k g.sized))
     (subst⁻¹ (λ (j : Kernel). GoodState j disc) (good-back k disc g) g)
 
-pub on-good : (b : Buffers) (rest : Answer) → Passes b.disc b.area → onGood b rest ≡ rest
+pub on-good : (b : Buffers) (rest : Answer) → Passes b.disc b.area → on_good b rest ≡ rest
 on-good b rest p = rw (p.sizes, p.disc-good, p.area-good)
 
 -- ---- a turn
-pub turn-is-change : (k : Kernel) (slot clock : ℕ) (disc : List ℕ) → GoodState k disc → isRunning (processAt k slot) ≡ true
-    → Change (topString (localOf (processAt k slot)).stack) slot k disc (turned k slot clock disc).kernel (turned k slot clock disc).disc
+pub turn-is-change : (k : Kernel) (slot clock : ℕ) (disc : List ℕ) → GoodState k disc → is_running (process_at k slot) ≡ true
+    → Change (top_string (local_of (process_at k slot)).stack) slot k disc (turned k slot clock disc).kernel (turned k slot clock disc).disc
 turn-is-change k slot clock disc g h =
-    turn-change k slot clock disc g h (exec-sound _ clock _ _ (within-local g slot (running-live (processAt k slot) h)))
+    turn-change k slot clock disc g h (exec-sound _ clock _ _ (within-local g slot (running-live (process_at k slot) h)))
 
-pub turn-good : (k : Kernel) (slot clock : ℕ) (disc : List ℕ) → GoodState k disc → isRunning (processAt k slot) ≡ true
+pub turn-good : (k : Kernel) (slot clock : ℕ) (disc : List ℕ) → GoodState k disc → is_running (process_at k slot) ≡ true
     → GoodState (turned k slot clock disc).kernel (turned k slot clock disc).disc
 turn-good k slot clock disc g h = change-good _ slot k disc _ _ g (turn-is-change k slot clock disc g h)
 
 -- ---- a round
 pub turn-if-running-good : (k : Kernel) (slot clock : ℕ) (disc : List ℕ) → GoodState k disc
-    → GoodState (turnIfRunning k slot clock disc).kernel (turnIfRunning k slot clock disc).disc
-unfolding turnIfRunning
-turn-if-running-good k slot clock disc g = go (isRunning (processAt k slot)) refl
+    → GoodState (turn_if_running k slot clock disc).kernel (turn_if_running k slot clock disc).disc
+unfolding turn_if_running
+turn-if-running-good k slot clock disc g = go (is_running (process_at k slot)) refl
   where
-    go : (running : Bool) → isRunning (processAt k slot) ≡ running
+    go : (running : Bool) → is_running (process_at k slot) ≡ running
         → GoodState (cond running (turned k slot clock disc) (record { kernel = k; disc = disc; out = [] })).kernel
         (cond running (turned k slot clock disc) (record { kernel = k; disc = disc; out = [] })).disc
     go true e = turn-good k slot clock disc g e
@@ -96,26 +96,26 @@ KeepsGood each = (k : Kernel) (slot clock : ℕ) (disc : List ℕ) → GoodState
 
 pub in-order-good : (each : Kernel → ℕ → ℕ → List ℕ → Turned) → KeepsGood each → (l : List ℕ) (k : Kernel) (clock : ℕ) (disc : List ℕ)
     → GoodState k disc
-    → GoodState (inOrder each l k clock disc).kernel (inOrder each l k clock disc).disc
-unfolding inOrder
+    → GoodState (in_order each l k clock disc).kernel (in_order each l k clock disc).disc
+unfolding in_order
 in-order-good each keeps [] k clock disc g = g
 in-order-good each keeps (slot ∷ l) k clock disc g =
     let t : Turned = each k slot clock disc in
     in-order-good each keeps l t.kernel clock t.disc (keeps k slot clock disc g)
 
-pub share-of-turns-good : KeepsGood shareOfTurns
-unfolding shareOfTurns
+pub share-of-turns-good : KeepsGood share_of_turns
+unfolding share_of_turns
 share-of-turns-good k slot clock disc g =
-    in-order-good turnIfRunning turn-if-running-good (replicate (turnsDue (processAt k slot)) slot) k clock disc g
+    in-order-good turn_if_running turn-if-running-good (replicate (turns_due (process_at k slot)) slot) k clock disc g
 
 pub round-good : (k : Kernel) (clock : ℕ) (disc : List ℕ) → GoodState k disc
-    → GoodState (roundOf k clock disc).kernel (roundOf k clock disc).disc
-round-good = in-order-good shareOfTurns share-of-turns-good slots
+    → GoodState (round_of k clock disc).kernel (round_of k clock disc).disc
+round-good = in-order-good share_of_turns share-of-turns-good slots
 
 -- ---- every call
 module _ (b : Buffers) (passes : Passes b.disc b.area) where
   k : Kernel
-  k = kernelOf b.area
+  k = kernel_of b.area
 
   abbrev Kept : Answer → Type 0
   Kept a = Passes a.disc a.area
@@ -130,19 +130,19 @@ module _ (b : Buffers) (passes : Passes b.disc b.area) where
   disc-kept after o = good-passes-as after b.area (area-length passes) (outside-good [] k b.disc k after good o)
 
   store_kept : (name bytes : List ℕ) → Kept (answer (other (store name bytes)) b)
-  unfolding answer otherAnswer
+  unfolding answer other_answer
   store_kept name bytes =
-      store-cases b.disc name bytes (λ u. Kept (onDisc u b)) (λ r d. passes)
+      store-cases b.disc name bytes (λ u. Kept (on_disc u b)) (λ r d. passes)
       (λ s l g a. disc-kept (stored b.disc name bytes s) (stores name bytes s a refl refl))
 
   erase-kept : (name : List ℕ) → Kept (answer (other (erase name)) b)
-  unfolding answer otherAnswer k
+  unfolding answer other_answer k
   erase-kept name = subst⁻¹ Kept (on-good b _ passes) (found (lookup b.disc name) refl)
     where
-      found : (f : Found) → lookup b.disc name ≡ f → Kept (eraseAt f k b)
+      found : (f : Found) → lookup b.disc name ≡ f → Kept (erase_at f k b)
       found Nowhere e = passes
       found (At i) e =
-          tried Kept b (not (inUse k (entry_at b.disc i))) 11 _ passes λ free.
+          tried Kept b (not (in_use k (entry_at b.disc i))) 11 _ passes λ free.
           disc-kept (erased b.disc i) (erases i (lookup-at b.disc name i e).inside (not-true _ free) refl refl)
 
   run-kept : (name : List ℕ) → Kept (answer (run name) b)
@@ -154,10 +154,10 @@ module _ (b : Buffers) (passes : Passes b.disc b.area) where
       placed (starts slot f) e =
           good-passes _ _ (outside-good name k b.disc (started k slot f) b.disc good (begins slot f e refl refl))
 
-  commanded-kept : (r : Commanded) → ((j : Kernel) → r ≡ becomes j → GoodState j b.disc) → Kept (onGood b (commandAnswer r b))
+  commanded-kept : (r : Commanded) → ((j : Kernel) → r ≡ becomes j → GoodState j b.disc) → Kept (on_good b (command_answer r b))
   commanded-kept r leaves = subst⁻¹ Kept (on-good b _ passes) (given r leaves)
     where
-      given : (r : Commanded) → ((j : Kernel) → r ≡ becomes j → GoodState j b.disc) → Kept (commandAnswer r b)
+      given : (r : Commanded) → ((j : Kernel) → r ≡ becomes j → GoodState j b.disc) → Kept (command_answer r b)
       given (declined n) leaves = passes
       given (becomes j) leaves = good-passes j b.disc (leaves j refl)
 
@@ -170,31 +170,31 @@ module _ (b : Buffers) (passes : Passes b.disc b.area) where
   share-kept id turns = commanded-kept (shared id turns k) (share-good good id turns)
 
   list-kept : Kept (answer (other list) b)
-  unfolding answer otherAnswer k
-  list-kept = subst⁻¹ Kept (on-good b _ passes) (tried Kept b (leb (length (listText k)) (length b.out)) 4 _ passes λ fit. passes)
+  unfolding answer other_answer k
+  list-kept = subst⁻¹ Kept (on-good b _ passes) (tried Kept b (leb (length (list_text k)) (length b.out)) 4 _ passes λ fit. passes)
 
   turn-kept : (slot clock : ℕ) → Kept (answer (turn slot clock) b)
   unfolding answer k
   turn-kept slot clock =
       subst⁻¹ Kept (on-good b _ passes)
-      (tried Kept b (leb turnRoom (length b.out)) 4 _ passes λ fit.
-      tried Kept b (ltb slot slotCount && isRunning (processAt k slot)) 16 _ passes λ may.
-      good-passes _ _ (turn-good k slot clock b.disc good (and_right (ltb slot slotCount) _ may)))
+      (tried Kept b (leb turn_room (length b.out)) 4 _ passes λ fit.
+      tried Kept b (ltb slot slot_count && is_running (process_at k slot)) 16 _ passes λ may.
+      good-passes _ _ (turn-good k slot clock b.disc good (and_right (ltb slot slot_count) _ may)))
 
   round-kept : (clock : ℕ) → Kept (answer (round clock) b)
   unfolding answer k
   round-kept clock =
       subst⁻¹ Kept (on-good b _ passes)
-      (tried Kept b (leb roundRoom (length b.out)) 4 _ passes λ fit.
+      (tried Kept b (leb round_room (length b.out)) 4 _ passes λ fit.
       good-passes _ _ (round-good k clock b.disc good))
 
   other-kept : (o : Other) → Kept (answer (other o) b)
-  unfolding answer otherAnswer
+  unfolding answer other_answer
   other-kept (store name bytes) = store_kept name bytes
   other-kept (retrieve name) = passes
   other-kept (erase name) = erase-kept name
   other-kept files = passes
-  other-kept freeSpace = passes
+  other-kept free_space = passes
   other-kept list = list-kept
 
   pub good-kept : (c : Call) → Passes (answer c b).disc (answer c b).area

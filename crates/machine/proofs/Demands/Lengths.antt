@@ -14,9 +14,9 @@ use Rattle.buffer.specs.declared.Found.{Found}
 use Rattle.buffer.specs.declared.Found.TheVariants.{At, Nowhere}
 use Rattle.buffer.proofs.Bools.{and_right}
 use Rattle.buffer.proofs.Buffer.{overwrite-length}
-use Rattle.disc.specs.Directory.{contents, entry_at, files as entries, goodDisc, isDiscLength, lookup, runOf}
+use Rattle.disc.specs.Directory.{contents, entry_at, files as entries, good_disc, is_disc_length, lookup, run_of}
 use Rattle.disc.proofs.Lookups.{lookup-at}
-use Rattle.store.specs.Answer.{Reported, fileLine, filesAnswer, reported, retrieveAnswer, retrieveAt}
+use Rattle.store.specs.Answer.{Reported, file_line, files_answer, reported, retrieve_answer, retrieve_at}
 use Rattle.store.specs.File.{unless}
 use Rattle.store.specs.declared.Answer.TheVariants.{Done, Refused}
 use Rattle.store.specs.declared.Refusal.TheVariants.{ShortOutput}
@@ -26,18 +26,18 @@ use Rattle.store.proofs.Checks.{by-checks}
 use Rattle.store.proofs.Contents.{contents-length}
 use Rattle.store.proofs.Effects.{stored-length}
 use Rattle.store.proofs.Invariant.{present}
-use Rattle.machine.specs.Answer.{Answer, Buffers, Other, store, retrieve, erase, files, freeSpace, list, Call, turn, round}
-use Rattle.machine.specs.Answer.{command, share, run, other, answer, bootAnswer, commandAnswer, done, eraseAt, formatAnswer, onDisc}
-use Rattle.machine.specs.Answer.{onGood, otherAnswer, refused, run_at}
-use Rattle.machine.specs.Area.{isAreaLength, kernelOf}
+use Rattle.machine.specs.Answer.{Answer, Buffers, Other, store, retrieve, erase, files, free_space, list, Call, turn, round}
+use Rattle.machine.specs.Answer.{command, share, run, other, answer, boot_answer, command_answer, done, erase_at, format_answer, on_disc}
+use Rattle.machine.specs.Answer.{on_good, other_answer, refused, run_at}
+use Rattle.machine.specs.Area.{is_area_length, kernel_of}
 use Rattle.machine.specs.Demands.{SameLengths}
-use Rattle.machine.specs.Limits.{maxShare, roundRoom, shareRoom, slotCount, turnRoom}
-use Rattle.machine.specs.Operations.{Commanded, becomes, refused as declined, commanded, inOrder, inUse, listText, roundOf}
-use Rattle.machine.specs.Operations.{shareOfTurns, shared, slots, turnIfRunning, turnsDue, turnsInRow}
+use Rattle.machine.specs.Limits.{max_share, round_room, share_room, slot_count, turn_room}
+use Rattle.machine.specs.Operations.{Commanded, becomes, refused as declined, commanded, in_order, in_use, list_text, round_of}
+use Rattle.machine.specs.Operations.{share_of_turns, shared, slots, turn_if_running, turns_due, turns_in_row}
 use Rattle.machine.specs.Refusals.{Passes}
 use Rattle.machine.specs.Start.{Starting, starts, refuses, starting}
-use Rattle.machine.specs.State.{isRunning, processAt}
-use Rattle.machine.specs.Trace.{atLeastOne}
+use Rattle.machine.specs.State.{is_running, process_at}
+use Rattle.machine.specs.Trace.{at_least_one}
 use Rattle.machine.specs.Turn.{Turned, turned}
 use Rattle.machine.specs.declared.Kernel.{Kernel}
 use Rattle.machine.specs.declared.Process.{Process}
@@ -55,18 +55,18 @@ use Rattle.machine.proofs.Operations.Tests.{on-tests, tried}
 use Rattle.machine.proofs.Operations.Turning.{turn-prints}
 
 -- ---- what turns print
-turn-short : (k : Kernel) (slot clock : ℕ) (disc : List ℕ) → GoodState k disc → isRunning (processAt k slot) ≡ true
-    → length (turned k slot clock disc).out ≤ turnRoom
+turn-short : (k : Kernel) (slot clock : ℕ) (disc : List ℕ) → GoodState k disc → is_running (process_at k slot) ≡ true
+    → length (turned k slot clock disc).out ≤ turn_room
 turn-short k slot clock disc g h =
-    turn-prints k slot clock disc g h (exec-sound _ clock _ _ (within-local g slot (running-live (processAt k slot) h)))
+    turn-prints k slot clock disc g h (exec-sound _ clock _ _ (within-local g slot (running-live (process_at k slot) h)))
 
 pub turn-if-running-short : (k : Kernel) (slot clock : ℕ) (disc : List ℕ) → GoodState k disc
-    → length (turnIfRunning k slot clock disc).out ≤ turnRoom
-unfolding turnIfRunning
-turn-if-running-short k slot clock disc g = go (isRunning (processAt k slot)) refl
+    → length (turn_if_running k slot clock disc).out ≤ turn_room
+unfolding turn_if_running
+turn-if-running-short k slot clock disc g = go (is_running (process_at k slot)) refl
   where
-    go : (running : Bool) → isRunning (processAt k slot) ≡ running
-        → length (cond running (turned k slot clock disc) (record { kernel = k; disc = disc; out = [] })).out ≤ turnRoom
+    go : (running : Bool) → is_running (process_at k slot) ≡ running
+        → length (cond running (turned k slot clock disc) (record { kernel = k; disc = disc; out = [] })).out ≤ turn_room
     go true e = turn-short k slot clock disc g e
     go false e = omega arith
 
@@ -77,70 +77,70 @@ PrintsAtMost n each = (k : Kernel) (slot clock : ℕ) (disc : List ℕ) → Good
 in-order-short : (each : Kernel → ℕ → ℕ → List ℕ → Turned) (n : ℕ) → KeepsGood each → PrintsAtMost n each → (l : List ℕ) (k : Kernel)
     (clock : ℕ) (disc : List ℕ)
     → GoodState k disc
-    → length (inOrder each l k clock disc).out ≤ length l * n
-unfolding inOrder
+    → length (in_order each l k clock disc).out ≤ length l * n
+unfolding in_order
 in-order-short each n keeps short [] k clock disc g = omega arith
 in-order-short each n keeps short (slot ∷ l) k clock disc g =
     let t : Turned = each k slot clock disc in
     let first : length t.out ≤ n = short k slot clock disc g in
-    let rest : length (inOrder each l t.kernel clock t.disc).out ≤ length l * n =
+    let rest : length (in_order each l t.kernel clock t.disc).out ≤ length l * n =
     in-order-short each n keeps short l t.kernel clock t.disc (keeps k slot clock disc g) in
-    omega (arith, length-append t.out (inOrder each l t.kernel clock t.disc).out)
+    omega (arith, length-append t.out (in_order each l t.kernel clock t.disc).out)
 
 -- a slot that does not run prints nothing, and changes nothing
-pub turns-idle : (n : ℕ) (k : Kernel) (slot clock : ℕ) (disc : List ℕ) → isRunning (processAt k slot) ≡ false
-    → turnsInRow n k slot clock disc ≡ record { kernel = k; disc = disc; out = [] }
-unfolding inOrder turnIfRunning
+pub turns-idle : (n : ℕ) (k : Kernel) (slot clock : ℕ) (disc : List ℕ) → is_running (process_at k slot) ≡ false
+    → turns_in_row n k slot clock disc ≡ record { kernel = k; disc = disc; out = [] }
+unfolding in_order turn_if_running
 turns-idle zero k slot clock disc h = refl
 turns-idle (suc n) k slot clock disc h = rw h (turns-idle n k slot clock disc h)
 
 -- "with zero as one"
-pub due : (p : Process) → atLeastOne p.share ≡ turnsDue p
+pub due : (p : Process) → at_least_one p.share ≡ turns_due p
 due p = go p.share refl
   where
-    go : (n : ℕ) → p.share ≡ n → atLeastOne n ≡ turnsDue p
+    go : (n : ℕ) → p.share ≡ n → at_least_one n ≡ turns_due p
     go zero e = rw e refl
     go (suc n) e = rw (e, ne_eqb (suc n) 0 (λ (z : suc n ≡ 0). omega arith)) refl
 
 -- of a slot that runs, at most eight turns are due
-pub few-turns : (k : Kernel) (slot : ℕ) (disc : List ℕ) → GoodState k disc → isRunning (processAt k slot) ≡ true
-    → turnsDue (processAt k slot) ≤ maxShare
+pub few-turns : (k : Kernel) (slot : ℕ) (disc : List ℕ) → GoodState k disc → is_running (process_at k slot) ≡ true
+    → turns_due (process_at k slot) ≤ max_share
 few-turns k slot disc g h =
-    let p = processAt k slot in
-    subst (λ (n : ℕ). n ≤ maxShare) (due p) (at_most p.share (live-record g slot (running-live p h)).registers.share)
+    let p = process_at k slot in
+    subst (λ (n : ℕ). n ≤ max_share) (due p) (at_most p.share (live-record g slot (running-live p h)).registers.share)
   where
-    at_most : (n : ℕ) → n ≤ maxShare → atLeastOne n ≤ maxShare
+    at_most : (n : ℕ) → n ≤ max_share → at_least_one n ≤ max_share
     at_most zero few = omega arith
     at_most (suc n) few = few
 
-pub share-short : PrintsAtMost shareRoom shareOfTurns
-unfolding shareOfTurns
-share-short k slot clock disc g = go (isRunning (processAt k slot)) refl
+pub share-short : PrintsAtMost share_room share_of_turns
+unfolding share_of_turns
+share-short k slot clock disc g = go (is_running (process_at k slot)) refl
   where
     n : ℕ
-    n = turnsDue (processAt k slot)
+    n = turns_due (process_at k slot)
 
-    go : (f : Bool) → isRunning (processAt k slot) ≡ f → length (turnsInRow n k slot clock disc).out ≤ shareRoom
-    go false h = subst⁻¹ (λ (t : Turned). length t.out ≤ shareRoom) (turns-idle n k slot clock disc h) (omega arith)
+    go : (f : Bool) → is_running (process_at k slot) ≡ f → length (turns_in_row n k slot clock disc).out ≤ share_room
+    go false h = subst⁻¹ (λ (t : Turned). length t.out ≤ share_room) (turns-idle n k slot clock disc h) (omega arith)
     go true h =
-        let each : length (turnsInRow n k slot clock disc).out ≤ length (replicate n slot) * turnRoom =
-        in-order-short turnIfRunning turnRoom turn-if-running-good turn-if-running-short (replicate n slot) k clock disc g in
+        let each : length (turns_in_row n k slot clock disc).out ≤ length (replicate n slot) * turn_room =
+        in-order-short turn_if_running turn_room turn-if-running-good turn-if-running-short (replicate n slot) k clock disc g in
         omega (arith, few-turns k slot disc g h, length-replicate n slot)
 
 -- Document 02, Q-9: *Round* "needs 2,560 output bytes", eight turns of at most 32 for each of ten slots
-pub round-short : (k : Kernel) (clock : ℕ) (disc : List ℕ) → GoodState k disc → length (roundOf k clock disc).out ≤ roundRoom
+pub round-short : (k : Kernel) (clock : ℕ) (disc : List ℕ) → GoodState k disc → length (round_of k clock disc).out ≤ round_room
 round-short k clock disc g =
-    let all : length (roundOf k clock disc).out ≤ slotCount * shareRoom =
-    in-order-short shareOfTurns shareRoom share-of-turns-good share-short slots k clock disc g in
+    let all : length (round_of k clock disc).out ≤ slot_count * share_room =
+    in-order-short share_of_turns share_room share-of-turns-good share-short slots k clock disc g in
     omega arith
 
 -- ---- what turns leave of the disc's length
 pub turn-if-running-length : (k : Kernel) (slot clock : ℕ) (disc : List ℕ) → GoodState k disc
-    → length (turnIfRunning k slot clock disc).disc ≡ length disc
-unfolding turnIfRunning
-turn-if-running-length k slot clock disc g = go (isRunning (processAt k slot)) refl
+    → length (turn_if_running k slot clock disc).disc ≡ length disc
+unfolding turn_if_running
+turn-if-running-length k slot clock disc g = go (is_running (process_at k slot)) refl
   where
-    go : (running : Bool) → isRunning (processAt k slot) ≡ running
+    go : (running : Bool) → is_running (process_at k slot) ≡ running
         → length (cond running (turned k slot clock disc) (record { kernel = k; disc = disc; out = [] })).disc ≡ length disc
     go true e = change-length g (turn-is-change k slot clock disc g e)
     go false e = refl
@@ -151,20 +151,21 @@ KeepsLength each = (k : Kernel) (slot clock : ℕ) (disc : List ℕ) → GoodSta
 in-order-length : (each : Kernel → ℕ → ℕ → List ℕ → Turned) → KeepsGood each → KeepsLength each → (l : List ℕ) (k : Kernel) (clock : ℕ)
     (disc : List ℕ)
     → GoodState k disc
-    → length (inOrder each l k clock disc).disc ≡ length disc
-unfolding inOrder
+    → length (in_order each l k clock disc).disc ≡ length disc
+unfolding in_order
 in-order-length each keeps same [] k clock disc g = refl
 in-order-length each keeps same (slot ∷ l) k clock disc g =
     let t : Turned = each k slot clock disc in
     in-order-length each keeps same l t.kernel clock t.disc (keeps k slot clock disc g) ∙ same k slot clock disc g
 
-pub share-length : KeepsLength shareOfTurns
-unfolding shareOfTurns
+pub share-length : KeepsLength share_of_turns
+unfolding share_of_turns
 share-length k slot clock disc g =
-    in-order-length turnIfRunning turn-if-running-good turn-if-running-length (replicate (turnsDue (processAt k slot)) slot) k clock disc g
+    in-order-length turn_if_running turn-if-running-good turn-if-running-length
+    (replicate (turns_due (process_at k slot)) slot) k clock disc g
 
-round-length : (k : Kernel) (clock : ℕ) (disc : List ℕ) → GoodState k disc → length (roundOf k clock disc).disc ≡ length disc
-round-length = in-order-length shareOfTurns share-of-turns-good share-length slots
+round-length : (k : Kernel) (clock : ℕ) (disc : List ℕ) → GoodState k disc → length (round_of k clock disc).disc ≡ length disc
+round-length = in-order-length share_of_turns share-of-turns-good share-length slots
 
 module _ (b : Buffers) where
   abbrev Same : Answer → Type 0
@@ -174,7 +175,7 @@ module _ (b : Buffers) where
   SameOut out = length out ≡ length b.out
 
   k : Kernel
-  k = kernelOf b.area
+  k = kernel_of b.area
 
   same : (n : ℕ) → Same (refused n b)
   same n = (refl, refl, refl)
@@ -193,10 +194,10 @@ module _ (b : Buffers) where
         → length text ≤ length b.out → Same (done 0 j disc text b)
     done-same j disc text g e h = (e, kernel-bytes-length j g.sized ∙ sym (eqb-true _ _ (area-length p)), wrote text h)
 
-    erase_same : (name : List ℕ) (f : Found) → lookup b.disc name ≡ f → Same (eraseAt f k b)
+    erase_same : (name : List ℕ) (f : Found) → lookup b.disc name ≡ f → Same (erase_at f k b)
     erase_same name Nowhere e = same 10
     erase_same name (At i) e =
-        tried Same b (not (inUse k (entry_at b.disc i))) 11 _ (same 11) λ free.
+        tried Same b (not (in_use k (entry_at b.disc i))) 11 _ (same 11) λ free.
         (erased-length (present b.disc p.disc-good i (lookup-at b.disc name i e).inside), refl, refl)
 
     run-same : (name : List ℕ) (s : Starting) → starting k b.disc name ≡ s → Same (run_at s k b)
@@ -204,11 +205,11 @@ module _ (b : Buffers) where
     run-same name (starts slot f) e =
         done-same _ b.disc [] (outside-good name k b.disc _ _ good (begins slot f e refl refl)) refl (omega arith)
 
-    commanded-same : (r : Commanded) → ((j : Kernel) → r ≡ becomes j → GoodState j b.disc) → Same (commandAnswer r b)
+    commanded-same : (r : Commanded) → ((j : Kernel) → r ≡ becomes j → GoodState j b.disc) → Same (command_answer r b)
     commanded-same (declined n) leaves = same n
     commanded-same (becomes j) leaves = done-same j b.disc [] (leaves j refl) refl (omega arith)
 
-  both : (rest : Answer) → (Passes b.disc b.area → Same rest) → Same (onGood b rest)
+  both : (rest : Answer) → (Passes b.disc b.area → Same rest) → Same (on_good b rest)
   both rest h = on-tests Same b rest (same 1) (same 2) (same 3) h
 
   -- ---- operations on the disc alone
@@ -217,71 +218,71 @@ module _ (b : Buffers) where
   reported-out true n text h = wrote text (h refl)
   reported-out false n text h = refl
 
-  retrieve-out : (name : List ℕ) → SameOut (retrieveAnswer b.disc name b.out).out
-  unfolding retrieveAnswer
+  retrieve-out : (name : List ℕ) → SameOut (retrieve_answer b.disc name b.out).out
+  unfolding retrieve_answer
   retrieve-out name = by-checks b.disc (λ (r : Reported). SameOut r.out) _ _ (λ e. refl) (λ e. refl)
       (λ l g. found g (lookup b.disc name) refl)
     where
-      found : goodDisc b.disc ≡ true → (f : Found) → lookup b.disc name ≡ f → SameOut (retrieveAt f b.disc b.out).out
+      found : good_disc b.disc ≡ true → (f : Found) → lookup b.disc name ≡ f → SameOut (retrieve_at f b.disc b.out).out
       found g Nowhere e = refl
       found g (At i) e =
           reported-out (leb (entry_at b.disc i).len (length b.out)) (entry_at b.disc i).len
-          (contents b.disc (runOf (entry_at b.disc i))) λ fit.
+          (contents b.disc (run_of (entry_at b.disc i))) λ fit.
           omega (
             arith,
-            contents-length b.disc (runOf (entry_at b.disc i)),
+            contents-length b.disc (run_of (entry_at b.disc i)),
             leb-true (entry_at b.disc i).len (length b.out) fit,
           )
 
-  files-out : SameOut (filesAnswer b.disc b.out).out
-  unfolding filesAnswer
+  files-out : SameOut (files_answer b.disc b.out).out
+  unfolding files_answer
   files-out =
-      let text : List ℕ = flat fileLine (entries b.disc) in
+      let text : List ℕ = flat file_line (entries b.disc) in
       by-checks b.disc (λ (r : Reported). SameOut r.out) _ _ (λ e. refl) (λ e. refl)
       (λ l g. reported-out (leb (length text) (length b.out)) (length text) text λ fit. leb-true _ _ fit)
 
   -- ---- every call
   other-lengths : (o : Other) → Same (answer (other o) b)
-  unfolding answer otherAnswer k
+  unfolding answer other_answer k
   other-lengths (store name bytes) =
-      store-cases b.disc name bytes (λ u. Same (onDisc u b)) (λ r d. (refl, refl, refl))
+      store-cases b.disc name bytes (λ u. Same (on_disc u b)) (λ r d. (refl, refl, refl))
       (λ s l g a. (stored-length bytes g a, refl, refl))
   other-lengths (retrieve name) = (refl, refl, retrieve-out name)
   other-lengths (erase name) = both _ λ p. erase_same p name (lookup b.disc name) refl
   other-lengths files = (refl, refl, files-out)
-  other-lengths freeSpace = (refl, refl, refl)
+  other-lengths free_space = (refl, refl, refl)
   other-lengths list =
-      both _ λ p. tried Same b (leb (length (listText k)) (length b.out)) 4 _ (same 4) λ fit.
-      (refl, refl, wrote (listText k) (leb-true _ _ fit))
+      both _ λ p. tried Same b (leb (length (list_text k)) (length b.out)) 4 _ (same 4) λ fit.
+      (refl, refl, wrote (list_text k) (leb-true _ _ fit))
 
   pub lengths-kept : (c : Call) → Same (answer c b)
   unfolding answer k
   lengths-kept (turn slot clock) =
       both _ λ p.
-      tried Same b (leb turnRoom (length b.out)) 4 _ (same 4) λ fit.
-      tried Same b (ltb slot slotCount && isRunning (processAt k slot)) 16 _ (same 16) λ may.
-      let runs : isRunning (processAt k slot) ≡ true = and_right (ltb slot slotCount) _ may in
+      tried Same b (leb turn_room (length b.out)) 4 _ (same 4) λ fit.
+      tried Same b (ltb slot slot_count && is_running (process_at k slot)) 16 _ (same 16) λ may.
+      let runs : is_running (process_at k slot) ≡ true = and_right (ltb slot slot_count) _ may in
       let short = turn-short k slot clock b.disc (good p) runs in
       done-same p _ _ (turned k slot clock b.disc).out (turn-good k slot clock b.disc (good p) runs)
       (change-length (good p) (turn-is-change k slot clock b.disc (good p) runs))
-      (omega (arith, leb-true turnRoom (length b.out) fit))
+      (omega (arith, leb-true turn_room (length b.out) fit))
   lengths-kept (round clock) =
       both _ λ p.
-      tried Same b (leb roundRoom (length b.out)) 4 _ (same 4) λ fit.
-      done-same p _ _ (roundOf k clock b.disc).out (round-good k clock b.disc (good p)) (round-length k clock b.disc (good p))
-      (omega (arith, round-short k clock b.disc (good p), leb-true roundRoom (length b.out) fit))
+      tried Same b (leb round_room (length b.out)) 4 _ (same 4) λ fit.
+      done-same p _ _ (round_of k clock b.disc).out (round-good k clock b.disc (good p)) (round-length k clock b.disc (good p))
+      (omega (arith, round-short k clock b.disc (good p), leb-true round_room (length b.out) fit))
   lengths-kept (command c id) = both _ λ p. commanded-same p (commanded c id k) (command-good (good p) c id)
   lengths-kept (share id turns) = both _ λ p. commanded-same p (shared id turns k) (share-good (good p) id turns)
   lengths-kept (run name) = both _ λ p. run-same p name (starting k b.disc name) refl
   lengths-kept (other o) = other-lengths o
 
   -- ---- format and boot
-  pub boot-lengths : Same (bootAnswer b)
-  unfolding bootAnswer
-  boot-lengths = tried Same b (isAreaLength (length b.area)) 1 _ (same 1) λ e. (refl, sym (eqb-true _ _ e), refl)
+  pub boot-lengths : Same (boot_answer b)
+  unfolding boot_answer
+  boot-lengths = tried Same b (is_area_length (length b.area)) 1 _ (same 1) λ e. (refl, sym (eqb-true _ _ e), refl)
 
-  pub format-lengths : Same (formatAnswer b)
-  unfolding formatAnswer
+  pub format-lengths : Same (format_answer b)
+  unfolding format_answer
   format-lengths =
-      tried Same b (isDiscLength (length b.disc) && isAreaLength (length b.area)) 1 _ (same 1) λ e.
-      (length-replicate _ _, sym (eqb-true _ _ (and_right (isDiscLength (length b.disc)) _ e)), refl)
+      tried Same b (is_disc_length (length b.disc) && is_area_length (length b.area)) 1 _ (same 1) λ e.
+      (length-replicate _ _, sym (eqb-true _ _ (and_right (is_disc_length (length b.disc)) _ e)), refl)

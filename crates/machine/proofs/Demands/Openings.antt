@@ -18,19 +18,19 @@ use Rattle.float.specs.declared.whole.Size.{Size}
 use Rattle.float.specs.declared.whole.Size.TheVariants.{Is, Refused as Improper}
 use Rattle.float.specs.declared.whole.Whole.TheVariants as whole
 use Rattle.float.specs.declared.whole.Whole.TheVariants.{OutOfRange}
-use Rattle.number.specs.Compare.{sizeWithin}
+use Rattle.number.specs.Compare.{size_within}
 use Rattle.number.specs.declared.Number.{Number}
 use Rattle.number.specs.declared.Number.TheVariants.{Char, Int, Float}
 use Rattle.place.specs.Place.{run_from}
-use Rattle.disc.specs.Directory.{entry_at, goodDisc, isDiscLength, lookup}
-use Rattle.store.specs.File.{admission, goodSize, sizeLimit, stored}
+use Rattle.disc.specs.Directory.{entry_at, good_disc, is_disc_length, lookup}
+use Rattle.store.specs.File.{admission, good_size, size_limit, stored}
 use Rattle.store.specs.declared.Admission.{Admission}
 use Rattle.store.specs.declared.Admission.TheVariants.{Start, Denied}
 use Rattle.store.specs.declared.Refusal.{Refusal}
 use Rattle.store.specs.declared.Refusal.TheVariants.{WrongLength, BadDisc, ShortOutput, BadName, BadSize, NameExists, DirectoryFull, NoRun}
 use Rattle.store.specs.declared.Refusal.TheVariants.{NoSuchFile}
 use Rattle.store.proofs.Admissions.{Denial, denied, denied-full}
-use Rattle.machine.specs.Beyond.{Answered, answered, breaks, continues, created, createdAt, newFileSize, opened, openedAt}
+use Rattle.machine.specs.Beyond.{Answered, answered, breaks, continues, created, created_at, new_file_size, opened, opened_at}
 use Rattle.machine.specs.Effect.{opens}
 use Rattle.machine.specs.NoPlace.{NewFileRefused, by_name, by_size, by-full, by-no-run}
 use Rattle.machine.specs.State.{Local}
@@ -52,7 +52,7 @@ sized-within max n z e = go (in_range max z) refl z refl e
         let below : leb (suc m) max ≡ true = subst (λ (y : ℤ). in_range max y ≡ true) (sym q) p in
         subst (λ (i : ℕ). leb 1 i && leb i max ≡ true) x (and_both (le-leb 1 (suc m) (omega arith)) below)
 
-size-within : (max n : ℕ) (size : Number) → sizeWithin max size ≡ Is n → leb 1 n && leb n max ≡ true
+size-within : (max n : ℕ) (size : Number) → size_within max size ≡ Is n → leb 1 n && leb n max ≡ true
 unfolding size_of
 size-within max n (Char x) e = sized-within max n x e
 size-within max n (Int x) e = sized-within max n x e
@@ -63,9 +63,9 @@ size-within max n (Float x) e = float-within x e
     float-within (inf s) e = absurd (let x : ◌≡◌ {A = ℕ} 0 1 = cc in omega arith)
     float-within (fin s m e) h = sized-within max n (signed s (m * up e / down e)) h
 
-module _ (disc name : List ℕ) (long : isDiscLength (length disc) ≡ true) (good : goodDisc disc ≡ true) where
+module _ (disc name : List ℕ) (long : is_disc_length (length disc) ≡ true) (good : good_disc disc ≡ true) where
   -- a file of that name would have been opened, so that it exists is no reason
-  denial-refuses : (n : ℕ) (size : Size) → size ≡ Is n → goodSize disc n ≡ true → lookup disc name ≡ Nowhere → (r : Refusal)
+  denial-refuses : (n : ℕ) (size : Size) → size ≡ Is n → good_size disc n ≡ true → lookup disc name ≡ Nowhere → (r : Refusal)
       → admission disc name n ≡ Denied r → Denial disc name n r → NewFileRefused disc name size
   denial-refuses n size e fit new WrongLength a d = absurd (true-not-false long d)
   denial-refuses n size e fit new BadDisc a d = absurd (true-not-false good d)
@@ -78,28 +78,28 @@ module _ (disc name : List ℕ) (long : isDiscLength (length disc) ≡ true) (go
   denial-refuses n size e fit new ShortOutput a d = absurd d
   denial-refuses n size e fit new NoSuchFile a d = absurd d
 
-  pub new-file-refused : (size : Number) (n : ℕ) → newFileSize disc size ≡ Is n → lookup disc name ≡ Nowhere → (r : Refusal)
-      → admission disc name n ≡ Denied r → NewFileRefused disc name (newFileSize disc size)
+  pub new-file-refused : (size : Number) (n : ℕ) → new_file_size disc size ≡ Is n → lookup disc name ≡ Nowhere → (r : Refusal)
+      → admission disc name n ≡ Denied r → NewFileRefused disc name (new_file_size disc size)
   new-file-refused size n e new r a =
-      denial-refuses n _ e (size-within (sizeLimit disc) n size e) new r a (denied disc name n r a)
+      denial-refuses n _ e (size-within (size_limit disc) n size e) new r a (denied disc name n r a)
 
   -- OPEN goes on with some file, or its new file is refused, which is fault 13
   pub open-cases : (k : Kernel) (slot : ℕ) (l : Local) (size : Number) (P : Answered → Type 0)
       → ((f : OpenFile) (after : List ℕ) → P (continues k slot disc l f after))
-      → (lookup disc name ≡ Nowhere → NewFileRefused disc name (newFileSize disc size) → P (breaks 13))
+      → (lookup disc name ≡ Nowhere → NewFileRefused disc name (new_file_size disc size) → P (breaks 13))
       → P (answered k slot disc (opens name size l))
   unfolding answered
   open-cases k slot l size P goes refused = found (lookup disc name) refl
     where
-      create : lookup disc name ≡ Nowhere → (n : ℕ) → newFileSize disc size ≡ Is n → (a : Admission)
-          → admission disc name n ≡ a → P (createdAt k slot disc a name n l)
+      create : lookup disc name ≡ Nowhere → (n : ℕ) → new_file_size disc size ≡ Is n → (a : Admission)
+          → admission disc name n ≡ a → P (created_at k slot disc a name n l)
       create new n e (Start s) a = goes (opened (run_from s n)) (stored disc name (zeros n) s)
       create new n e (Denied r) a = refused new (new-file-refused size n e new r a)
 
-      judged : lookup disc name ≡ Nowhere → (s : Size) → newFileSize disc size ≡ s → P (created k slot disc s name l)
+      judged : lookup disc name ≡ Nowhere → (s : Size) → new_file_size disc size ≡ s → P (created k slot disc s name l)
       judged new Improper e = refused new (by_size e)
       judged new (Is n) e = create new n e (admission disc name n) refl
 
-      found : (f : Found) → lookup disc name ≡ f → P (openedAt k slot disc f name size l)
+      found : (f : Found) → lookup disc name ≡ f → P (opened_at k slot disc f name size l)
       found (At i) e = goes (opened (run_from (entry_at disc i).start (entry_at disc i).len)) disc
-      found Nowhere e = judged e (newFileSize disc size) refl
+      found Nowhere e = judged e (new_file_size disc size) refl

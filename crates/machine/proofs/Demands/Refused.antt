@@ -12,14 +12,15 @@ use Rattle.buffer.specs.Lists.{flat}
 use Rattle.buffer.specs.declared.Found.{Found}
 use Rattle.buffer.specs.declared.Found.TheVariants.{At, Nowhere}
 use Rattle.buffer.proofs.Bools.{and_both, and_left, and_right, not-is-true, not-true-is-false, true-not-false}
-use Rattle.disc.specs.Directory.{DiscLength, entry_at, fileCount, files as entries, goodDisc, isDiscLength, lookup}
-use Rattle.disc.specs.Layout.{maxFiles}
+use Rattle.disc.specs.Directory.{DiscLength, entry_at, file_count, files as entries, good_disc, is_disc_length, lookup}
+use Rattle.disc.specs.Layout.{max_files}
 use Rattle.disc.proofs.Lengths.{disc-length-is, is-disc-length}
 use Rattle.disc.specs.Offsets.{size_of}
 use Rattle.disc.proofs.Offsets.{entry-size}
-use Rattle.store.specs.Answer.{checked, fileLine, filesAnswer, freeSpaceAnswer, ifUsable, reported, retrieveAnswer, retrieveAt, storeAnswer}
-use Rattle.store.specs.Answer.{storeAt}
-use Rattle.store.specs.File.{admission, denyIfFound, place_of, roomOn, sizeLimit, startOr, unless}
+use Rattle.store.specs.Answer.{checked, file_line, files_answer, free_space_answer, if_usable, reported, retrieve_answer, retrieve_at}
+use Rattle.store.specs.Answer.{store_answer}
+use Rattle.store.specs.Answer.{store_at}
+use Rattle.store.specs.File.{admission, deny_if_found, place_of, room_on, size_limit, start_or, unless}
 use Rattle.store.specs.declared.Admission.{Admission}
 use Rattle.store.specs.declared.Admission.TheVariants.{Denied}
 use Rattle.store.specs.declared.Answer.TheVariants.{Refused}
@@ -29,20 +30,20 @@ use Rattle.store.specs.declared.Refusal.{Refusal}
 use Rattle.store.specs.declared.Refusal.TheVariants.{WrongLength, BadDisc, ShortOutput, BadName, BadSize, DirectoryFull}
 use Rattle.store.specs.Room.{HasRoom}
 use Rattle.store.proofs.Rooms.{no-place-no-room, place-room}
-use Rattle.machine.specs.Answer.{Answer, Buffers, Other, store, retrieve, erase, files, freeSpace, list, Call, turn, round}
+use Rattle.machine.specs.Answer.{Answer, Buffers, Other, store, retrieve, erase, files, free_space, list, Call, turn, round}
 use Rattle.machine.specs.Answer.{command, share, run, other}
-use Rattle.machine.specs.Answer.{answer, bootAnswer, commandAnswer, eraseAt, formatAnswer, goodArea, onDisc, onGood, onOutput}
-use Rattle.machine.specs.Answer.{otherAnswer, refused, run_at}
-use Rattle.machine.specs.Area.{isAreaLength, kernelOf}
-use Rattle.machine.specs.Fields.{Ended, HasId, Named, NoFile, Uses, nextId, stateByte}
-use Rattle.machine.specs.Limits.{areaLength, idLimit, maxShare, roundRoom, slotCount, turnRoom}
-use Rattle.machine.specs.Operations.{Command, becomes, refused as declined, suspend, resume, kill, changed, commandAt, commanded}
-use Rattle.machine.specs.Operations.{inUse, listText, roundOf, shareAt, shared}
+use Rattle.machine.specs.Answer.{answer, boot_answer, command_answer, erase_at, format_answer, good_area, on_disc, on_good, on_output}
+use Rattle.machine.specs.Answer.{other_answer, refused, run_at}
+use Rattle.machine.specs.Area.{is_area_length, kernel_of}
+use Rattle.machine.specs.Fields.{Ended, HasId, Named, NoFile, Uses, next_id, state_byte}
+use Rattle.machine.specs.Limits.{area_length, id_limit, max_share, round_room, slot_count, turn_room}
+use Rattle.machine.specs.Operations.{Command, becomes, refused as declined, suspend, resume, kill, changed, command_at, commanded}
+use Rattle.machine.specs.Operations.{in_use, list_text, round_of, share_at, shared}
 use Rattle.machine.specs.Refusals.{Passes}
 use Rattle.machine.specs.Start.{starting, start_in}
-use Rattle.machine.specs.State.{endedSlot, isRunning, paused, processAt, running, slotOf, withProcess, withState}
-use Rattle.machine.specs.Tests.{Decides, Tests, passed, test, bootTests, commandTests, formatTests, notAlready, onBoth}
-use Rattle.machine.specs.Tests.{onDisc as firstTwo, otherTests, someFile, tests}
+use Rattle.machine.specs.State.{ended_slot, is_running, paused, process_at, running, slot_of, with_process, with_state}
+use Rattle.machine.specs.Tests.{Decides, Tests, passed, test, boot_tests, command_tests, format_tests, not_already, on_both}
+use Rattle.machine.specs.Tests.{on_disc as first_two, other_tests, some_file, tests}
 use Rattle.machine.specs.Turn.{turned}
 use Rattle.machine.specs.declared.Kernel.{Kernel}
 use Rattle.machine.proofs.Fields.Files.{lookup-named, lookup-no-file, named-lookup}
@@ -107,34 +108,34 @@ module _ (b : Buffers) where
   on-answer {n} rest = decided (λ a. a) (refused n b) rest refl
 
   -- ---- document 01's 1 to 3
-  says-disc-length : Says (isDiscLength (length b.disc)) (DiscLength (length b.disc))
+  says-disc-length : Says (is_disc_length (length b.disc)) (DiscLength (length b.disc))
   says-disc-length = record { so = disc-length-is (length b.disc); back = is-disc-length (length b.disc) }
 
-  says-lengths : Says (isDiscLength (length b.disc) && isAreaLength (length b.area))
-      (DiscLength (length b.disc) × (length b.area ≡ areaLength))
-  says-lengths = says_both says-disc-length (says-equal (length b.area) areaLength)
+  says-lengths : Says (is_disc_length (length b.disc) && is_area_length (length b.area))
+      (DiscLength (length b.disc) × (length b.area ≡ area_length))
+  says-lengths = says_both says-disc-length (says-equal (length b.area) area_length)
 
-  on_both : {later : Tests} (rest : Answer) → (Passes b.disc b.area → Decided later b rest)
-      → Decided (onBoth b later) b (onGood b rest)
-  on_both rest h =
+  on-both : {later : Tests} (rest : Answer) → (Passes b.disc b.area → Decided later b rest)
+      → Decided (on_both b later) b (on_good b rest)
+  on-both rest h =
       on-answer _ says-lengths λ sizes.
-      on-answer _ (says-itself (goodDisc b.disc)) λ disc.
-      on-answer rest (says-itself (goodArea b.disc b.area)) λ area.
+      on-answer _ (says-itself (good_disc b.disc)) λ disc.
+      on-answer rest (says-itself (good_area b.disc b.area)) λ area.
       h (record { sizes = says-lengths.back sizes; disc-good = disc; area-good = area })
 
   -- a disc that may be used
   record Fit : Type 0 where
-    long : isDiscLength (length b.disc) ≡ true
-    good : goodDisc b.disc ≡ true
+    long : is_disc_length (length b.disc) ≡ true
+    good : good_disc b.disc ≡ true
 
   on-disc : {A : Type 0} {later : Tests} (make : A → Answer) (refuse : Refusal → A) (rest : A)
       → make (refuse WrongLength) ≡ refused 1 b → make (refuse BadDisc) ≡ refused 2 b
-      → (Fit → Decided later b (make rest)) → Decided (firstTwo b later) b (make (ifUsable (checked b.disc) refuse rest))
+      → (Fit → Decided later b (make rest)) → Decided (first_two b later) b (make (if_usable (checked b.disc) refuse rest))
   unfolding checked
   on-disc make refuse rest one two h =
-      let made : Checked → Answer = λ c. make (ifUsable c refuse rest) in
+      let made : Checked → Answer = λ c. make (if_usable c refuse rest) in
       decided made (Unusable WrongLength) _ one says-disc-length λ long.
-      decided made (Unusable BadDisc) Usable two (says-itself (goodDisc b.disc)) λ good.
+      decided made (Unusable BadDisc) Usable two (says-itself (good_disc b.disc)) λ good.
       h (record { long = says-disc-length.back long; good = good })
 
   -- ---- the file of a name
@@ -145,7 +146,7 @@ module _ (b : Buffers) where
         let same : At j ≡ At i = sym (named-lookup b.disc fit.long fit.good name j n) ∙ e in
         cc
 
-    none_named : lookup b.disc name ≡ Nowhere → someFile b name → ⊥
+    none_named : lookup b.disc name ≡ Nowhere → some_file b name → ⊥
     none_named e f = lookup-no-file b.disc fit.long fit.good name e f.0 f.1
 
     says-fits : (i : ℕ) → lookup b.disc name ≡ At i → Says (leb (entry_at b.disc i).len (length b.out))
@@ -159,24 +160,24 @@ module _ (b : Buffers) where
         }
 
   -- ---- operations on the disc alone
-  store-decided : (name bytes : List ℕ) → Decided (otherTests (store name bytes) b) b (answer (other (store name bytes)) b)
-  unfolding answer otherAnswer storeAnswer admission
+  store-decided : (name bytes : List ℕ) → Decided (other_tests (store name bytes) b) b (answer (other (store name bytes)) b)
+  unfolding answer other_answer store_answer admission
   store-decided name bytes =
-      on-disc (λ u. onDisc u b) _ _ refl refl λ fit.
+      on-disc (λ u. on_disc u b) _ _ refl refl λ fit.
       decided at (Denied BadName) _ refl (record { so = good-is-name name; back = is-name-good name }) λ good.
       decided at (Denied BadSize) _ refl
-      (says_both (says-at-most 1 (length bytes)) (says-at-most (length bytes) (sizeLimit b.disc))) λ size.
+      (says_both (says-at-most 1 (length bytes)) (says-at-most (length bytes) (size_limit b.disc))) λ size.
       decided at (Denied DirectoryFull) _ refl
-      (record { so = ltb-true (fileCount b.disc) maxFiles; back = lt-ltb (fileCount b.disc) maxFiles }) λ few.
+      (record { so = ltb-true (file_count b.disc) max_files; back = lt-ltb (file_count b.disc) max_files }) λ few.
       new fit (lookup b.disc name) refl (place_of b.disc (length bytes)) refl
     where
       at : Admission → Answer
-      at a = onDisc (storeAt a b.disc name bytes) b
+      at a = on_disc (store_at a b.disc name bytes) b
 
       new : Fit → (f : Found) → lookup b.disc name ≡ f → (g : Found) → place_of b.disc (length bytes) ≡ g
           → Decided
           (test 7 (NoFile b.disc name) (test 9 (HasRoom b.disc (length bytes)) passed)) b
-          (at (denyIfFound f (startOr g)))
+          (at (deny_if_found f (start_or g)))
       new fit (At i) e g q = fails refl (λ h. h i (lookup-named b.disc name i e))
       new fit Nowhere e Nowhere q =
           holds_then (lookup-no-file b.disc fit.long fit.good name e)
@@ -185,19 +186,19 @@ module _ (b : Buffers) where
           holds_then (lookup-no-file b.disc fit.long fit.good name e)
           (holds_then (place-room b.disc (length bytes) s q) (done 0 refl))
 
-  retrieve-decided : (name : List ℕ) → Decided (otherTests (retrieve name) b) b (answer (other (retrieve name)) b)
-  unfolding answer otherAnswer retrieveAnswer
-  retrieve-decided name = on-disc (λ r. onOutput r b) _ _ refl refl λ fit. found fit (lookup b.disc name) refl
+  retrieve-decided : (name : List ℕ) → Decided (other_tests (retrieve name) b) b (answer (other (retrieve name)) b)
+  unfolding answer other_answer retrieve_answer
+  retrieve-decided name = on-disc (λ r. on_output r b) _ _ refl refl λ fit. found fit (lookup b.disc name) refl
     where
       found : Fit → (f : Found) → lookup b.disc name ≡ f
           → Decided
-          (test 10 (someFile b name)
+          (test 10 (some_file b name)
           (test 4 ((i : ℕ) → Named b.disc name i → size_of b.disc i ≤ length b.out) passed)) b
-          (onOutput (retrieveAt f b.disc b.out) b)
+          (on_output (retrieve_at f b.disc b.out) b)
       found fit Nowhere e = fails refl (none_named fit name e)
       found fit (At i) e =
           holds_then (i, lookup-named b.disc name i e)
-          (decided (λ r. onOutput r b) (reported (Refused ShortOutput) b.out) _ refl (says-fits fit name i e)
+          (decided (λ r. on_output r b) (reported (Refused ShortOutput) b.out) _ refl (says-fits fit name i e)
           (λ h. done (entry_at b.disc i).len refl))
 
   -- "4: output shorter than needed"
@@ -205,34 +206,34 @@ module _ (b : Buffers) where
   says-room {text} e = subst (λ (l : List ℕ). Says (leb (length text) (length b.out)) (length l ≤ length b.out)) e
       (says-at-most (length text) (length b.out))
 
-  files-decided : Decided (otherTests files b) b (answer (other files) b)
-  unfolding answer otherAnswer filesAnswer
+  files-decided : Decided (other_tests files b) b (answer (other files) b)
+  unfolding answer other_answer files_answer
   files-decided =
-      on-disc (λ r. onOutput r b) _ _ refl refl λ fit.
-      decided (λ r. onOutput r b) (reported (Refused ShortOutput) b.out) _ refl (says-room (files-text b.disc))
-      (λ h. done (length (flat fileLine (entries b.disc))) refl)
+      on-disc (λ r. on_output r b) _ _ refl refl λ fit.
+      decided (λ r. on_output r b) (reported (Refused ShortOutput) b.out) _ refl (says-room (files-text b.disc))
+      (λ h. done (length (flat file_line (entries b.disc))) refl)
 
-  free-space-decided : Decided (otherTests freeSpace b) b (answer (other freeSpace) b)
-  unfolding answer otherAnswer freeSpaceAnswer
+  free-space-decided : Decided (other_tests free_space b) b (answer (other free_space) b)
+  unfolding answer other_answer free_space_answer
   free-space-decided =
       on-disc (λ z. record { number = z; disc = b.disc; area = b.area; out = b.out }) _ _ refl refl
-      λ fit. done (roomOn b.disc) refl
+      λ fit. done (room_on b.disc) refl
 
   -- ---- operations on both buffers
   abbrev k : Kernel
-  k = kernelOf b.area
+  k = kernel_of b.area
 
   fit_of : Passes b.disc b.area → Fit
-  fit_of p = record { long = and_left (isDiscLength (length b.disc)) _ p.sizes; good = p.disc-good }
+  fit_of p = record { long = and_left (is_disc_length (length b.disc)) _ p.sizes; good = p.disc-good }
 
   abbrev Unused : List ℕ → Type 0
   Unused name = (file i : ℕ) → Named b.disc name file → Uses b.disc b.area file i → ⊥
 
-  erase-decided : (name : List ℕ) → Decided (otherTests (erase name) b) b (answer (other (erase name)) b)
-  unfolding answer otherAnswer
-  erase-decided name = on_both _ λ p. found p (lookup b.disc name) refl
+  erase-decided : (name : List ℕ) → Decided (other_tests (erase name) b) b (answer (other (erase name)) b)
+  unfolding answer other_answer
+  erase-decided name = on-both _ λ p. found p (lookup b.disc name) refl
     where
-      unused : Passes b.disc b.area → (i : ℕ) → lookup b.disc name ≡ At i → Says (not (inUse k (entry_at b.disc i)))
+      unused : Passes b.disc b.area → (i : ℕ) → lookup b.disc name ≡ At i → Says (not (in_use k (entry_at b.disc i)))
           (Unused name)
       unused p i e =
           let inside = (lookup-named b.disc name i e).counted in
@@ -240,23 +241,23 @@ module _ (b : Buffers) where
             so = λ t file j n u.
                 let here = named-once (fit_of p) name i file e n in
                 true-not-false (is-in-use p i j inside (subst (λ (x : ℕ). Uses b.disc b.area x j) here u)) (not-true _ t);
-            back = λ h. not-is-true (not-true-is-false (inUse k (entry_at b.disc i))
+            back = λ h. not-is-true (not-true-is-false (in_use k (entry_at b.disc i))
                 (λ t. let u = in-use-is p i inside t in h i u.0 (lookup-named b.disc name i e) u.1));
           }
 
       found : Passes b.disc b.area → (f : Found) → lookup b.disc name ≡ f
-          → Decided (test 10 (someFile b name) (test 11 (Unused name) passed)) b (eraseAt f k b)
+          → Decided (test 10 (some_file b name) (test 11 (Unused name) passed)) b (erase_at f k b)
       found p Nowhere e = fails refl (none_named (fit_of p) name e)
       found p (At i) e = holds_then (i, lookup-named b.disc name i e) (on-answer _ (unused p i e) (λ h. done 0 refl))
 
   run-decided : (name : List ℕ) → Decided (tests (run name) b) b (answer (run name) b)
   unfolding answer starting
-  run-decided name = on_both _ λ p. placed p (endedSlot k) refl (lookup b.disc name) refl (eqb k.next idLimit) refl
+  run-decided name = on-both _ λ p. placed p (ended_slot k) refl (lookup b.disc name) refl (eqb k.next id_limit) refl
     where
-      placed : Passes b.disc b.area → (slot : Found) → endedSlot k ≡ slot → (file : Found) → lookup b.disc name ≡ file
-          → (spent : Bool) → eqb k.next idLimit ≡ spent
+      placed : Passes b.disc b.area → (slot : Found) → ended_slot k ≡ slot → (file : Found) → lookup b.disc name ≡ file
+          → (spent : Bool) → eqb k.next id_limit ≡ spent
           → Decided
-          (test 12 ((i : ℕ) × Ended b.area i) (test 10 (someFile b name) (test 13 (nextId b.area ≡ idLimit → ⊥) passed))) b
+          (test 12 ((i : ℕ) × Ended b.area i) (test 10 (some_file b name) (test 13 (next_id b.area ≡ id_limit → ⊥) passed))) b
           (run_at (start_in slot file spent b.disc) k b)
       placed p Nowhere e file f spent g = fails refl (λ h. no-ended-slot p e h.0 h.1)
       placed p (At slot) e Nowhere f spent g =
@@ -264,41 +265,41 @@ module _ (b : Buffers) where
       placed p (At slot) e (At i) f spent g =
           holds_then (slot, (ended-slot-lowest p slot e).0) (holds_then (i, lookup-named b.disc name i f) (last spent g))
         where
-          last : (spent : Bool) → eqb k.next idLimit ≡ spent
-              → Decided (test 13 (nextId b.area ≡ idLimit → ⊥) passed) b (run_at (start_in (At slot) (At i) spent b.disc) k b)
+          last : (spent : Bool) → eqb k.next id_limit ≡ spent
+              → Decided (test 13 (next_id b.area ≡ id_limit → ⊥) passed) b (run_at (start_in (At slot) (At i) spent b.disc) k b)
           last true g = fails refl (λ h. h (sym (next-is b.area) ∙ eqb-true _ _ g))
           last false g = holds_then (λ q. eqb-false _ _ g (next-is b.area ∙ q)) (done k.next refl)
 
   module _ (p : Passes b.disc b.area) (id : ℕ) where
-    change-decided : (slot state : ℕ) → slotOf k id ≡ At slot
-        → Decided (test 15 (notAlready b id state) passed) b (commandAnswer (changed k slot state) b)
-    change-decided slot state e = go (eqb (processAt k slot).state state) refl
+    change-decided : (slot state : ℕ) → slot_of k id ≡ At slot
+        → Decided (test 15 (not_already b id state) passed) b (command_answer (changed k slot state) b)
+    change-decided slot state e = go (eqb (process_at k slot).state state) refl
       where
         has : HasId b.area id slot
         has = slot-has-id p id slot e
 
-        same : (processAt k slot).state ≡ stateByte b.area slot
+        same : (process_at k slot).state ≡ state_byte b.area slot
         same = state-is b.area slot has.live.slot
 
-        other-state : eqb (processAt k slot).state state ≡ false → notAlready b id state
+        other-state : eqb (process_at k slot).state state ≡ false → not_already b id state
         other-state q i h r =
             let one : At i ≡ At slot = sym (has-id-slot p id i h) ∙ e in
             let here : i ≡ slot = cc in
-            eqb-false _ _ q (same ∙ subst (λ (x : ℕ). stateByte b.area x ≡ state) here r)
+            eqb-false _ _ q (same ∙ subst (λ (x : ℕ). state_byte b.area x ≡ state) here r)
 
-        go : (already : Bool) → eqb (processAt k slot).state state ≡ already
-            → Decided (test 15 (notAlready b id state) passed) b
-            (commandAnswer (cond already (declined 15) (becomes (withProcess k slot (withState (processAt k slot) state)))) b)
+        go : (already : Bool) → eqb (process_at k slot).state state ≡ already
+            → Decided (test 15 (not_already b id state) passed) b
+            (command_answer (cond already (declined 15) (becomes (with_process k slot (with_state (process_at k slot) state)))) b)
         go true q = fails refl (λ h. h slot has (sym same ∙ eqb-true _ _ q))
         go false q = holds_then (other-state q) (done 0 refl)
 
-    some-slot : (slot : ℕ) → slotOf k id ≡ At slot → (i : ℕ) × HasId b.area id i
+    some-slot : (slot : ℕ) → slot_of k id ≡ At slot → (i : ℕ) × HasId b.area id i
     some-slot slot e = (slot, slot-has-id p id slot e)
 
-    no_slot : slotOf k id ≡ Nowhere → (i : ℕ) × HasId b.area id i → ⊥
+    no_slot : slot_of k id ≡ Nowhere → (i : ℕ) × HasId b.area id i → ⊥
     no_slot e h = slot-no-id p id e h.0 h.1
 
-    command-at : (f : Found) → slotOf k id ≡ f → (c : Command) → Decided (commandTests c id b) b (commandAnswer (commandAt f c k) b)
+    command-at : (f : Found) → slot_of k id ≡ f → (c : Command) → Decided (command_tests c id b) b (command_answer (command_at f c k) b)
     command-at Nowhere e suspend = fails refl (no_slot e)
     command-at Nowhere e resume = fails refl (no_slot e)
     command-at Nowhere e kill = fails refl (no_slot e)
@@ -308,55 +309,55 @@ module _ (b : Buffers) where
 
   command-decided : (c : Command) (id : ℕ) → Decided (tests (command c id) b) b (answer (command c id) b)
   unfolding answer commanded
-  command-decided c id = on_both _ λ p. command-at p id (slotOf k id) refl c
+  command-decided c id = on-both _ λ p. command-at p id (slot_of k id) refl c
 
   -- Document 02, Q-9: "22 a share outside 1 to 8, after 14"
   share-decided : (id turns : ℕ) → Decided (tests (share id turns) b) b (answer (share id turns) b)
   unfolding answer shared
-  share-decided id turns = on_both _ λ p. at p (slotOf k id) refl
+  share-decided id turns = on-both _ λ p. at p (slot_of k id) refl
     where
-      at : Passes b.disc b.area → (f : Found) → slotOf k id ≡ f
-          → Decided (test 14 ((i : ℕ) × HasId b.area id i) (test 22 ((1 ≤ turns) × (turns ≤ maxShare)) passed)) b
-          (commandAnswer (shareAt f turns k) b)
+      at : Passes b.disc b.area → (f : Found) → slot_of k id ≡ f
+          → Decided (test 14 ((i : ℕ) × HasId b.area id i) (test 22 ((1 ≤ turns) × (turns ≤ max_share)) passed)) b
+          (command_answer (share_at f turns k) b)
       at p Nowhere e = fails refl (no_slot p id e)
       at p (At slot) e =
           holds_then (some-slot p id slot e)
-          (decided (λ r. commandAnswer r b) (declined 22) _ refl (says_both (says-at-most 1 turns) (says-at-most turns maxShare))
+          (decided (λ r. command_answer r b) (declined 22) _ refl (says_both (says-at-most 1 turns) (says-at-most turns max_share))
           (λ h. done 0 refl))
 
-  list-decided : Decided (otherTests list b) b (answer (other list) b)
-  unfolding answer otherAnswer
-  list-decided = on_both _ λ p. on-answer _ (says-room (list-text b.area)) (λ h. done (length (listText k)) refl)
+  list-decided : Decided (other_tests list b) b (answer (other list) b)
+  unfolding answer other_answer
+  list-decided = on-both _ λ p. on-answer _ (says-room (list-text b.area)) (λ h. done (length (list_text k)) refl)
 
   turn-decided : (slot clock : ℕ) → Decided (tests (turn slot clock) b) b (answer (turn slot clock) b)
   unfolding answer
   turn-decided slot clock =
-      on_both _ λ p.
-      on-answer _ (says-at-most turnRoom (length b.out)) λ room.
+      on-both _ λ p.
+      on-answer _ (says-at-most turn_room (length b.out)) λ room.
       on-answer _ says-running (λ h. done (length (turned k slot clock b.disc).out) refl)
     where
-      says-running : Says (ltb slot slotCount && isRunning (processAt k slot)) ((slot < slotCount) × (stateByte b.area slot ≡ running))
+      says-running : Says (ltb slot slot_count && is_running (process_at k slot)) ((slot < slot_count) × (state_byte b.area slot ≡ running))
       says-running =
           record {
             so = λ t.
-                let low = ltb-true slot slotCount (and_left (ltb slot slotCount) _ t) in
-                (low, sym (state-is b.area slot low) ∙ eqb-true _ _ (and_right (ltb slot slotCount) _ t));
-            back = λ h. and_both (lt-ltb slot slotCount h.0) (eq-eqb _ _ (state-is b.area slot h.0 ∙ h.1));
+                let low = ltb-true slot slot_count (and_left (ltb slot slot_count) _ t) in
+                (low, sym (state-is b.area slot low) ∙ eqb-true _ _ (and_right (ltb slot slot_count) _ t));
+            back = λ h. and_both (lt-ltb slot slot_count h.0) (eq-eqb _ _ (state-is b.area slot h.0 ∙ h.1));
           }
 
   round-decided : (clock : ℕ) → Decided (tests (round clock) b) b (answer (round clock) b)
   unfolding answer
   round-decided clock =
-      on_both _ λ p.
-      on-answer _ (says-at-most roundRoom (length b.out)) (λ h. done (length (roundOf k clock b.disc).out) refl)
+      on-both _ λ p.
+      on-answer _ (says-at-most round_room (length b.out)) (λ h. done (length (round_of k clock b.disc).out) refl)
 
 -- ---- every call
-other-decided : (o : Other) (b : Buffers) → Decided (otherTests o b) b (answer (other o) b)
+other-decided : (o : Other) (b : Buffers) → Decided (other_tests o b) b (answer (other o) b)
 other-decided (store name bytes) b = store-decided b name bytes
 other-decided (retrieve name) b = retrieve-decided b name
 other-decided (erase name) b = erase-decided b name
 other-decided files b = files-decided b
-other-decided freeSpace b = free-space-decided b
+other-decided free_space b = free-space-decided b
 other-decided list b = list-decided b
 
 pub call-decided : (c : Call) (b : Buffers) → Decided (tests c b) b (answer c b)
@@ -368,10 +369,10 @@ call-decided (run name) b = run-decided b name
 call-decided (other o) b = other-decided o b
 
 -- ---- format and boot, which are no Call
-pub format-decided : (b : Buffers) → Decided (formatTests b) b (formatAnswer b)
-unfolding formatAnswer
+pub format-decided : (b : Buffers) → Decided (format_tests b) b (format_answer b)
+unfolding format_answer
 format-decided b = on-answer b _ (says-lengths b) (λ h. done b 0 refl)
 
-pub boot-decided : (b : Buffers) → Decided (bootTests b) b (bootAnswer b)
-unfolding bootAnswer
-boot-decided b = on-answer b _ (says-equal (length b.area) areaLength) (λ h. done b 0 refl)
+pub boot-decided : (b : Buffers) → Decided (boot_tests b) b (boot_answer b)
+unfolding boot_answer
+boot-decided b = on-answer b _ (says-equal (length b.area) area_length) (λ h. done b 0 refl)

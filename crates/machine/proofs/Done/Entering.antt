@@ -6,10 +6,10 @@ use mathlib.Core.List.{List}
 use mathlib.Core.Logic.{inl, inr}
 use native.Mathlib.Omega.{arith}
 use lib.ListN.{length, get_or, get_or-replicate}
-use Rattle.disc.specs.Directory.{fileCount, goodDisc}
-use Rattle.disc.specs.Layout.{entrySize}
+use Rattle.disc.specs.Directory.{file_count, good_disc}
+use Rattle.disc.specs.Layout.{entry_size}
 use Rattle.disc.specs.declared.Entry.{Entry}
-use Rattle.disc.specs.Offsets.{entryStart}
+use Rattle.disc.specs.Offsets.{entry_start}
 use Rattle.disc.proofs.Offsets.{entry-name, entry-size, entry-start}
 use Rattle.store.specs.File.{erased, stored}
 use Rattle.store.proofs.Admissions.{Admitted}
@@ -21,17 +21,17 @@ use Rattle.machine.proofs.Fields.Names.{padded-spells}
 use Rattle.machine.proofs.Fields.Parts.{is-part}
 
 -- ---- a file enters
-pub stored-enters : {disc name : List ℕ} {s : ℕ} (bytes : List ℕ) → goodDisc disc ≡ true → Admitted disc name (length bytes) s
+pub stored-enters : {disc name : List ℕ} {s : ℕ} (bytes : List ℕ) → good_disc disc ≡ true → Admitted disc name (length bytes) s
     → Enters disc (stored disc name bytes s) name bytes s
 stored-enters {disc} {name} {s} bytes good a =
     let after : List ℕ = stored disc name bytes s in
     let new = stored-new bytes good a in
     record {
       count = stored-count bytes good a;
-      spelled = padded-spells name (room a).short after (entryStart (fileCount disc))
-          (sym (entry-name after (fileCount disc)) ∙ ap (λ (e : Entry). e.name) new);
-      starts = sym (entry-start after (fileCount disc)) ∙ ap (λ (e : Entry). e.start) new;
-      sized = sym (entry-size after (fileCount disc)) ∙ ap (λ (e : Entry). e.len) new;
+      spelled = padded-spells name (room a).short after (entry_start (file_count disc))
+          (sym (entry-name after (file_count disc)) ∙ ap (λ (e : Entry). e.name) new);
+      starts = sym (entry-start after (file_count disc)) ∙ ap (λ (e : Entry). e.start) new;
+      sized = sym (entry-size after (file_count disc)) ∙ ap (λ (e : Entry). e.len) new;
       holds = stored-data bytes good a;
       rest = stored-byte bytes good a;
     }
@@ -49,12 +49,12 @@ erased-leaves {disc} {i} file =
     }
   where
     last : ℕ
-    last = entryStart (fileCount disc - 1)
+    last = entry_start (file_count disc - 1)
 
-    vacated : (j : ℕ) → last ≤ j → j < last + entrySize → get_or (erased disc i) j 0 ≡ 0
+    vacated : (j : ℕ) → last ≤ j → j < last + entry_size → get_or (erased disc i) j 0 ≡ 0
     vacated j low h =
         let q : last + (j - last) ≡ j = omega arith in
-        let inside : j - last < entrySize = omega arith in
+        let inside : j - last < entry_size = omega arith in
         subst (λ (x : ℕ). get_or (erased disc i) x 0 ≡ 0) q
-        (is-part (erased disc i) _ last entrySize (erased-vacated file) (j - last) inside
-        ∙ get_or-replicate entrySize (j - last) 0 0 inside)
+        (is-part (erased disc i) _ last entry_size (erased-vacated file) (j - last) inside
+        ∙ get_or-replicate entry_size (j - last) 0 0 inside)

@@ -10,12 +10,12 @@ use Rattle.buffer.specs.Buffer.{overwrite}
 use Rattle.buffer.specs.Lists.{flat}
 use Rattle.buffer.specs.declared.Found.{Found}
 use Rattle.buffer.specs.declared.Found.TheVariants.{At, Nowhere}
-use Rattle.disc.specs.Directory.{contents, entry_at, files as entries, lookup, runOf}
+use Rattle.disc.specs.Directory.{contents, entry_at, files as entries, lookup, run_of}
 use Rattle.disc.specs.declared.Entry.{Entry}
 use Rattle.disc.proofs.Lookups.{lookup-at}
 use Rattle.disc.specs.Offsets.{bytes_of, size_of}
 use Rattle.disc.proofs.Offsets.{bytes-of, entry-size}
-use Rattle.store.specs.Answer.{Reported, fileLine, filesAnswer, reported, retrieveAnswer, retrieveAt}
+use Rattle.store.specs.Answer.{Reported, file_line, files_answer, reported, retrieve_answer, retrieve_at}
 use Rattle.store.specs.File.{unless}
 use Rattle.store.specs.declared.Answer.TheVariants.{Done, Refused}
 use Rattle.store.specs.declared.Refusal.TheVariants.{ShortOutput}
@@ -24,11 +24,11 @@ use Rattle.store.proofs.Calls.{free-space-has, free-space-most, refused-not-done
 use Rattle.store.proofs.Checks.{by-checks}
 use Rattle.store.proofs.Invariant.{present}
 use Rattle.store.specs.Room.{Placed}
-use Rattle.machine.specs.Answer.{Answer, answer, eraseAt, otherAnswer}
+use Rattle.machine.specs.Answer.{Answer, answer, erase_at, other_answer}
 use Rattle.machine.specs.Changed.{Enters, Leaves}
 use Rattle.machine.specs.Done.{EraseDone, FilesDone, FreeSpaceDone, RetrieveDone, StoreDone}
 use Rattle.machine.specs.Fields.{Named}
-use Rattle.machine.specs.Operations.{inUse}
+use Rattle.machine.specs.Operations.{in_use}
 use Rattle.machine.specs.Refusals.{Passes, state_of}
 use Rattle.machine.proofs.Done.Entering.{erased-leaves, stored-enters}
 use Rattle.machine.proofs.Fields.Files.{lookup-named}
@@ -36,7 +36,7 @@ use Rattle.machine.proofs.Fields.Listings.{files-text}
 use Rattle.machine.proofs.Operations.Tests.{below-not-done, done-test, done-tests}
 
 pub store-done : StoreDone
-unfolding answer otherAnswer
+unfolding answer other_answer
 store-done b name bytes n =
     store-cases b.disc name bytes
     (λ u. u.number ≡ pos n → (n ≡ 0)
@@ -53,7 +53,7 @@ written true m n out after h = (cc, refl)
 written false m n out after h = below-not-done h
 
 pub retrieve-done : RetrieveDone
-unfolding answer otherAnswer retrieveAnswer
+unfolding answer other_answer retrieve_answer
 retrieve-done b name n =
     by-checks b.disc Retrieved _ _ (λ e. below-not-done) (λ e. below-not-done) (λ l g. found (lookup b.disc name) refl)
   where
@@ -62,45 +62,45 @@ retrieve-done b name n =
         r.number ≡ pos n → (i : ℕ) × Named b.disc name i × (n ≡ size_of b.disc i)
         × (r.out ≡ overwrite b.out 0 (bytes_of b.disc i))
 
-    found : (f : Found) → lookup b.disc name ≡ f → Retrieved (retrieveAt f b.disc b.out)
+    found : (f : Found) → lookup b.disc name ≡ f → Retrieved (retrieve_at f b.disc b.out)
     found Nowhere e h = below-not-done h
     found (At i) e h =
         let d : Entry = entry_at b.disc i in
-        let w = written (leb d.len (length b.out)) d.len n b.out (overwrite b.out 0 (contents b.disc (runOf d))) h in
+        let w = written (leb d.len (length b.out)) d.len n b.out (overwrite b.out 0 (contents b.disc (run_of d))) h in
         (i, lookup-named b.disc name i e, w.0 ∙ entry-size b.disc i, w.1 ∙ ap (overwrite b.out 0) (bytes-of b.disc i))
 
 pub files-done : FilesDone
-unfolding answer otherAnswer filesAnswer
+unfolding answer other_answer files_answer
 files-done b n =
     subst Writes (files-text b.disc)
     (by-checks b.disc (Written text) _ _ (λ e. below-not-done) (λ e. below-not-done)
     (λ l g. written (leb (length text) (length b.out)) (length text) n b.out (overwrite b.out 0 text)))
   where
     text : List ℕ
-    text = flat fileLine (entries b.disc)
+    text = flat file_line (entries b.disc)
 
     Written : List ℕ → Reported → Type 0
     Written text r = r.number ≡ pos n → (n ≡ length text) × (r.out ≡ overwrite b.out 0 text)
 
     Writes : List ℕ → Type 0
-    Writes text = Written text (filesAnswer b.disc b.out)
+    Writes text = Written text (files_answer b.disc b.out)
 
 pub erase-done : EraseDone
-unfolding answer otherAnswer
+unfolding answer other_answer
 erase-done b name n = done-tests Erased b n _ λ passes. found passes (lookup b.disc name) refl
   where
     Erased : Answer → Type 0
     Erased a = (n ≡ 0) × ((i : ℕ) × Named b.disc name i × Leaves b.disc a.disc i)
 
-    found : Passes b.disc b.area → (f : Found) → lookup b.disc name ≡ f → (eraseAt f (state_of b) b).number ≡ pos n
-        → Erased (eraseAt f (state_of b) b)
+    found : Passes b.disc b.area → (f : Found) → lookup b.disc name ≡ f → (erase_at f (state_of b) b).number ≡ pos n
+        → Erased (erase_at f (state_of b) b)
     found passes Nowhere e = below-not-done
     found passes (At i) e =
-        done-test Erased b n (not (inUse (state_of b) (entry_at b.disc i))) 10 _ λ free h.
+        done-test Erased b n (not (in_use (state_of b) (entry_at b.disc i))) 10 _ λ free h.
         let zero : n ≡ 0 = cc in
         let file = present b.disc passes.disc-good i (lookup-at b.disc name i e).inside in
         (zero, (i, lookup-named b.disc name i e, erased-leaves file))
 
 pub free-space-done : FreeSpaceDone
-unfolding answer otherAnswer
+unfolding answer other_answer
 free-space-done b n e = (free-space-has b.disc n e, free-space-most b.disc n e)

@@ -11,19 +11,19 @@ use Rattle.buffer.specs.declared.Found.{Found}
 use Rattle.buffer.specs.declared.Found.TheVariants.{At, Nowhere}
 use Rattle.disc.specs.Directory.{entry_at, lookup}
 use Rattle.store.specs.File.{unless}
-use Rattle.machine.specs.Answer.{Answer, Buffers, answer, commandAnswer, list, other, otherAnswer, run_at}
-use Rattle.machine.specs.Area.{kernelOf}
+use Rattle.machine.specs.Answer.{Answer, Buffers, answer, command_answer, list, other, other_answer, run_at}
+use Rattle.machine.specs.Area.{kernel_of}
 use Rattle.machine.specs.Changed.{Starts}
 use Rattle.machine.specs.Done.{CommandDone, Commanded, ListDone, RunDone, ShareDone}
-use Rattle.machine.specs.Fields.{HasId, nextId}
-use Rattle.machine.specs.Limits.{idLimit, maxShare}
-use Rattle.machine.specs.Operations.{Command, becomes, refused, suspend, resume, kill, changed, commandAt, commanded, listText}
-use Rattle.machine.specs.Operations.{shareAt, shared}
+use Rattle.machine.specs.Fields.{HasId, next_id}
+use Rattle.machine.specs.Limits.{id_limit, max_share}
+use Rattle.machine.specs.Operations.{Command, becomes, refused, suspend, resume, kill, changed, command_at, commanded, list_text}
+use Rattle.machine.specs.Operations.{share_at, shared}
 use Rattle.machine.specs.Operations.{Commanded as Outcome}
 use Rattle.machine.specs.Refusals.{Passes, state_of}
 use Rattle.machine.specs.Start.{started, start_in, starting, starts}
 use Rattle.machine.specs.Ended.{ended}
-use Rattle.machine.specs.State.{endedSlot, paused, processAt, running, slotOf, withProcess, withShare, withState}
+use Rattle.machine.specs.State.{ended_slot, paused, process_at, running, slot_of, with_process, with_share, with_state}
 use Rattle.machine.specs.declared.Kernel.{Kernel}
 use Rattle.machine.proofs.Changes.Change.{begins}
 use Rattle.machine.proofs.Changes.Replaced.{put-at}
@@ -41,16 +41,16 @@ use Rattle.machine.proofs.Operations.Tests.{below-not-done, done-test, done-test
 pub run-done : RunDone
 unfolding answer starting
 run-done b name n =
-    done-tests Ran b n _ λ passes. go passes (endedSlot k) refl (lookup b.disc name) refl (eqb k.next idLimit) refl
+    done-tests Ran b n _ λ passes. go passes (ended_slot k) refl (lookup b.disc name) refl (eqb k.next id_limit) refl
   where
     k : Kernel
     k = state_of b
 
     Ran : Answer → Type 0
-    Ran a = (n ≡ nextId b.area) × ((slot : ℕ) × Starts b.disc b.area name slot (kernelOf a.area))
+    Ran a = (n ≡ next_id b.area) × ((slot : ℕ) × Starts b.disc b.area name slot (kernel_of a.area))
 
-    go : Passes b.disc b.area → (f : Found) → endedSlot k ≡ f → (h : Found) → lookup b.disc name ≡ h → (t : Bool)
-        → eqb k.next idLimit ≡ t → (run_at (start_in f h t b.disc) k b).number ≡ pos n → Ran (run_at (start_in f h t b.disc) k b)
+    go : Passes b.disc b.area → (f : Found) → ended_slot k ≡ f → (h : Found) → lookup b.disc name ≡ h → (t : Bool)
+        → eqb k.next id_limit ≡ t → (run_at (start_in f h t b.disc) k b).number ≡ pos n → Ran (run_at (start_in f h t b.disc) k b)
     go passes Nowhere p h q t r = below-not-done
     go passes (At slot) p Nowhere q t r = below-not-done
     go passes (At slot) p (At i) q true r = below-not-done
@@ -63,12 +63,12 @@ run-done b name n =
         (id ∙ next-is b.area, (slot, subst⁻¹ (Starts b.disc b.area name slot) (good-back _ _ good) begins-it))
 
 pub list_done : ListDone
-unfolding answer otherAnswer
+unfolding answer other_answer
 list_done b n = subst (λ (text : List ℕ). Listed text (answer (other list) b)) (list-text b.area)
     (done-tests (Written text) b n _ λ passes. done-test (Written text) b n (leb (length text) (length b.out)) 3 _ λ fit h. (cc, refl))
   where
     text : List ℕ
-    text = listText (state_of b)
+    text = list_text (state_of b)
 
     Written : List ℕ → Answer → Type 0
     Written text a = (n ≡ length text) × (a.out ≡ overwrite b.out 0 text)
@@ -82,67 +82,67 @@ module _ (b : Buffers) (id n : ℕ) where
   k = state_of b
 
   Did : Command → Answer → Type 0
-  Did c a = (n ≡ 0) × ((i : ℕ) × HasId b.area id i × Commanded c i k (kernelOf a.area))
+  Did c a = (n ≡ 0) × ((i : ℕ) × HasId b.area id i × Commanded c i k (kernel_of a.area))
 
-  module _ (passes : Passes b.disc b.area) (i : ℕ) (e : slotOf k id ≡ At i) where
-    becoming : (c : Command) (j : Kernel) → commandAt (At i) c k ≡ becomes j → Commanded c i k j → pos 0 ≡ pos n
-        → Did c (commandAnswer (becomes j) b)
+  module _ (passes : Passes b.disc b.area) (i : ℕ) (e : slot_of k id ≡ At i) where
+    becoming : (c : Command) (j : Kernel) → command_at (At i) c k ≡ becomes j → Commanded c i k j → pos 0 ≡ pos n
+        → Did c (command_answer (becomes j) b)
     unfolding k Did commanded
     becoming c j q h done =
         let good = passes-good b.disc b.area passes in
-        let back = good-back j b.disc (command-good good c id j (ap (λ (f : Found). commandAt f c k) e ∙ q)) in
+        let back = good-back j b.disc (command-good good c id j (ap (λ (f : Found). command_at f c k) e ∙ q)) in
         let zero : n ≡ 0 = cc in
         (zero, (i, slot-has-id passes id i e, subst⁻¹ (Commanded c i k) back h))
 
     -- "15 already in that state"
-    change : (c : Command) (state : ℕ) → commandAt (At i) c k ≡ changed k i state
-        → Commanded c i k (withProcess k i (withState (processAt k i) state))
-        → (commandAnswer (changed k i state) b).number ≡ pos n → Did c (commandAnswer (changed k i state) b)
-    change c state q h = go (eqb (processAt k i).state state) q
+    change : (c : Command) (state : ℕ) → command_at (At i) c k ≡ changed k i state
+        → Commanded c i k (with_process k i (with_state (process_at k i) state))
+        → (command_answer (changed k i state) b).number ≡ pos n → Did c (command_answer (changed k i state) b)
+    change c state q h = go (eqb (process_at k i).state state) q
       where
         outcome : Bool → Outcome
-        outcome t = cond t (refused 15) (becomes (withProcess k i (withState (processAt k i) state)))
+        outcome t = cond t (refused 15) (becomes (with_process k i (with_state (process_at k i) state)))
 
-        go : (t : Bool) → commandAt (At i) c k ≡ outcome t → (commandAnswer (outcome t) b).number ≡ pos n
-            → Did c (commandAnswer (outcome t) b)
+        go : (t : Bool) → command_at (At i) c k ≡ outcome t → (command_answer (outcome t) b).number ≡ pos n
+            → Did c (command_answer (outcome t) b)
         go true r = below-not-done
         go false r = becoming c _ r h
 
-    given : (c : Command) → (commandAnswer (commandAt (At i) c k) b).number ≡ pos n → Did c (commandAnswer (commandAt (At i) c k) b)
+    given : (c : Command) → (command_answer (command_at (At i) c k) b).number ≡ pos n → Did c (command_answer (command_at (At i) c k) b)
     given suspend = change suspend paused refl (put-at k i _ (slot_at k id i e).1)
     given resume = change resume running refl (put-at k i _ (slot_at k id i e).1)
     given kill = becoming kill (ended k i 0) refl (ended-touches k i 0 (slot_at k id i e).0)
 
-  at : Passes b.disc b.area → (f : Found) → slotOf k id ≡ f → (c : Command) → (commandAnswer (commandAt f c k) b).number ≡ pos n
-      → Did c (commandAnswer (commandAt f c k) b)
+  at : Passes b.disc b.area → (f : Found) → slot_of k id ≡ f → (c : Command) → (command_answer (command_at f c k) b).number ≡ pos n
+      → Did c (command_answer (command_at f c k) b)
   at passes Nowhere e c = below-not-done
   at passes (At i) e c = given passes i e c
 
 pub command-done : CommandDone
 unfolding answer commanded k Did
-command-done b c id n = done-tests (Did b id n c) b n _ λ passes. at b id n passes (slotOf (state_of b) id) refl c
+command-done b c id n = done-tests (Did b id n c) b n _ λ passes. at b id n passes (slot_of (state_of b) id) refl c
 
 pub share-done : ShareDone
 unfolding answer shared
-share-done b id turns n = done-tests Did b n _ λ passes. go passes (slotOf k id) refl
+share-done b id turns n = done-tests Did b n _ λ passes. go passes (slot_of k id) refl
   where
     k : Kernel
     k = state_of b
 
     Did : Answer → Type 0
-    Did a = (n ≡ 0) × ((i : ℕ) × HasId b.area id i × (kernelOf a.area ≡ withProcess k i (withShare (processAt k i) turns)))
+    Did a = (n ≡ 0) × ((i : ℕ) × HasId b.area id i × (kernel_of a.area ≡ with_process k i (with_share (process_at k i) turns)))
 
-    set : Passes b.disc b.area → (i : ℕ) → slotOf k id ≡ At i → (fit : Bool) → leb 1 turns && leb turns maxShare ≡ fit
-        → let r = unless fit (refused 22) (becomes (withProcess k i (withShare (processAt k i) turns))) in
-        (commandAnswer r b).number ≡ pos n → Did (commandAnswer r b)
+    set : Passes b.disc b.area → (i : ℕ) → slot_of k id ≡ At i → (fit : Bool) → leb 1 turns && leb turns max_share ≡ fit
+        → let r = unless fit (refused 22) (becomes (with_process k i (with_share (process_at k i) turns))) in
+        (command_answer r b).number ≡ pos n → Did (command_answer r b)
     set passes i e false q = below-not-done
     set passes i e true q = λ done.
-        let j = withProcess k i (withShare (processAt k i) turns) in
+        let j = with_process k i (with_share (process_at k i) turns) in
         let back = good-back j b.disc (share-good (passes-good b.disc b.area passes) id turns j (rw (e, q))) in
         let zero : n ≡ 0 = cc in
         (zero, (i, slot-has-id passes id i e, back))
 
-    go : Passes b.disc b.area → (f : Found) → slotOf k id ≡ f → (commandAnswer (shareAt f turns k) b).number ≡ pos n
-        → Did (commandAnswer (shareAt f turns k) b)
+    go : Passes b.disc b.area → (f : Found) → slot_of k id ≡ f → (command_answer (share_at f turns k) b).number ≡ pos n
+        → Did (command_answer (share_at f turns k) b)
     go passes Nowhere e = below-not-done
-    go passes (At i) e = set passes i e (leb 1 turns && leb turns maxShare) refl
+    go passes (At i) e = set passes i e (leb 1 turns && leb turns max_share) refl

@@ -6,8 +6,8 @@ use mathlib.Core.List.{List}
 use native.Mathlib.Omega.{arith}
 use lib.ListN.{length}
 use Rattle.buffer.specs.declared.Found.TheVariants.{At, Nowhere}
-use Rattle.disc.specs.Directory.{Readable, goodDisc, isDiscLength, lookup}
-use Rattle.disc.specs.Offsets.{entryStart}
+use Rattle.disc.specs.Directory.{Readable, good_disc, is_disc_length, lookup}
+use Rattle.disc.specs.Offsets.{entry_start}
 use Rattle.disc.proofs.Lengths.{readable}
 use Rattle.disc.proofs.Lookups.{Located, lookup-at, lookup-is, lookup-none}
 use Rattle.disc.proofs.Offsets.{entry-name}
@@ -21,7 +21,7 @@ module _ {disc name : List ℕ} {i : ℕ} where
       record {
         counted = l.inside;
         good = n;
-        spelled = padded-spells name (omega (arith, n.few)) disc (entryStart i) (sym (entry-name disc i) ∙ l.held);
+        spelled = padded-spells name (omega (arith, n.few)) disc (entry_start i) (sym (entry-name disc i) ∙ l.held);
       }
 
   pub named-located : Readable disc → Named disc name i → Located disc name i
@@ -31,14 +31,14 @@ module _ {disc name : List ℕ} {i : ℕ} where
         inside = n.counted;
         held =
             entry-name disc i
-            ∙ spells-padded name (omega (arith, n.good.few)) disc (entryStart i) (omega (arith, r.low, r.few, n.counted)) n.spelled;
+            ∙ spells-padded name (omega (arith, n.good.few)) disc (entry_start i) (omega (arith, r.low, r.few, n.counted)) n.spelled;
       }
 
 pub lookup-named : (disc name : List ℕ) (i : ℕ) → lookup disc name ≡ At i → Named disc name i
 lookup-named disc name i e = located-named (lookup-at disc name i e)
 
 -- on a disc that may be used
-module _ (disc : List ℕ) (long : isDiscLength (length disc) ≡ true) (good : goodDisc disc ≡ true) where
+module _ (disc : List ℕ) (long : is_disc_length (length disc) ≡ true) (good : good_disc disc ≡ true) where
   pub named-lookup : (name : List ℕ) (i : ℕ) → Named disc name i → lookup disc name ≡ At i
   named-lookup name i n = lookup-is good (named-located (readable disc long good) n)
 

@@ -35,5 +35,5 @@ module _ (k l : List ℕ) (a b n : ℕ) where
       → part k a n ≡ part l b n
   parts_same h m e = part-is k (part l b n) a n h (part_length l b n m) (λ j i. e j i ∙ sym (part-byte l b n j i))
 
-  pub same_bytes : part k a n ≡ part l b n → (j : ℕ) → j < n → get_or k (a + j) 0 ≡ get_or l (b + j) 0
-  same_bytes e j h = is-part k (part l b n) a n e j h ∙ part-byte l b n j h
+  pub same-bytes : part k a n ≡ part l b n → (j : ℕ) → j < n → get_or k (a + j) 0 ≡ get_or l (b + j) 0
+  same-bytes e j h = is-part k (part l b n) a n e j h ∙ part-byte l b n j h

@@ -10,40 +10,40 @@ use Rattle.buffer.specs.Lists.{any, same}
 use Rattle.buffer.proofs.Bools.{and_left, and_right, and_both, true-not-false}
 use Rattle.buffer.proofs.Lists.{same-eq, same_refl}
 use Rattle.disc.specs.declared.Entry.{Entry}
-use Rattle.machine.specs.GoodArea.{goodFile, goodId, goodLive, goodProcess, goodRegisters, isOpenIn, isProgram}
-use Rattle.machine.specs.Limits.{maxShare, stackSize}
-use Rattle.machine.specs.State.{isLive, noLoop}
+use Rattle.machine.specs.GoodArea.{good_file, good_id, good_live, good_process, good_registers, is_open_in, is_program}
+use Rattle.machine.specs.Limits.{max_share, stack_size}
+use Rattle.machine.specs.State.{is_live, no_loop}
 use Rattle.machine.specs.declared.OpenFile.{OpenFile}
 use Rattle.machine.specs.declared.Process.{Process}
 use Rattle.buffer.proofs.Disjunctions.{or_cases, or-first, or-second}
 
 -- ---- the numbers of a live record
 pub record GoodRegisters (p : Process) : Type 0 where
-  pub share : p.share ≤ maxShare
-  pub sp : p.sp ≤ stackSize
+  pub share : p.share ≤ max_share
+  pub sp : p.sp ≤ stack_size
   pub pc : p.pc ≤ p.code.len
-  pub loop : (p.loopstart ≡ noLoop) ⊎ (p.loopstart ≤ p.code.len)
+  pub loop : (p.loopstart ≡ no_loop) ⊎ (p.loopstart ≤ p.code.len)
 
-pub good-registers-is : (p : Process) → goodRegisters p ≡ true → GoodRegisters p
-unfolding goodRegisters
+pub good-registers-is : (p : Process) → good_registers p ≡ true → GoodRegisters p
+unfolding good_registers
 good-registers-is p t =
-    let r = and_right (leb p.share maxShare) _ t in
-    let s = and_right (leb p.sp stackSize) _ r in
+    let r = and_right (leb p.share max_share) _ t in
+    let s = and_right (leb p.sp stack_size) _ r in
     let u = and_right (leb p.pc p.code.len) _ s in
     record {
-      share = leb-true _ _ (and_left (leb p.share maxShare) _ t);
-      sp = leb-true _ _ (and_left (leb p.sp stackSize) _ r);
+      share = leb-true _ _ (and_left (leb p.share max_share) _ t);
+      sp = leb-true _ _ (and_left (leb p.sp stack_size) _ r);
       pc = leb-true _ _ (and_left (leb p.pc p.code.len) _ s);
-      loop = ⊎_elim (λ e. inl (eqb-true _ _ e)) (λ e. inr (leb-true _ _ e)) (or_cases (eqb p.loopstart noLoop) _ u);
+      loop = ⊎_elim (λ e. inl (eqb-true _ _ e)) (λ e. inr (leb-true _ _ e)) (or_cases (eqb p.loopstart no_loop) _ u);
     }
 
-pub is-good-registers : (p : Process) → GoodRegisters p → goodRegisters p ≡ true
-unfolding goodRegisters
+pub is-good-registers : (p : Process) → GoodRegisters p → good_registers p ≡ true
+unfolding good_registers
 is-good-registers p g =
     and_both (le-leb _ _ g.share)
     (and_both (le-leb _ _ g.sp)
     (and_both (le-leb _ _ g.pc)
-    (⊎_elim (λ e. or-first (leb p.loopstart p.code.len) (eq-eqb _ _ e)) (λ e. or-second (eqb p.loopstart noLoop) (le-leb _ _ e))
+    (⊎_elim (λ e. or-first (leb p.loopstart p.code.len) (eq-eqb _ _ e)) (λ e. or-second (eqb p.loopstart no_loop) (le-leb _ _ e))
     g.loop)))
 
 -- ---- the program and the open file of a live record
@@ -52,8 +52,8 @@ pub record ProgramIs (p : Process) (e : Entry) : Type 0 where
   pub start : p.code.start ≡ e.start
   pub len : p.code.len ≡ e.len
 
-pub program-is : (p : Process) (e : Entry) → isProgram p e ≡ true → ProgramIs p e
-unfolding isProgram
+pub program-is : (p : Process) (e : Entry) → is_program p e ≡ true → ProgramIs p e
+unfolding is_program
 program-is p e t =
     let r = and_right (same p.name e.name) _ t in
     record {
@@ -62,8 +62,8 @@ program-is p e t =
       len = eqb-true _ _ (and_right (eqb p.code.start e.start) _ r);
     }
 
-pub is-program : (p : Process) (e : Entry) → ProgramIs p e → isProgram p e ≡ true
-unfolding isProgram
+pub is-program : (p : Process) (e : Entry) → ProgramIs p e → is_program p e ≡ true
+unfolding is_program
 is-program p e g =
     let q : same p.name e.name ≡ true = rw g.name (same_refl e.name) in
     and_both q (and_both (eq-eqb _ _ g.start) (eq-eqb _ _ g.len))
@@ -72,13 +72,13 @@ pub record OpenIn (f : OpenFile) (e : Entry) : Type 0 where
   pub start : f.start ≡ e.start
   pub len : f.len ≡ e.len
 
-pub open-in-is : (f : OpenFile) (e : Entry) → isOpenIn f e ≡ true → OpenIn f e
+pub open-in-is : (f : OpenFile) (e : Entry) → is_open_in f e ≡ true → OpenIn f e
 open-in-is f e t = record {
   start = eqb-true _ _ (and_left (eqb f.start e.start) _ t);
   len = eqb-true _ _ (and_right (eqb f.start e.start) _ t);
 }
 
-pub is-open-in : (f : OpenFile) (e : Entry) → OpenIn f e → isOpenIn f e ≡ true
+pub is-open-in : (f : OpenFile) (e : Entry) → OpenIn f e → is_open_in f e ≡ true
 is-open-in f e g = and_both (eq-eqb _ _ g.start) (eq-eqb _ _ g.len)
 
 pub record Closed (f : OpenFile) : Type 0 where
@@ -88,17 +88,17 @@ pub record Closed (f : OpenFile) : Type 0 where
 pub record Opened (entries : List Entry) (f : OpenFile) : Type 0 where
   pub some : f.len ≡ 0 → ⊥
   pub offset : f.offset ≤ f.len
-  pub listed : any (isOpenIn f) entries ≡ true
+  pub listed : any (is_open_in f) entries ≡ true
 
 abbrev pub GoodFile : List Entry → OpenFile → Type 0
 GoodFile entries f = Closed f ⊎ Opened entries f
 
 module _ (entries : List Entry) (f : OpenFile) where
-  pub good-file-is : goodFile entries f ≡ true → GoodFile entries f
-  unfolding goodFile
+  pub good-file-is : good_file entries f ≡ true → GoodFile entries f
+  unfolding good_file
   good-file-is t = go (eqb f.len 0) refl t
     where
-      go : (b : Bool) → eqb f.len 0 ≡ b → cond b (eqb f.offset 0) (leb f.offset f.len && any (isOpenIn f) entries) ≡ true
+      go : (b : Bool) → eqb f.len 0 ≡ b → cond b (eqb f.offset 0) (leb f.offset f.len && any (is_open_in f) entries) ≡ true
           → GoodFile entries f
       go true e h = inl (record { len = eqb-true _ _ e; offset = eqb-true _ _ h })
       go false e h = inr (record {
@@ -107,8 +107,8 @@ module _ (entries : List Entry) (f : OpenFile) where
         listed = and_right (leb f.offset f.len) _ h;
       })
 
-  pub is-good-file : GoodFile entries f → goodFile entries f ≡ true
-  unfolding goodFile
+  pub is-good-file : GoodFile entries f → good_file entries f ≡ true
+  unfolding good_file
   is-good-file (inl c) = rw (eq-eqb _ _ c.len) (eq-eqb _ _ c.offset)
   is-good-file (inr o) = rw (ne_eqb _ _ o.some) (and_both (le-leb _ _ o.offset) o.listed)
 
@@ -117,47 +117,47 @@ pub record GoodLive (entries : List Entry) (next : ℕ) (p : Process) : Type 0 w
   pub low : 1 ≤ p.id
   pub given : p.id < next
   pub registers : GoodRegisters p
-  pub program : any (isProgram p) entries ≡ true
+  pub program : any (is_program p) entries ≡ true
   pub file : GoodFile entries p.file
 
 module _ (entries : List Entry) (next : ℕ) (p : Process) where
-  pub good-live-is : goodLive entries next p ≡ true → GoodLive entries next p
-  unfolding goodLive
+  pub good-live-is : good_live entries next p ≡ true → GoodLive entries next p
+  unfolding good_live
   good-live-is t =
-      let i = and_left (goodId next p) _ t in
-      let r = and_right (goodId next p) _ t in
-      let s = and_right (goodRegisters p) _ r in
+      let i = and_left (good_id next p) _ t in
+      let r = and_right (good_id next p) _ t in
+      let s = and_right (good_registers p) _ r in
       record {
         low = leb-true _ _ (and_left (leb 1 p.id) _ i);
         given = ltb-true _ _ (and_right (leb 1 p.id) _ i);
-        registers = good-registers-is p (and_left (goodRegisters p) _ r);
-        program = and_left (any (isProgram p) entries) _ s;
-        file = good-file-is entries p.file (and_right (any (isProgram p) entries) _ s);
+        registers = good-registers-is p (and_left (good_registers p) _ r);
+        program = and_left (any (is_program p) entries) _ s;
+        file = good-file-is entries p.file (and_right (any (is_program p) entries) _ s);
       }
 
-  pub is-good-live : GoodLive entries next p → goodLive entries next p ≡ true
-  unfolding goodLive
+  pub is-good-live : GoodLive entries next p → good_live entries next p ≡ true
+  unfolding good_live
   is-good-live g =
       and_both (and_both (le-leb _ _ g.low) (lt-ltb _ _ g.given))
       (and_both (is-good-registers p g.registers) (and_both g.program (is-good-file entries p.file g.file)))
 
   -- ---- any record
-  pub ended-good : p.state ≡ 0 → goodProcess entries next p ≡ true
-  unfolding goodProcess
-  ended-good h = or-first (isLive p && goodLive entries next p) (eq-eqb _ _ h)
+  pub ended-good : p.state ≡ 0 → good_process entries next p ≡ true
+  unfolding good_process
+  ended-good h = or-first (is_live p && good_live entries next p) (eq-eqb _ _ h)
 
-  pub live-good : isLive p ≡ true → GoodLive entries next p → goodProcess entries next p ≡ true
-  unfolding goodProcess
+  pub live-good : is_live p ≡ true → GoodLive entries next p → good_process entries next p ≡ true
+  unfolding good_process
   live-good h g = or-second (eqb p.state 0) (and_both h (is-good-live g))
 
-  pub good-process-is : goodProcess entries next p ≡ true → (p.state ≡ 0) ⊎ ((isLive p ≡ true) × GoodLive entries next p)
-  unfolding goodProcess
+  pub good-process-is : good_process entries next p ≡ true → (p.state ≡ 0) ⊎ ((is_live p ≡ true) × GoodLive entries next p)
+  unfolding good_process
   good-process-is t =
-      ⊎_elim (λ e. inl (eqb-true _ _ e)) (λ e. inr (and_left (isLive p) _ e, good-live-is (and_right (isLive p) _ e)))
-      (or_cases (eqb p.state 0) (isLive p && goodLive entries next p) t)
+      ⊎_elim (λ e. inl (eqb-true _ _ e)) (λ e. inr (and_left (is_live p) _ e, good-live-is (and_right (is_live p) _ e)))
+      (or_cases (eqb p.state 0) (is_live p && good_live entries next p) t)
 
-  pub good-live-of : goodProcess entries next p ≡ true → isLive p ≡ true → GoodLive entries next p
+  pub good-live-of : good_process entries next p ≡ true → is_live p ≡ true → GoodLive entries next p
   good-live-of t h = ⊎_elim (λ e. absurd (true-not-false h (ended-not-live e))) (λ g. g.1) (good-process-is t)
     where
-      ended-not-live : p.state ≡ 0 → isLive p ≡ false
+      ended-not-live : p.state ≡ 0 → is_live p ≡ false
       ended-not-live e = rw e

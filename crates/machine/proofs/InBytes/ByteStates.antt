@@ -6,15 +6,15 @@ use native.Mathlib.Omega.{arith}
 use Rattle.buffer.specs.Buffer.{part, word_bytes}
 use Rattle.buffer.specs.Lists.{flat}
 use Rattle.place.specs.declared.Run.{Run}
-use Rattle.disc.specs.Layout.{nameSize}
-use Rattle.variable.specs.Limits.{countAt, entries_at, entrySize, maxVariables, memorySize}
+use Rattle.disc.specs.Layout.{name_size}
+use Rattle.variable.specs.Limits.{count_at, entries_at, entry_size, max_variables, memory_size}
 use Rattle.variable.specs.declared.Variable.{Variable}
 use Rattle.variable.specs.declared.Variables.{Variables}
-use Rattle.variable.specs.Bytes.{variableBytes, variableOf, variablesOf}
-use Rattle.machine.specs.Area.{kernelBytes, kernelOf, processBytes, processOf, registerBytes, stackAt}
-use Rattle.machine.specs.Limits.{next_at, recordSize, recordsAt, slotCount, stackSize, zerosAt}
-use Rattle.machine.specs.Limits.{zerosSize}
-use Rattle.machine.specs.State.{noProcess, processAt}
+use Rattle.variable.specs.Bytes.{variable_bytes, variable_of, variables_of}
+use Rattle.machine.specs.Area.{kernel_bytes, kernel_of, process_bytes, process_of, register_bytes, stack_at}
+use Rattle.machine.specs.Limits.{next_at, record_size, records_at, slot_count, stack_size, zeros_at}
+use Rattle.machine.specs.Limits.{zeros_size}
+use Rattle.machine.specs.State.{no_process, process_at}
 use Rattle.machine.specs.declared.Kernel.{Kernel}
 use Rattle.machine.specs.declared.OpenFile.{OpenFile}
 use Rattle.machine.specs.declared.Process.{Process}
@@ -63,7 +63,7 @@ pub record ByteKernel (k : Kernel) : Type 0 where
   pub processes : Each ByteProcess k.processes
 
 -- ---- what an area says
-variable-of : (b : List ℕ) → Bytes b → ByteVariable (variableOf b)
+variable-of : (b : List ℕ) → Bytes b → ByteVariable (variable_of b)
 variable-of b h = record {
   name = byte_at b 0 h;
   kind = byte_at b 1 h;
@@ -72,9 +72,9 @@ variable-of b h = record {
   owner = word-at b 4 h;
 }
 
-process-of : (b : List ℕ) → Bytes b → ByteProcess (processOf b)
+process-of : (b : List ℕ) → Bytes b → ByteProcess (process_of b)
 process-of b h = record {
-  name = take-bytes nameSize b h;
+  name = take-bytes name_size b h;
   id = word-at b 12 h;
   state = byte_at b 14 h;
   fault = byte_at b 15 h;
@@ -84,22 +84,24 @@ process-of b h = record {
   file = record { start = word-at b 24 h; len = word-at b 26 h; offset = word-at b 28 h };
   sp = byte_at b 30 h;
   share = byte_at b 31 h;
-  stack = part_bytes b stackAt stackSize h;
+  stack = part_bytes b stack_at stack_size h;
 }
 
-pub kernel-of : (area : List ℕ) → Bytes area → ByteKernel (kernelOf area)
-unfolding kernelOf variablesOf
+pub kernel-of : (area : List ℕ) → Bytes area → ByteKernel (kernel_of area)
+unfolding kernel_of variables_of
 kernel-of area h = record {
   variables = record {
-    memory = take-bytes memorySize area h;
-    entries = each-tab ByteVariable _ maxVariables
-        (λ i. variable-of (part area (entries_at + i * entrySize) entrySize) (part_bytes area (entries_at + i * entrySize) entrySize h));
-    count = byte_at area countAt h;
+    memory = take-bytes memory_size area h;
+    entries = each-tab ByteVariable _ max_variables
+        (λ i. variable-of (part area (entries_at + i * entry_size) entry_size)
+        (part_bytes area (entries_at + i * entry_size) entry_size h));
+    count = byte_at area count_at h;
   };
   next = word-at area next_at h;
-  zeros = part_bytes area zerosAt zerosSize h;
-  processes = each-tab ByteProcess _ slotCount
-      (λ i. process-of (part area (recordsAt + i * recordSize) recordSize) (part_bytes area (recordsAt + i * recordSize) recordSize h));
+  zeros = part_bytes area zeros_at zeros_size h;
+  processes = each-tab ByteProcess _ slot_count
+      (λ i. process-of (part area (records_at + i * record_size) record_size)
+      (part_bytes area (records_at + i * record_size) record_size h));
 }
 
 -- ---- what is written of a state
@@ -109,11 +111,11 @@ low w = omega arith
 high : (w : ℕ) → IsWord w → IsByte (w / 256)
 high w h = omega arith
 
-variable-bytes : (e : Variable) → ByteVariable e → Bytes (variableBytes e)
+variable-bytes : (e : Variable) → ByteVariable e → Bytes (variable_bytes e)
 unfolding Each
 variable-bytes e h = (h.name, (h.kind, (h.address, (h.size, word-bytes e.owner h.owner))))
 
-register-bytes : (p : Process) → ByteProcess p → Bytes (registerBytes p)
+register-bytes : (p : Process) → ByteProcess p → Bytes (register_bytes p)
 unfolding Each
 register-bytes p h = (
   low _,
@@ -171,33 +173,33 @@ register-bytes p h = (
   ),
 )
 
-process-bytes : (p : Process) → ByteProcess p → Bytes (processBytes p)
+process-bytes : (p : Process) → ByteProcess p → Bytes (process_bytes p)
 process-bytes p h =
-    append-bytes (p.name ++ registerBytes p) p.stack
-    (append-bytes p.name (registerBytes p) h.name (register-bytes p h)) h.stack
+    append-bytes (p.name ++ register_bytes p) p.stack
+    (append-bytes p.name (register_bytes p) h.name (register-bytes p h)) h.stack
 
-pub kernel-bytes : (k : Kernel) → ByteKernel k → Bytes (kernelBytes k)
-unfolding kernelBytes
+pub kernel-bytes : (k : Kernel) → ByteKernel k → Bytes (kernel_bytes k)
+unfolding kernel_bytes
 kernel-bytes k h =
-    append-bytes (front ++ k.zeros) (flat processBytes k.processes)
+    append-bytes (front ++ k.zeros) (flat process_bytes k.processes)
     (append-bytes front k.zeros
     (append-bytes (entries ++ (k.variables.count ∷ [])) (word_bytes k.next)
     (append-bytes entries (k.variables.count ∷ [])
-    (append-bytes k.variables.memory (flat variableBytes k.variables.entries) h.variables.memory
-    (each-flat ByteVariable IsByte variableBytes variable-bytes k.variables.entries h.variables.entries))
+    (append-bytes k.variables.memory (flat variable_bytes k.variables.entries) h.variables.memory
+    (each-flat ByteVariable IsByte variable_bytes variable-bytes k.variables.entries h.variables.entries))
     (one_byte k.variables.count h.variables.count))
     (word-bytes k.next h.next))
     h.zeros)
-    (each-flat ByteProcess IsByte processBytes process-bytes k.processes h.processes)
+    (each-flat ByteProcess IsByte process_bytes process-bytes k.processes h.processes)
   where
     entries : List ℕ
-    entries = k.variables.memory ++ flat variableBytes k.variables.entries
+    entries = k.variables.memory ++ flat variable_bytes k.variables.entries
 
     front : List ℕ
     front = entries ++ (k.variables.count ∷ []) ++ word_bytes k.next
 
 -- ---- the record in a slot
-no-process : ByteProcess noProcess
+no-process : ByteProcess no_process
 unfolding Each
 no-process = record {
   name = tt;
@@ -213,5 +215,5 @@ no-process = record {
   stack = tt;
 }
 
-pub process-at : (k : Kernel) → ByteKernel k → (slot : ℕ) → ByteProcess (processAt k slot)
-process-at k h slot = each_at ByteProcess k.processes slot noProcess h.processes no-process
+pub process-at : (k : Kernel) → ByteKernel k → (slot : ℕ) → ByteProcess (process_at k slot)
+process-at k h slot = each_at ByteProcess k.processes slot no_process h.processes no-process

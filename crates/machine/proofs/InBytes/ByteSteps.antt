@@ -6,18 +6,18 @@ use native.Mathlib.Omega.{arith}
 use lib.ListN.{drop, length, replicate}
 use Rattle.buffer.specs.Lists.{keep}
 use Rattle.disc.specs.declared.Entry.{Entry}
-use Rattle.variable.specs.Assign.{added, assigned, newVariable, valueBytes}
-use Rattle.variable.specs.Table.{cell_of, counted, freed, freedAll, is_of, noVariable, owned, owned_by}
+use Rattle.variable.specs.Assign.{added, assigned, new_variable, value_bytes}
+use Rattle.variable.specs.Table.{cell_of, counted, freed, freed_all, is_of, no_variable, owned, owned_by}
 use Rattle.variable.specs.declared.Value.{Value}
 use Rattle.variable.specs.declared.Variable.{Variable}
 use Rattle.variable.specs.declared.Variables.{Variables}
 use Rattle.variable.proofs.Freeing.{freed-count}
 use Rattle.variable.proofs.Setting.{assigned-keeps, place-address}
-use Rattle.machine.specs.Limits.{stackSize}
-use Rattle.machine.specs.Start.{started, startedProcess}
-use Rattle.machine.specs.Ended.{ended, endedProcess}
-use Rattle.machine.specs.State.{Local, noFile, processAt, withFile, withLocal, withProcess, withShare, withState}
-use Rattle.machine.specs.State.{withVariables}
+use Rattle.machine.specs.Limits.{stack_size}
+use Rattle.machine.specs.Start.{started, started_process}
+use Rattle.machine.specs.Ended.{ended, ended_process}
+use Rattle.machine.specs.State.{Local, no_file, process_at, with_file, with_local, with_process, with_share, with_state}
+use Rattle.machine.specs.State.{with_variables}
 use Rattle.machine.specs.declared.Kernel.{Kernel}
 use Rattle.machine.specs.declared.OpenFile.{OpenFile}
 use Rattle.machine.specs.declared.Process.{Process}
@@ -31,12 +31,12 @@ use Rattle.machine.proofs.InBytes.EffectBytes.{ByteCell}
 -- what an instruction leaves of it
 pub record ByteLocal (l : Local) : Type 0 where
   pub stack : Bytes l.stack
-  pub size : length l.stack ≤ stackSize
+  pub size : length l.stack ≤ stack_size
   pub pc : IsWord l.pc
   pub loopstart : IsWord l.loopstart
 
 module _ (p : Process) (h : ByteProcess p) where
-  pub with-local : (l : Local) → ByteLocal l → ByteProcess (withLocal p l)
+  pub with-local : (l : Local) → ByteLocal l → ByteProcess (with_local p l)
   with-local l b = record {
     name = h.name;
     id = h.id;
@@ -48,10 +48,10 @@ module _ (p : Process) (h : ByteProcess p) where
     file = h.file;
     sp = omega (arith, b.size);
     share = h.share;
-    stack = filled-bytes l.stack (stackSize - length l.stack) b.stack;
+    stack = filled-bytes l.stack (stack_size - length l.stack) b.stack;
   }
 
-  pub with-file : (f : OpenFile) → ByteFile f → ByteProcess (withFile p f)
+  pub with-file : (f : OpenFile) → ByteFile f → ByteProcess (with_file p f)
   with-file f b = record {
     name = h.name;
     id = h.id;
@@ -66,7 +66,7 @@ module _ (p : Process) (h : ByteProcess p) where
     stack = h.stack;
   }
 
-  pub with-state : (state : ℕ) → IsByte state → ByteProcess (withState p state)
+  pub with-state : (state : ℕ) → IsByte state → ByteProcess (with_state p state)
   with-state state b = record {
     name = h.name;
     id = h.id;
@@ -81,7 +81,7 @@ module _ (p : Process) (h : ByteProcess p) where
     stack = h.stack;
   }
 
-  pub with-share : (share : ℕ) → IsByte share → ByteProcess (withShare p share)
+  pub with-share : (share : ℕ) → IsByte share → ByteProcess (with_share p share)
   with-share share b = record {
     name = h.name;
     id = h.id;
@@ -96,10 +96,10 @@ module _ (p : Process) (h : ByteProcess p) where
     stack = h.stack;
   }
 
-no-file : ByteFile noFile
+no-file : ByteFile no_file
 no-file = record { start = omega arith; len = omega arith; offset = omega arith }
 
-ended-process : (p : Process) → ByteProcess p → (fault : ℕ) → IsByte fault → ByteProcess (endedProcess p fault)
+ended-process : (p : Process) → ByteProcess p → (fault : ℕ) → IsByte fault → ByteProcess (ended_process p fault)
 ended-process p h fault b = record {
   name = h.name;
   id = h.id;
@@ -111,10 +111,10 @@ ended-process p h fault b = record {
   file = no-file;
   sp = omega arith;
   share = omega arith;
-  stack = zeros-bytes stackSize;
+  stack = zeros-bytes stack_size;
 }
 
-started-process : (e : Entry) → ByteEntry e → (id : ℕ) → IsWord id → ByteProcess (startedProcess e id)
+started-process : (e : Entry) → ByteEntry e → (id : ℕ) → IsWord id → ByteProcess (started_process e id)
 started-process e h id b = record {
   name = h.name;
   id = b;
@@ -126,11 +126,11 @@ started-process e h id b = record {
   file = no-file;
   sp = omega arith;
   share = omega arith;
-  stack = zeros-bytes stackSize;
+  stack = zeros-bytes stack_size;
 }
 
 -- ---- variables
-no-variable : ByteVariable noVariable
+no-variable : ByteVariable no_variable
 no-variable = record { name = omega arith; kind = omega arith; address = omega arith; size = omega arith; owner = omega arith }
 
 module _ (v : Variables) (h : ByteVariables v) where
@@ -148,10 +148,10 @@ module _ (v : Variables) (h : ByteVariables v) where
   unfolding freed
   freed-bytes gone = record {
     memory = h.memory;
-    entries = each_append ByteVariable (kept ++ replicate (v.count - length kept) noVariable) (drop v.count v.entries)
-        (each_append ByteVariable kept (replicate (v.count - length kept) noVariable)
+    entries = each_append ByteVariable (kept ++ replicate (v.count - length kept) no_variable) (drop v.count v.entries)
+        (each_append ByteVariable kept (replicate (v.count - length kept) no_variable)
         (each_keep ByteVariable (λ e. not (gone e)) (counted v) counted-bytes)
-        (each-replicate ByteVariable (v.count - length kept) noVariable no-variable))
+        (each-replicate ByteVariable (v.count - length kept) no_variable no-variable))
         (each-drop ByteVariable v.count v.entries h.entries);
     count = omega (arith, freed-count v gone, h.count);
   }
@@ -174,13 +174,13 @@ pub assigned-bytes : (v : Variables) → ByteVariables v → (name id : ℕ) (x 
 assigned-bytes v h name id x n i k some short b =
     assigned-keeps v name id x ByteVariables h λ a e.
     let q = place-address (freed v (is_of name id)) x.size a e in
-    added-bytes (freed v (is_of name id)) (freed-bytes v h (is_of name id)) (newVariable name id x a)
-    (record { name = n; kind = k; address = omega (arith, q.1.high); size = short; owner = i }) (valueBytes x)
+    added-bytes (freed v (is_of name id)) (freed-bytes v h (is_of name id)) (new_variable name id x a)
+    (record { name = n; kind = k; address = omega (arith, q.1.high); size = short; owner = i }) (value_bytes x)
     (take-bytes x.size x.bytes b) (omega (arith, q.0))
 
 -- ---- the kernel
 module _ (k : Kernel) (h : ByteKernel k) where
-  pub with-process : (slot : ℕ) (p : Process) → ByteProcess p → ByteKernel (withProcess k slot p)
+  pub with-process : (slot : ℕ) (p : Process) → ByteProcess p → ByteKernel (with_process k slot p)
   with-process slot p b = record {
     variables = h.variables;
     next = h.next;
@@ -188,18 +188,18 @@ module _ (k : Kernel) (h : ByteKernel k) where
     processes = each_set ByteProcess k.processes slot p h.processes b;
   }
 
-  pub with-variables : (v : Variables) → ByteVariables v → ByteKernel (withVariables k v)
+  pub with-variables : (v : Variables) → ByteVariables v → ByteKernel (with_variables k v)
   with-variables v b = record { variables = b; next = h.next; zeros = h.zeros; processes = h.processes }
 
   pub started-bytes : (slot : ℕ) (e : Entry) → ByteEntry e → IsWord (k.next + 1) → ByteKernel (started k slot e)
   started-bytes slot e b n =
-      let w = with-process slot (startedProcess e k.next) (started-process e b k.next h.next) in
+      let w = with-process slot (started_process e k.next) (started-process e b k.next h.next) in
       record { variables = w.variables; next = n; zeros = w.zeros; processes = w.processes }
 
 pub ended-bytes : (k : Kernel) → ByteKernel k → (slot fault : ℕ) → IsByte fault → ByteKernel (ended k slot fault)
 unfolding ended
 ended-bytes k h slot fault b =
-    with-variables (withProcess k slot (endedProcess (processAt k slot) fault))
-    (with-process k h slot (endedProcess (processAt k slot) fault) (ended-process (processAt k slot) (process-at k h slot) fault b))
-    (freedAll k.variables (processAt k slot).id)
-    (freed-bytes k.variables h.variables (owned_by (processAt k slot).id))
+    with-variables (with_process k slot (ended_process (process_at k slot) fault))
+    (with-process k h slot (ended_process (process_at k slot) fault) (ended-process (process_at k slot) (process-at k h slot) fault b))
+    (freed_all k.variables (process_at k slot).id)
+    (freed-bytes k.variables h.variables (owned_by (process_at k slot).id))

@@ -12,7 +12,7 @@ use Rattle.buffer.specs.declared.Found.TheVariants.{At, Nowhere}
 use Rattle.operator.specs.Binary.{binary}
 use Rattle.operator.specs.Instruction.{types_of}
 use Rattle.operator.specs.Unary.{unary}
-use Rattle.number.specs.Value.{type_of, valueBytes}
+use Rattle.number.specs.Value.{type_of, value_bytes}
 use Rattle.number.specs.declared.Number.{Number}
 use Rattle.number.specs.declared.Number.TheVariants.{Char, Int, Float}
 use Rattle.operator.specs.declared.instruction.Types.{Types}
@@ -26,10 +26,10 @@ use Rattle.scaling.specs.Map.{mapped}
 use Rattle.scaling.specs.Power.{power}
 use Rattle.number.proofs.Encoding.{Fits}
 use Rattle.variable.specs.Table.{Cell}
-use Rattle.machine.specs.Effect.{Effect, goes, assigns, stops, faults, asks, Request, opens, closes, writes, reads, readsString}
-use Rattle.machine.specs.Effect.{forks, awaits, unlessFaults, land, settle, withPopped, with_number, with_outcome, withVariable}
+use Rattle.machine.specs.Effect.{Effect, goes, assigns, stops, faults, asks, Request, opens, closes, writes, reads, reads_string}
+use Rattle.machine.specs.Effect.{forks, awaits, unless_faults, land, settle, with_popped, with_number, with_outcome, with_variable}
 use Rattle.machine.specs.Effect.{operates}
-use Rattle.machine.specs.Limits.{stackSize}
+use Rattle.machine.specs.Limits.{stack_size}
 use Rattle.machine.specs.Stack.{Item, Popped, popped, cannot, pop, push}
 use Rattle.buffer.proofs.ByteLists.{Bytes, IsByte}
 use Rattle.buffer.proofs.Each.{Each, each_at}
@@ -43,7 +43,7 @@ AsksBytes (opens name size l) = Bytes l.stack
 AsksBytes (closes l) = Bytes l.stack
 AsksBytes (writes bytes l) = Bytes bytes × Bytes l.stack
 AsksBytes (reads kind l) = IsByte kind × Bytes l.stack
-AsksBytes (readsString l) = Bytes l.stack
+AsksBytes (reads_string l) = Bytes l.stack
 AsksBytes (forks name l) = Bytes l.stack
 AsksBytes (awaits id stay go) = Bytes stay.stack × Bytes go.stack
 
@@ -60,7 +60,7 @@ pub record ByteCell (c : Cell) : Type 0 where
   pub bytes : Bytes c.bytes
 
 -- ---- tests
-pub unless-gives : (b : Bool) (n : ℕ) (e : Effect) → (b ≡ true → GivesBytes e) → GivesBytes (unlessFaults b n e)
+pub unless-gives : (b : Bool) (n : ℕ) (e : Effect) → (b ≡ true → GivesBytes e) → GivesBytes (unless_faults b n e)
 unfolding GivesBytes
 unless-gives true n e h = h refl
 unless-gives false n e h = tt
@@ -71,10 +71,10 @@ either-gives false d e h k = k
 
 -- the tests at the end of an instruction: the stack fits
 pub settle-gives : (prog : List ℕ) (target : Found) (stack : List ℕ) (loopstart : ℕ) (out : List ℕ)
-    → (length stack ≤ stackSize → Bytes stack) → Bytes out → GivesBytes (settle prog target stack loopstart out)
+    → (length stack ≤ stack_size → Bytes stack) → Bytes out → GivesBytes (settle prog target stack loopstart out)
 unfolding GivesBytes settle
 settle-gives prog target stack loopstart out h k =
-    unless-gives (leb (length stack) stackSize) 4 _ λ fits. lands target (h (leb-true _ _ fits))
+    unless-gives (leb (length stack) stack_size) 4 _ λ fits. lands target (h (leb-true _ _ fits))
   where
     lands : (f : Found) → Bytes stack → GivesBytes (land prog f stack loopstart out)
     lands Nowhere b = tt
@@ -84,11 +84,11 @@ settle-gives prog target stack loopstart out h k =
 module _ (types : Types) (stack : List ℕ) (h : Bytes stack) where
   pub popped-gives : (next : Item → List ℕ → Effect)
       → ((item : Item) (rest : List ℕ) → ByteItem item → Bytes rest → GivesBytes (next item rest))
-      → GivesBytes (withPopped (pop types stack) next)
+      → GivesBytes (with_popped (pop types stack) next)
   unfolding GivesBytes
   popped-gives next g = go (pop types stack) (pop-bytes types stack h)
     where
-      go : (p : Popped) → PopsBytes p → GivesBytes (withPopped p next)
+      go : (p : Popped) → PopsBytes p → GivesBytes (with_popped p next)
       go (popped item rest) b = g item rest b.0 b.1
       go (cannot n) b = tt
 
@@ -103,7 +103,7 @@ module _ (types : Types) (stack : List ℕ) (h : Bytes stack) where
       go (cannot n) b = tt
 
 pub variable-gives : (f : Found) (own : List Cell) (next : Cell → Effect) → Each ByteCell own
-    → ((c : Cell) → ByteCell c → GivesBytes (next c)) → GivesBytes (withVariable f own next)
+    → ((c : Cell) → ByteCell c → GivesBytes (next c)) → GivesBytes (with_variable f own next)
 unfolding GivesBytes Each
 variable-gives Nowhere own next h g = tt
 variable-gives (At i) own next h g = g _ (each_at ByteCell own i _ h (record { kind = omega arith; bytes = tt }))
@@ -115,9 +115,9 @@ type-byte (Int x) = omega arith
 type-byte (Float x) = omega arith
 
 outcome-gives : (o : Outcome) (rest : List ℕ) (next : List ℕ → Effect) → Answers o → Bytes rest
-    → ((s : List ℕ) → Bytes s → GivesBytes (next s)) → GivesBytes (with_outcome o λ a. next (push rest (type_of a) (valueBytes a)))
+    → ((s : List ℕ) → Bytes s → GivesBytes (next s)) → GivesBytes (with_outcome o λ a. next (push rest (type_of a) (value_bytes a)))
 unfolding GivesBytes
-outcome-gives (Value a) rest next f h g = g _ (push-bytes rest (type_of a) (valueBytes a) h (type-byte a) (value-bytes a f))
+outcome-gives (Value a) rest next f h g = g _ (push-bytes rest (type_of a) (value_bytes a) h (type-byte a) (value-bytes a f))
 outcome-gives DivisionByZero rest next f h g = tt
 outcome-gives OutOfRange rest next f h g = tt
 

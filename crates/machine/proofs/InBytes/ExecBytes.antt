@@ -11,16 +11,16 @@ use Rattle.buffer.specs.Buffer.{part}
 use Rattle.buffer.specs.Lists.{all, index}
 use Rattle.buffer.specs.declared.Found.{Found}
 use Rattle.buffer.specs.declared.Found.TheVariants.{At}
-use Rattle.number.specs.Clock.{isAhead}
-use Rattle.number.specs.Value.{isZero}
+use Rattle.number.specs.Clock.{is_ahead}
+use Rattle.number.specs.Value.{is_zero}
 use Rattle.operator.specs.declared.instruction.Types.TheVariants.{AnyNumber, AnyString, AnyValue, CharOrInt}
 use Rattle.disc.specs.Name.{trimmed}
 use Rattle.variable.specs.Table.{Cell}
 use Rattle.machine.specs.Effect.{newline, printed, settle}
 use Rattle.machine.specs.Asking.{reaches}
-use Rattle.machine.specs.Exec.{behind, exec, firstArgument, performs, secondArgument}
-use Rattle.machine.specs.Instruction.{instructionOf}
-use Rattle.machine.specs.Stack.{pushItem, pushString}
+use Rattle.machine.specs.Exec.{behind, exec, first_argument, performs, second_argument}
+use Rattle.machine.specs.Instruction.{instruction_of}
+use Rattle.machine.specs.Stack.{push_item, push_string}
 use Rattle.machine.specs.State.{Local}
 use Rattle.machine.specs.declared.instruction.Instruction.{Instruction}
 use Rattle.machine.specs.declared.instruction.Instruction.TheVariants.{Literal, StringLiteral, SetVariable, GetVariable, Operate}
@@ -38,33 +38,33 @@ use Rattle.machine.proofs.InBytes.Stacks.{newline-bytes, printed-bytes, push-byt
 use Rattle.machine.proofs.Instructions.InstructionBytes.{instruction-all}
 
 -- the type that an instruction names, if any, is a byte
-abbrev reachNamesByte : Reach → Bool
-reachNamesByte OpenFile = true
-reachNamesByte CloseFile = true
-reachNamesByte WriteFile = true
-reachNamesByte (ReadNumber kind) = ltb kind 256
-reachNamesByte ReadString = true
-reachNamesByte Fork = true
-reachNamesByte WaitUntilDone = true
+abbrev reach_names_byte : Reach → Bool
+reach_names_byte OpenFile = true
+reach_names_byte CloseFile = true
+reach_names_byte WriteFile = true
+reach_names_byte (ReadNumber kind) = ltb kind 256
+reach_names_byte ReadString = true
+reach_names_byte Fork = true
+reach_names_byte WaitUntilDone = true
 
-abbrev namesByte : Instruction → Bool
-namesByte (Literal kind) = ltb kind 256
-namesByte StringLiteral = true
-namesByte SetVariable = true
-namesByte GetVariable = true
-namesByte (Operate o) = true
-namesByte DelayUntil = true
-namesByte Millis = true
-namesByte (Print ends) = true
-namesByte (JumpIf zero) = true
-namesByte EndIf = true
-namesByte While = true
-namesByte EndWhile = true
-namesByte Loop = true
-namesByte EndLoop = true
-namesByte Stop = true
-namesByte (Beyond r) = reachNamesByte r
-namesByte Unknown = true
+abbrev names_byte : Instruction → Bool
+names_byte (Literal kind) = ltb kind 256
+names_byte StringLiteral = true
+names_byte SetVariable = true
+names_byte GetVariable = true
+names_byte (Operate o) = true
+names_byte DelayUntil = true
+names_byte Millis = true
+names_byte (Print ends) = true
+names_byte (JumpIf zero) = true
+names_byte EndIf = true
+names_byte While = true
+names_byte EndWhile = true
+names_byte Loop = true
+names_byte EndLoop = true
+names_byte Stop = true
+names_byte (Beyond r) = reach_names_byte r
+names_byte Unknown = true
 
 module _ (prog : List ℕ) (code : Bytes prog) (l : Local) (h : Bytes l.stack) where
   abbrev st : List ℕ
@@ -81,7 +81,7 @@ module _ (prog : List ℕ) (code : Bytes prog) (l : Local) (h : Bytes l.stack) w
   unfolding Each
   on target stack b = settle-gives prog target stack ls [] (λ fits. b) tt
 
-  reaches-gives : (r : Reach) → reachNamesByte r ≡ true → GivesBytes (reaches prog st ls l.pc r)
+  reaches-gives : (r : Reach) → reach_names_byte r ≡ true → GivesBytes (reaches prog st ls l.pc r)
   unfolding GivesBytes
   reaches-gives OpenFile t =
       number-gives AnyNumber st h _ λ size rest f b.
@@ -93,7 +93,7 @@ module _ (prog : List ℕ) (code : Bytes prog) (l : Local) (h : Bytes l.stack) w
   reaches-gives Fork t = popped-gives AnyString st h _ λ name rest i b. b
   reaches-gives WaitUntilDone t = number-gives AnyNumber st h _ λ x rest f b. (h, b)
 
-  performs-gives : (clock : ℕ) (i : Instruction) (own : List Cell) → Each ByteCell own → namesByte i ≡ true
+  performs-gives : (clock : ℕ) (i : Instruction) (own : List Cell) → Each ByteCell own → names_byte i ≡ true
       → GivesBytes (performs prog st ls l.pc clock i own)
   unfolding GivesBytes performs Each
   performs-gives clock (Literal kind) own o t =
@@ -102,7 +102,7 @@ module _ (prog : List ℕ) (code : Bytes prog) (l : Local) (h : Bytes l.stack) w
   performs-gives clock StringLiteral own o t =
       let text : List ℕ = trimmed (drop pc prog) in
       unless-gives (leb (pc + (length text + 1)) (length prog)) 2 _ λ a.
-      settle-gives prog (At (pc + (length text + 1))) (pushString st (text ++ (0 ∷ []))) ls []
+      settle-gives prog (At (pc + (length text + 1))) (push_string st (text ++ (0 ∷ []))) ls []
       (push-string-bytes st (text ++ (0 ∷ [])) h
       (append-bytes text (0 ∷ []) (trimmed-bytes (drop pc prog) (drop-bytes pc prog code)) (one_byte 0 (omega arith)))) tt
   performs-gives clock SetVariable own o t =
@@ -110,13 +110,13 @@ module _ (prog : List ℕ) (code : Bytes prog) (l : Local) (h : Bytes l.stack) w
       popped-gives AnyValue st h _ λ x rest i b. (byte_at prog pc code, i.kind, i.bytes, b)
   performs-gives clock GetVariable own o t =
       unless-gives (leb (pc + 1) (length prog)) 2 _ λ a.
-      variable-gives (index (λ c. eqb c.name (firstArgument prog st ls l.pc)) own) own _ o λ c b.
-      settle-gives prog (At (pc + 1)) (pushItem st c.kind c.bytes) ls []
+      variable-gives (index (λ c. eqb c.name (first_argument prog st ls l.pc)) own) own _ o λ c b.
+      settle-gives prog (At (pc + 1)) (push_item st c.kind c.bytes) ls []
       (push-item-bytes st c.kind c.bytes h b.kind b.bytes) tt
   performs-gives clock (Operate p) own o t = operates-gives p st _ h λ s b. on _ s b
   performs-gives clock DelayUntil own o t =
       number-gives CharOrInt st h _ λ x rest f b.
-      either-gives (isAhead x clock) _ _ (h, tt) (on (At pc) rest b)
+      either-gives (is_ahead x clock) _ _ (h, tt) (on (At pc) rest b)
   performs-gives clock Millis own o t = on _ _ (push-bytes st 2 _ h (omega arith) (omega arith, (omega arith, tt)))
   performs-gives clock (Print ends) own o t =
       popped-gives AnyValue st h _ λ x rest i b.
@@ -127,11 +127,11 @@ module _ (prog : List ℕ) (code : Bytes prog) (l : Local) (h : Bytes l.stack) w
       number-gives AnyNumber st h _ λ x rest f b. on _ st h
   performs-gives clock EndIf own o t = number-gives AnyNumber st h _ λ x rest f b. on _ rest b
   performs-gives clock While own o t =
-      let c : ℕ = firstArgument prog st ls l.pc in
-      let d : ℕ = secondArgument prog st ls l.pc in
+      let c : ℕ = first_argument prog st ls l.pc in
+      let d : ℕ = second_argument prog st ls l.pc in
       unless-gives (leb (pc + 2) (length prog)) 2 _ λ a.
       number-gives AnyNumber st h _ λ x rest f b.
-      either-gives (isZero x) _ _ (on (At (pc + 2 + (d + 1))) rest b)
+      either-gives (is_zero x) _ _ (on (At (pc + 2 + (d + 1))) rest b)
       (unless-gives (leb (c + d) 251) 8 _ λ low.
       on (At (pc + 2)) (rest ++ ((c + d + 4) ∷ []))
       (append-bytes rest ((c + d + 4) ∷ []) b (one_byte (c + d + 4) (omega (arith, leb-true (c + d) 251 low)))))
@@ -147,5 +147,5 @@ module _ (prog : List ℕ) (code : Bytes prog) (l : Local) (h : Bytes l.stack) w
   unfolding exec all
   exec-gives clock own o =
       unless-gives (ltb l.pc (length prog)) 2 _ λ a.
-      performs-gives clock (instructionOf (get_or prog l.pc 0)) own o
-      (instruction-all (λ b i. namesByte i) (get_or prog l.pc 0) (λ p. refl) refl refl)
+      performs-gives clock (instruction_of (get_or prog l.pc 0)) own o
+      (instruction-all (λ b i. names_byte i) (get_or prog l.pc 0) (λ p. refl) refl refl)

@@ -13,11 +13,11 @@ use mir.Val.{of_z, to_z}
 use mir.Facts.{Fits-of_z, sfits_to_z}
 use Rattle.decimal.specs.Decimal.{decimal}
 use Rattle.float.specs.Bits.{joined}
-use Rattle.float.specs.Print.{printedOf}
+use Rattle.float.specs.Print.{printed_of}
 use Rattle.float.specs.declared.print.Printed.{Printed}
 use Rattle.float.specs.declared.print.Printed.TheVariants.{NotANumber, Infinite, Overflow, Hundredths}
-use Rattle.number.specs.Text.{decimals, printedText, sign, text_of, wholeText}
-use Rattle.number.specs.Value.{number_of, valueBytes}
+use Rattle.number.specs.Text.{decimals, printed_text, sign, text_of, whole_text}
+use Rattle.number.specs.Value.{number_of, value_bytes}
 use Rattle.number.specs.declared.Number.{Number}
 use Rattle.number.specs.declared.Number.TheVariants.{Char, Int, Float}
 use Rattle.number.proofs.Encoding.{Fits}
@@ -25,7 +25,7 @@ use Rattle.buffer.proofs.ByteLists.{Bytes, append-bytes, byte_at, one_byte}
 use Rattle.machine.proofs.Bytes.ByteTexts.{decimal-bytes}
 use Rattle.buffer.proofs.Each.{Each}
 
-pub value-bytes : (a : Number) → Fits a → Bytes (valueBytes a)
+pub value-bytes : (a : Number) → Fits a → Bytes (value_bytes a)
 unfolding Each
 value-bytes (Char x) f = one_byte _ (Fits-of_z f).fits
 value-bytes (Int x) f =
@@ -48,8 +48,8 @@ number_fits kind bytes h = go (eqb kind 1) (eqb kind 2)
     float : Number
     float = Float (of_bits binary32 (joined (get_or bytes 0 0) (get_or bytes 1 0) (get_or bytes 2 0) (get_or bytes 3 0)))
 
-    go : (is_char isInt : Bool) → Fits (cond is_char char (cond isInt int float))
-    go true isInt = sfits_to_z (record { fits = byte_at bytes 0 h })
+    go : (is_char is_int : Bool) → Fits (cond is_char char (cond is_int int float))
+    go true is_int = sfits_to_z (record { fits = byte_at bytes 0 h })
     go false true = sfits_to_z {n = get_or bytes 0 0 * 256 + get_or bytes 1 0}
         (record { fits = omega (arith, byte_at bytes 0 h, byte_at bytes 1 h) })
     go false false = of_bits-fits binary32 _
@@ -60,12 +60,12 @@ unfolding Each
 sign-bytes true = one_byte 45 (omega arith)
 sign-bytes false = tt
 
-whole-text-bytes : (z : ℤ) → Bytes (wholeText z)
+whole-text-bytes : (z : ℤ) → Bytes (whole_text z)
 unfolding Each
 whole-text-bytes (pos n) = decimal-bytes n
 whole-text-bytes (negsuc n) = (omega arith, decimal-bytes (suc n))
 
-printed-bytes : (p : Printed) → Bytes (printedText p)
+printed-bytes : (p : Printed) → Bytes (printed_text p)
 unfolding Each
 printed-bytes NotANumber = (omega arith, (omega arith, (omega arith, tt)))
 printed-bytes (Infinite s) = append-bytes (sign s) _ (sign-bytes s) (omega arith, (omega arith, (omega arith, tt)))
@@ -78,4 +78,4 @@ pub text-bytes : (a : Number) → Fits a → Bytes (text_of a)
 unfolding text_of
 text-bytes (Char x) f = one_byte _ (Fits-of_z f).fits
 text-bytes (Int x) f = whole-text-bytes x
-text-bytes (Float x) f = printed-bytes (printedOf x)
+text-bytes (Float x) f = printed-bytes (printed_of x)

@@ -15,7 +15,7 @@ use mir.Facts.{Fits-and, Fits-of_z, Fits-or, Fits-xor, sfits_lit, sfits_to_z, sf
 use Rattle.integer.specs.Modular.{wrapped}
 use Rattle.integer.proofs.Modular.{wrapped-fits}
 use Rattle.root.proofs.Squares.{root_below, root_is}
-use Rattle.float.specs.Sqrt.{rootOfUnits, sqrtOf}
+use Rattle.float.specs.Sqrt.{root_of_units, sqrt_of}
 use Rattle.float.specs.Whole.{whole_of}
 use Rattle.float.specs.declared.whole.Rounding.{Rounding}
 use Rattle.float.specs.declared.whole.Rounding.TheVariants.{TowardZero, HalfAway, Down, Up}
@@ -23,12 +23,12 @@ use Rattle.float.specs.declared.whole.Whole.{Whole}
 use Rattle.float.specs.declared.whole.Whole.TheVariants.{Is, OutOfRange as Beyond}
 use Rattle.float.proofs.Sizes.{whole-fits}
 use Rattle.operator.specs.Arithmetic.{arithmetic, divisible, real, whole}
-use Rattle.operator.specs.Binary.{binary, bitwise, compared, connected, extremum, replaces, wholeBits}
-use Rattle.operator.specs.Conversion.{converted, convertedFloat, convertedWhole, valueOr}
+use Rattle.operator.specs.Binary.{binary, bitwise, compared, connected, extremum, replaces, whole_bits}
+use Rattle.operator.specs.Conversion.{converted, converted_float, converted_whole, value_or}
 use Rattle.operator.specs.Outcome.{flag}
 use Rattle.number.specs.Promotion.{first, promoted, second}
-use Rattle.operator.specs.Unary.{absolute, magnitude, negated, squareRoot, unary, wholeSquareRoot}
-use Rattle.number.specs.Value.{isZero}
+use Rattle.operator.specs.Unary.{absolute, magnitude, negated, square_root, unary, whole_square_root}
+use Rattle.number.specs.Value.{is_zero}
 use Rattle.number.specs.declared.Number.{Number}
 use Rattle.number.specs.declared.Number.TheVariants.{Char, Int, Float}
 use Rattle.operator.specs.declared.Outcome.{Outcome}
@@ -80,8 +80,8 @@ promoted-fit (Float x) (Int y) f g = (f, of_int-fits binary32 y)
 promoted-fit (Float x) (Float y) f g = (f, g)
 
 -- ---- whole numbers of the width w, k the type
-bits_fit : (w : Width) (o : Connective) (x y : ℤ) → SFits w x → SFits w y → SFits w (wholeBits w o x y)
-unfolding wholeBits
+bits_fit : (w : Width) (o : Connective) (x y : ℤ) → SFits w x → SFits w y → SFits w (whole_bits w o x y)
+unfolding whole_bits
 bits_fit w And x y f g = sfits_to_z (Fits-and (of_z w y) (Fits-of_z f))
 bits_fit w Or x y f g = sfits_to_z (Fits-or (Fits-of_z f) (Fits-of_z g))
 bits_fit w Xor x y f g = sfits_to_z (Fits-xor (Fits-of_z f) (Fits-of_z g))
@@ -100,7 +100,7 @@ module _ (w : Width) (k : ℤ → Number) (is : (z : ℤ) → SFits w z → Fits
   whole-answers DividedBy x y = divisible-answers y _
   whole-answers Modulus x y = divisible-answers y _
 
-  root-answers : (x : ℤ) → SFits w x → Answers (wholeSquareRoot k x)
+  root-answers : (x : ℤ) → SFits w x → Answers (whole_square_root k x)
   root-answers (pos n) f =
       is _ (record {
         sfits = root_below (2 ^ hbits w) (root_is n)
@@ -108,10 +108,10 @@ module _ (w : Width) (k : ℤ → Number) (is : (z : ℤ) → SFits w z → Fits
       })
   root-answers (negsuc n) f = tt
 
-  cut-answers : (r : Rounding) (max : ℕ) (x : Binary32) → max < 2 ^ hbits w → Answers (valueOr k (whole_of r max x))
+  cut-answers : (r : Rounding) (max : ℕ) (x : Binary32) → max < 2 ^ hbits w → Answers (value_or k (whole_of r max x))
   cut-answers r max x h = go (whole_of r max x) refl
     where
-      go : (o : Whole) → whole_of r max x ≡ o → Answers (valueOr k o)
+      go : (o : Whole) → whole_of r max x ≡ o → Answers (value_or k o)
       go (Is z) e = is z (whole-fits w r max x h (sym e))
       go Beyond e = tt
 
@@ -131,12 +131,12 @@ magnitude-fits (inf s) f = tt
 magnitude-fits (fin s zero e) f = f
 magnitude-fits (fin s (suc m) e) f = f
 
-root-fits : (a : ℕ) → T (fits binary32 (rootOfUnits a))
-unfolding rootOfUnits
+root-fits : (a : ℕ) → T (fits binary32 (root_of_units a))
+unfolding root_of_units
 root-fits a = round-fits binary32 false _ _
 
-sqrt-fits : (x : Binary32) → T (fits binary32 x) → T (fits binary32 (sqrtOf x))
-unfolding sqrtOf
+sqrt-fits : (x : Binary32) → T (fits binary32 x) → T (fits binary32 (sqrt_of x))
+unfolding sqrt_of
 sqrt-fits nan f = nan-fits binary32
 sqrt-fits (inf true) f = nan-fits binary32
 sqrt-fits (inf false) f = inf-fits binary32 false
@@ -176,13 +176,13 @@ pub binary-answers : (o : Binary) (a b : Number) → Fits a → Fits b → Answe
 unfolding binary
 binary-answers (Calculates o) a b f g = arithmetic-answers o (promoted a b)
 binary-answers (Comparison o) a b f g = flag-answers (compared o (promoted a b))
-binary-answers (Logical o) a b f g = flag-answers (connected o (not (isZero a)) (not (isZero b)))
+binary-answers (Logical o) a b f g = flag-answers (connected o (not (is_zero a)) (not (is_zero b)))
 binary-answers (Bitwise o) a b f g = bitwise-answers o (promoted a b) (promoted-fit a b f g)
 binary-answers (Chooses o) a b f g = extremum-fits o (promoted a b) (promoted-fit a b f g)
 
 -- ---- one operand
-whole-converts : (o : Conversion) (x : ℤ) → SFits w16 x → Answers (convertedWhole o x)
-unfolding convertedWhole
+whole-converts : (o : Conversion) (x : ℤ) → SFits w16 x → Answers (converted_whole o x)
+unfolding converted_whole
 whole-converts ToChar x f = sfits_to_z {n = of_z w16 x % 256} (record { fits = omega arith })
 whole-converts ToInt x f = f
 whole-converts ToFloat x f = of_int-fits binary32 x
@@ -190,8 +190,8 @@ whole-converts Round x f = f
 whole-converts Floor x f = f
 whole-converts Ceil x f = f
 
-float-converts : (o : Conversion) (x : Binary32) → T (fits binary32 x) → Answers (convertedFloat o x)
-unfolding convertedFloat
+float-converts : (o : Conversion) (x : Binary32) → T (fits binary32 x) → Answers (converted_float o x)
+unfolding converted_float
 float-converts ToChar x f = cut-answers w8 Char (λ z f. f) TowardZero 127 x (omega arith)
 float-converts ToInt x f = cut-answers w16 Int (λ z f. f) TowardZero 32767 x (omega arith)
 float-converts ToFloat x f = f
@@ -214,7 +214,7 @@ absolute-fits (Char x) f = wrapped-fits w8 (pos (nat_abs x))
 absolute-fits (Int x) f = wrapped-fits w16 (pos (nat_abs x))
 absolute-fits (Float x) f = magnitude-fits x f
 
-square-root-answers : (a : Number) → Fits a → Answers (squareRoot a)
+square-root-answers : (a : Number) → Fits a → Answers (square_root a)
 square-root-answers (Char x) f = root-answers w8 Char (λ z f. f) x f
 square-root-answers (Int x) f = root-answers w16 Int (λ z f. f) x f
 square-root-answers (Float x) f = sqrt-fits x f
@@ -224,7 +224,7 @@ unfolding unary
 unary-answers Increment a f = binary-answers (Calculates Plus) a (Char (pos 1)) f (sfits_lit tt)
 unary-answers Decrement a f = binary-answers (Calculates Minus) a (Char (pos 1)) f (sfits_lit tt)
 unary-answers UnaryMinus a f = negated_fits a f
-unary-answers LogicalNot a f = flag-answers (isZero a)
+unary-answers LogicalNot a f = flag-answers (is_zero a)
 unary-answers BitwiseNot a f = binary-answers (Bitwise Xor) a (Char (negsuc 0)) f (sfits_lit tt)
 unary-answers (Convert o) a f = converts o a f
 unary-answers Abs a f = absolute-fits a f

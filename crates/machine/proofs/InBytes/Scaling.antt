@@ -15,8 +15,8 @@ use Rattle.number.proofs.Encoding.{Fits}
 use Rattle.operator.specs.Binary.{extremum}
 use Rattle.operator.specs.declared.operators.Extremum.TheVariants.{Min, Max}
 use Rattle.scaling.specs.Constrain.{constrained}
-use Rattle.scaling.specs.Map.{exact, mapExact, mapReal, mapped, mappedAs, real, widest}
-use Rattle.scaling.specs.Power.{exponent, power, powerReal, raised, raisedBy}
+use Rattle.scaling.specs.Map.{exact, map_exact, map_real, mapped, mapped_as, real, widest}
+use Rattle.scaling.specs.Power.{exponent, power, power_real, raised, raised_by}
 use Rattle.scaling.specs.declared.map.Kind.{Kind}
 use Rattle.scaling.specs.declared.map.Kind.TheVariants as kind
 use Rattle.scaling.specs.declared.power.Exponent.{Exponent}
@@ -31,20 +31,20 @@ constrained-fits x a b f g h =
     extremum-fits Min (promoted m b) (promoted-fit m b k h)
 
 pub map-answers : (a b c d e : Number) → Answers (mapped a b c d e)
-unfolding mapped mapReal
+unfolding mapped map_real
 map-answers a b c d e = go (widest a b c d e)
   where
-    go : (k : Kind) → Answers (mappedAs k a b c d e)
+    go : (k : Kind) → Answers (mapped_as k a b c d e)
     go kind.Chars =
-        divisible-answers w8 Char (λ z f. f) (exact c -ℤ exact b) (mapExact (exact a) (exact b) (exact c) (exact d) (exact e))
+        divisible-answers w8 Char (λ z f. f) (exact c -ℤ exact b) (map_exact (exact a) (exact b) (exact c) (exact d) (exact e))
     go kind.Ints =
-        divisible-answers w16 Int (λ z f. f) (exact c -ℤ exact b) (mapExact (exact a) (exact b) (exact c) (exact d) (exact e))
+        divisible-answers w16 Int (λ z f. f) (exact c -ℤ exact b) (map_exact (exact a) (exact b) (exact c) (exact d) (exact e))
     go kind.Floats = add-fits binary32 _ (real d)
 
-power-fits : (x : Binary32) (n : ℕ) → T (fits binary32 (powerReal x n))
-unfolding powerReal
+power-fits : (x : Binary32) (n : ℕ) → T (fits binary32 (power_real x n))
+unfolding power_real
 power-fits x zero = of_int-fits binary32 (pos 1)
-power-fits x (suc n) = mul-fits binary32 (powerReal x n) x
+power-fits x (suc n) = mul-fits binary32 (power_real x n) x
 
 raised-fits : (p : Pair) (n : ℕ) → Fits (raised p n)
 raised-fits (Chars x y) n = wrapped-fits w8 (pow x n)
@@ -55,6 +55,6 @@ pub power-answers : (x y : Number) → Answers (power x y)
 unfolding power
 power-answers x y = go (exponent y)
   where
-    go : (e : Exponent) → Answers (raisedBy (promoted x y) e)
+    go : (e : Exponent) → Answers (raised_by (promoted x y) e)
     go (Is n) = raised-fits (promoted x y) n
     go Refused = tt

@@ -12,9 +12,9 @@ use Rattle.number.specs.Text.{text_of}
 use Rattle.operator.specs.declared.instruction.Types.{Types}
 use Rattle.disc.specs.Name.{trimmed}
 use Rattle.machine.specs.Effect.{newline, number, printed}
-use Rattle.machine.specs.Limits.{stackSize}
-use Rattle.machine.specs.Stack.{Item, Popped, popped, cannot, pop, popNumber, popString, push, pushItem, pushString, stringKind}
-use Rattle.machine.specs.Stack.{unlessFault, wellFormed}
+use Rattle.machine.specs.Limits.{stack_size}
+use Rattle.machine.specs.Stack.{Item, Popped, popped, cannot, pop, pop_number, pop_string, push, push_item, push_string, string_kind}
+use Rattle.machine.specs.Stack.{unless_fault, well_formed}
 use Rattle.buffer.proofs.ByteLists.{Bytes, IsByte, append-bytes, byte_at, one_byte, part_bytes, take-bytes}
 use Rattle.machine.proofs.Bytes.ByteTexts.{trimmed-bytes}
 use Rattle.buffer.proofs.Each.{Each}
@@ -29,14 +29,14 @@ abbrev pub PopsBytes : Popped → Type 0
 PopsBytes (popped item rest) = ByteItem item × Bytes rest
 PopsBytes (cannot fault) = Unit {0}
 
-unless-bytes : (b : Bool) (fault : ℕ) (p : Popped) → PopsBytes p → PopsBytes (unlessFault b fault p)
+unless-bytes : (b : Bool) (fault : ℕ) (p : Popped) → PopsBytes p → PopsBytes (unless_fault b fault p)
 unless-bytes true fault p h = h
 unless-bytes false fault p h = tt
 
 pub pop-bytes : (types : Types) (stack : List ℕ) → Bytes stack → PopsBytes (pop types stack)
-unfolding pop popString popNumber
+unfolding pop pop_string pop_number
 pop-bytes types stack h =
-    unless-bytes (leb 1 n) 5 _ (unless-bytes (includes types kind) 6 _ (by_kind (eqb kind stringKind)))
+    unless-bytes (leb 1 n) 5 _ (unless-bytes (includes types kind) 6 _ (by_kind (eqb kind string_kind)))
   where
     n : ℕ
     n = length stack
@@ -51,11 +51,11 @@ pop-bytes types stack h =
     taken : (k at size : ℕ) → IsByte k → PopsBytes (popped (record { kind = k; bytes = part stack at size }) (take at stack))
     taken k at size b = (record { kind = b; bytes = part_bytes stack at size h }, take-bytes at stack h)
 
-    by_kind : (string : Bool) → PopsBytes (cond string (popString stack n) (popNumber stack n kind))
+    by_kind : (string : Bool) → PopsBytes (cond string (pop_string stack n) (pop_number stack n kind))
     by_kind true =
         unless-bytes (leb 2 n) 5 _
         (unless-bytes (leb (len + 2) n) 5 _
-        (unless-bytes (wellFormed (part stack (n - 2 - len) len)) 6 _ (taken stringKind (n - 2 - len) len (omega arith))))
+        (unless-bytes (well_formed (part stack (n - 2 - len) len)) 6 _ (taken string_kind (n - 2 - len) len (omega arith))))
     by_kind false = unless-bytes (leb (kind + 1) n) 5 _ (taken kind (n - 1 - kind) kind (byte_at stack (n - 1) h))
 
 -- ---- pushing
@@ -63,25 +63,25 @@ pub push-bytes : (stack : List ℕ) (kind : ℕ) (bytes : List ℕ) → Bytes st
 push-bytes stack kind bytes h k b = append-bytes (stack ++ bytes) (kind ∷ []) (append-bytes stack bytes h b) (one_byte kind k)
 
 -- a string that fits on the stack has a length that fits in a byte
-pub push-string-bytes : (stack bytes : List ℕ) → Bytes stack → Bytes bytes → length (pushString stack bytes) ≤ stackSize
-    → Bytes (pushString stack bytes)
+pub push-string-bytes : (stack bytes : List ℕ) → Bytes stack → Bytes bytes → length (push_string stack bytes) ≤ stack_size
+    → Bytes (push_string stack bytes)
 unfolding Each
 push-string-bytes stack bytes h b fits =
-    let n : length (pushString stack bytes) ≡ length stack + length bytes + 2 = simp length-append (omega arith) in
-    append-bytes (stack ++ bytes) (length bytes ∷ stringKind ∷ []) (append-bytes stack bytes h b) (omega arith, (omega arith, tt))
+    let n : length (push_string stack bytes) ≡ length stack + length bytes + 2 = simp length-append (omega arith) in
+    append-bytes (stack ++ bytes) (length bytes ∷ string_kind ∷ []) (append-bytes stack bytes h b) (omega arith, (omega arith, tt))
 
 pub push-item-bytes : (stack : List ℕ) (kind : ℕ) (bytes : List ℕ) → Bytes stack → IsByte kind → Bytes bytes
-    → length (pushItem stack kind bytes) ≤ stackSize → Bytes (pushItem stack kind bytes)
-push-item-bytes stack kind bytes h k b = go (eqb kind stringKind)
+    → length (push_item stack kind bytes) ≤ stack_size → Bytes (push_item stack kind bytes)
+push-item-bytes stack kind bytes h k b = go (eqb kind string_kind)
   where
-    go : (string : Bool) → length (cond string (pushString stack bytes) (push stack kind bytes)) ≤ stackSize
-        → Bytes (cond string (pushString stack bytes) (push stack kind bytes))
+    go : (string : Bool) → length (cond string (push_string stack bytes) (push stack kind bytes)) ≤ stack_size
+        → Bytes (cond string (push_string stack bytes) (push stack kind bytes))
     go true fits = push-string-bytes stack bytes h b fits
     go false fits = push-bytes stack kind bytes h k b
 
 -- ---- printing
 pub printed-bytes : (item : Item) → ByteItem item → Bytes (printed item)
-printed-bytes item h = go (eqb item.kind stringKind)
+printed-bytes item h = go (eqb item.kind string_kind)
   where
     go : (string : Bool) → Bytes (cond string (trimmed item.bytes) (text_of (number item)))
     go true = trimmed-bytes item.bytes h.bytes

@@ -22,33 +22,33 @@ use Rattle.operator.specs.declared.operators.Operator.TheVariants.{OfOne, OfTwo,
 use Rattle.operator.specs.declared.operators.Scaling.TheVariants.{Constrain, Map, Power}
 use Rattle.scaling.specs.Map.{mapped}
 use Rattle.scaling.specs.Power.{power}
-use Rattle.variable.specs.Good.{goodSize}
+use Rattle.variable.specs.Good.{good_size}
 use Rattle.variable.specs.Table.{Cell}
-use Rattle.machine.specs.Effect.{Effect, goes, assigns, stops, faults, asks, unlessFaults, land, settle, withPopped, with_number}
-use Rattle.machine.specs.Effect.{with_outcome, withVariable, operates, number}
-use Rattle.machine.specs.Limits.{stackSize, turnRoom}
+use Rattle.machine.specs.Effect.{Effect, goes, assigns, stops, faults, asks, unless_faults, land, settle, with_popped, with_number}
+use Rattle.machine.specs.Effect.{with_outcome, with_variable, operates, number}
+use Rattle.machine.specs.Limits.{stack_size, turn_room}
 use Rattle.machine.specs.Stack.{Item, Popped, popped, cannot, pop}
-use Rattle.machine.specs.State.{Local, noLoop}
-use Rattle.machine.specs.Suppositions.{isBarred}
+use Rattle.machine.specs.State.{Local, no_loop}
+use Rattle.machine.specs.Suppositions.{is_barred}
 use Rattle.machine.proofs.Instructions.Popping.{Pops, TakenOff, pop-pops}
 use Rattle.machine.proofs.Instructions.Sound.{Asked, Within}
 
 -- the byte that is executed
-abbrev pub instructionByte : List ℕ → Local → ℕ
-instructionByte prog l = get_or prog l.pc 0
+abbrev pub instruction_byte : List ℕ → Local → ℕ
+instruction_byte prog l = get_or prog l.pc 0
 
 -- an effect that is sound where the process fits its record, assigns only by SET's byte, 5, and asks only by a byte that may
 unfoldable pub Does : List ℕ → Local → Effect → Type 0
-Does prog l (goes m out) = Within (length prog) l → Within (length prog) m × (length out ≤ turnRoom)
-Does prog l (assigns name kind bytes m) = (instructionByte prog l ≡ 5)
-    × (Within (length prog) l → Within (length prog) m × (goodSize kind (length bytes) ≡ true))
+Does prog l (goes m out) = Within (length prog) l → Within (length prog) m × (length out ≤ turn_room)
+Does prog l (assigns name kind bytes m) = (instruction_byte prog l ≡ 5)
+    × (Within (length prog) l → Within (length prog) m × (good_size kind (length bytes) ≡ true))
 Does prog l stops = Unit {0}
 Does prog l (faults n) = (1 ≤ n) × (n ≤ 9)
-Does prog l (asks r) = (isBarred (instructionByte prog l) ≡ true) × (Within (length prog) l → Asked prog l r)
+Does prog l (asks r) = (is_barred (instruction_byte prog l) ≡ true) × (Within (length prog) l → Asked prog l r)
 
 module _ (prog : List ℕ) (l : Local) where
   -- ---- the parts that instructions are made of
-  pub unless-does : (b : Bool) (n : ℕ) (e : Effect) → (1 ≤ n) × (n ≤ 9) → (b ≡ true → Does prog l e) → Does prog l (unlessFaults b n e)
+  pub unless-does : (b : Bool) (n : ℕ) (e : Effect) → (1 ≤ n) × (n ≤ 9) → (b ≡ true → Does prog l e) → Does prog l (unless_faults b n e)
   unfolding Does
   unless-does true n e f h = h refl
   unless-does false n e f h = f
@@ -59,11 +59,11 @@ module _ (prog : List ℕ) (l : Local) where
 
   pub popped-does : (types : Types) (stack : List ℕ) (next : Item → List ℕ → Effect)
       → ((item : Item) (rest : List ℕ) → pop types stack ≡ popped item rest → TakenOff types stack item rest → Does prog l (next item rest))
-      → Does prog l (withPopped (pop types stack) next)
+      → Does prog l (with_popped (pop types stack) next)
   unfolding Does Pops
   popped-does types stack next h = go (pop types stack) refl (pop-pops types stack)
     where
-      go : (p : Popped) → pop types stack ≡ p → Pops types stack p → Does prog l (withPopped p next)
+      go : (p : Popped) → pop types stack ≡ p → Pops types stack p → Does prog l (with_popped p next)
       go (popped item rest) e t = h item rest e t
       go (cannot n) e f = ⊎_elim (λ (q : n ≡ 5). (omega arith, omega arith)) (λ (q : n ≡ 6). (omega arith, omega arith)) f
 
@@ -84,7 +84,7 @@ module _ (prog : List ℕ) (l : Local) where
   outcome-does OutOfRange next h = (omega arith, omega arith)
 
   pub variable-does : (f : Found) (own : List Cell) (next : Cell → Effect) → ((c : Cell) → Does prog l (next c))
-      → Does prog l (withVariable f own next)
+      → Does prog l (with_variable f own next)
   unfolding Does
   variable-does Nowhere own next h = (omega arith, omega arith)
   variable-does (At i) own next h = h _
@@ -117,12 +117,12 @@ module _ (prog : List ℕ) (l : Local) where
 
   -- the tests at the end of an instruction: stack and PC fit whatever it did
   pub settle-does : (target : Found) (stack : List ℕ) (loopstart : ℕ) (out : List ℕ)
-      → (Within (length prog) l → ((loopstart ≡ noLoop) ⊎ (loopstart ≤ length prog)) × (length out ≤ turnRoom))
+      → (Within (length prog) l → ((loopstart ≡ no_loop) ⊎ (loopstart ≤ length prog)) × (length out ≤ turn_room))
       → Does prog l (settle prog target stack loopstart out)
   unfolding Does settle
-  settle-does target stack loopstart out h = unless-does (leb (length stack) stackSize) 4 _ (omega arith, omega arith) (lands target)
+  settle-does target stack loopstart out h = unless-does (leb (length stack) stack_size) 4 _ (omega arith, omega arith) (lands target)
     where
-      lands : (f : Found) → leb (length stack) stackSize ≡ true → Does prog l (land prog f stack loopstart out)
+      lands : (f : Found) → leb (length stack) stack_size ≡ true → Does prog l (land prog f stack loopstart out)
       lands Nowhere s = (omega arith, omega arith)
       lands (At pc) s = unless-does (leb pc (length prog)) 3 _ (omega arith, omega arith) λ p. λ w.
           (record { stack = leb-true _ _ s; pc = leb-true _ _ p; loop = (h w).0 }, (h w).1)

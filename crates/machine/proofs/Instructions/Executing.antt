@@ -12,17 +12,17 @@ use borrow.Author.Tests.{eqb-true, leb-true, ltb-true}
 use Rattle.buffer.specs.declared.Found.TheVariants.{At}
 use Rattle.buffer.specs.Lists.{index}
 use Rattle.buffer.proofs.Bools.{and_left, and_right, true-not-false}
-use Rattle.number.specs.Clock.{isAhead}
-use Rattle.number.specs.Value.{isZero}
+use Rattle.number.specs.Clock.{is_ahead}
+use Rattle.number.specs.Value.{is_zero}
 use Rattle.operator.specs.declared.instruction.Types.TheVariants.{AnyNumber, AnyString, AnyValue, CharOrInt}
 use Rattle.variable.specs.Table.{Cell}
 use Rattle.machine.specs.Effect.{Effect, goes, assigns, stops, faults, asks, Request, printed, newline}
 use Rattle.machine.specs.Asking.{reaches}
-use Rattle.machine.specs.Exec.{behind, exec, firstArgument, here, performs, secondArgument, withArguments}
-use Rattle.machine.specs.Instruction.{instructionOf}
-use Rattle.machine.specs.Stack.{stringText}
+use Rattle.machine.specs.Exec.{behind, exec, first_argument, here, performs, second_argument, with_arguments}
+use Rattle.machine.specs.Instruction.{instruction_of}
+use Rattle.machine.specs.Stack.{string_text}
 use Rattle.machine.specs.State.{Local}
-use Rattle.machine.specs.Suppositions.{isBarred}
+use Rattle.machine.specs.Suppositions.{is_barred}
 use Rattle.machine.specs.declared.instruction.Instruction.{Instruction}
 use Rattle.machine.specs.declared.instruction.Instruction.TheVariants.{Literal, StringLiteral, SetVariable, GetVariable, Operate}
 use Rattle.machine.specs.declared.instruction.Instruction.TheVariants.{DelayUntil, Millis, Print, JumpIf, EndIf, While, EndWhile}
@@ -30,9 +30,9 @@ use Rattle.machine.specs.declared.instruction.Instruction.TheVariants.{Loop, End
 use Rattle.machine.specs.declared.instruction.Reach.{Reach}
 use Rattle.machine.specs.declared.instruction.Reach.TheVariants.{OpenFile, CloseFile, WriteFile, ReadNumber, ReadString, Fork}
 use Rattle.machine.specs.declared.instruction.Reach.TheVariants.{WaitUntilDone}
-use Rattle.machine.proofs.Instructions.EffectParts.{Does, instructionByte, unless-does, either-does, popped-does, number-does}
+use Rattle.machine.proofs.Instructions.EffectParts.{Does, instruction_byte, unless-does, either-does, popped-does, number-does}
 use Rattle.machine.proofs.Instructions.EffectParts.{variable-does, operates-does, settle-does, onward-does}
-use Rattle.machine.proofs.Instructions.InstructionBytes.{isByteOf, asksBy, instruction-asks-by, reads-by}
+use Rattle.machine.proofs.Instructions.InstructionBytes.{is_byte_of, asks_by, instruction-asks-by, reads-by}
 use Rattle.machine.proofs.Instructions.Popping.{printed-short, string-lay, value-good-size}
 use Rattle.machine.proofs.Instructions.Sound.{Asked, Sound, Within}
 
@@ -56,10 +56,10 @@ module _ (prog : List ℕ) (l : Local) (inside : l.pc < length prog) where
       → Within (length prog) (here prog st ls l.pc pc rest)
   on-within rest h w = record { stack = omega (arith, w.stack); pc = omega arith; loop = w.loop }
 
-  arguments : (n : ℕ) (e : Effect) → (pc + n ≤ length prog → Does prog l e) → Does prog l (withArguments prog st ls l.pc n e)
+  arguments : (n : ℕ) (e : Effect) → (pc + n ≤ length prog → Does prog l e) → Does prog l (with_arguments prog st ls l.pc n e)
   arguments n e h = unless-does prog l (leb (pc + n) (length prog)) 2 e (omega arith, omega arith) λ t. h (leb-true _ _ t)
 
-  reaches-does : (r : Reach) → isBarred (instructionByte prog l) ≡ true → isByteOf (instructionByte prog l) r ≡ true
+  reaches-does : (r : Reach) → is_barred (instruction_byte prog l) ≡ true → is_byte_of (instruction_byte prog l) r ≡ true
       → Does prog l (reaches prog st ls l.pc r)
   unfolding Does Asked
   reaches-does OpenFile a h =
@@ -69,21 +69,21 @@ module _ (prog : List ℕ) (l : Local) (inside : l.pc < length prog) where
   reaches-does CloseFile a h = (a, λ w. (eqb-true _ _ h, on-within st (omega arith) w))
   reaches-does WriteFile a h = popped-does prog l AnyValue st _ λ x rest e t.
       (a, λ w. (eqb-true _ _ h, on-within rest (omega (arith, t.lay)) w))
-  reaches-does (ReadNumber kind) a h = (a, λ w. (reads-by (instructionByte prog l) h, on-within st (omega arith) w))
+  reaches-does (ReadNumber kind) a h = (a, λ w. (reads-by (instruction_byte prog l) h, on-within st (omega arith) w))
   reaches-does ReadString a h = (a, λ w. (eqb-true _ _ h, on-within st (omega arith) w))
   reaches-does Fork a h =
       popped-does prog l AnyString st _ λ name rest e t. (
         a,
         λ w. (
           eqb-true _ _ h,
-          sym (ap stringText e),
+          sym (ap string_text e),
           omega (arith, string-lay st name rest t, w.stack),
           on-within rest (omega (arith, t.lay)) w,
         ),
       )
   reaches-does WaitUntilDone a h = number-does prog l AnyNumber st _ λ x rest t. (a, λ w. (eqb-true _ _ h, refl, on-within rest t w))
 
-  performs-does : (clock : ℕ) (i : Instruction) (own : List Cell) → asksBy (instructionByte prog l) i ≡ true
+  performs-does : (clock : ℕ) (i : Instruction) (own : List Cell) → asks_by (instruction_byte prog l) i ≡ true
       → Does prog l (performs prog st ls l.pc clock i own)
   unfolding Does performs
   performs-does clock (Literal kind) own h = arguments kind _ λ a. onward-does prog l _ _
@@ -96,11 +96,11 @@ module _ (prog : List ℕ) (l : Local) (inside : l.pc < length prog) where
       )
   performs-does clock GetVariable own h =
       arguments 1 _ λ a.
-      variable-does prog l (index (λ c. eqb c.name (firstArgument prog st ls l.pc)) own) own _ λ c. onward-does prog l _ _
+      variable-does prog l (index (λ c. eqb c.name (first_argument prog st ls l.pc)) own) own _ λ c. onward-does prog l _ _
   performs-does clock (Operate o) own h = operates-does prog l o st _ λ s. onward-does prog l _ s
   performs-does clock DelayUntil own h =
       number-does prog l CharOrInt st _ λ x rest t.
-      either-does prog l (isAhead x clock) (goes l []) _ (λ w. (w, omega arith)) (onward-does prog l (At pc) rest)
+      either-does prog l (is_ahead x clock) (goes l []) _ (λ w. (w, omega arith)) (onward-does prog l (At pc) rest)
   performs-does clock Millis own h = onward-does prog l _ _
   performs-does clock (Print ends) own h =
       popped-does prog l AnyValue st _ λ x rest e t.
@@ -109,11 +109,11 @@ module _ (prog : List ℕ) (l : Local) (inside : l.pc < length prog) where
   performs-does clock (JumpIf zero) own h = arguments 1 _ λ a. number-does prog l AnyNumber st _ λ x rest t. onward-does prog l _ _
   performs-does clock EndIf own h = number-does prog l AnyNumber st _ λ x rest t. onward-does prog l _ _
   performs-does clock While own h =
-      let c : ℕ = firstArgument prog st ls l.pc in
-      let b : ℕ = secondArgument prog st ls l.pc in
+      let c : ℕ = first_argument prog st ls l.pc in
+      let b : ℕ = second_argument prog st ls l.pc in
       arguments 2 _ λ a.
       number-does prog l AnyNumber st _ λ x rest t.
-      either-does prog l (isZero x) _ _ (onward-does prog l (At (pc + 2 + (b + 1))) rest)
+      either-does prog l (is_zero x) _ _ (onward-does prog l (At (pc + 2 + (b + 1))) rest)
       (unless-does prog l (leb (c + b) 251) 8 _ (omega arith, omega arith) λ f.
       onward-does prog l (At (pc + 2)) (rest ++ ((c + b + 4) ∷ [])))
   performs-does clock EndWhile own h = unless-does prog l (leb 1 (length st)) 5 _ (omega arith, omega arith) λ a. onward-does prog l _ _
@@ -121,7 +121,7 @@ module _ (prog : List ℕ) (l : Local) (inside : l.pc < length prog) where
   performs-does clock EndLoop own h = onward-does prog l _ _
   performs-does clock Stop own h = tt
   performs-does clock (Beyond r) own h =
-      reaches-does r (and_left (isBarred (instructionByte prog l)) _ h) (and_right (isBarred (instructionByte prog l)) _ h)
+      reaches-does r (and_left (is_barred (instruction_byte prog l)) _ h) (and_right (is_barred (instruction_byte prog l)) _ h)
   performs-does clock Unknown own h = (omega arith, omega arith)
 
 exec-does : (prog : List ℕ) (clock : ℕ) (l : Local) (own : List Cell) → Does prog l (exec prog clock l own)
@@ -129,8 +129,8 @@ unfolding Does exec
 exec-does prog clock l own =
     unless-does prog l (ltb l.pc (length prog)) 2 _ (omega arith, omega arith) λ t.
     let inside : l.pc < length prog = ltb-true _ _ t in
-    performs-does prog l inside clock (instructionOf (instructionByte prog l)) own
-    (instruction-asks-by (instructionByte prog l))
+    performs-does prog l inside clock (instruction_of (instruction_byte prog l)) own
+    (instruction-asks-by (instruction_byte prog l))
 
 pub exec-sound : (prog : List ℕ) (clock : ℕ) (l : Local) (own : List Cell) → Within (length prog) l → Sound prog l (exec prog clock l own)
 unfolding Does Sound
@@ -144,7 +144,7 @@ exec-sound prog clock l own w = go (exec prog clock l own) (exec-does prog clock
     go (asks r) d = d.1 w
 
 -- a byte of no such instruction asks nothing
-pub exec-quiet : (prog : List ℕ) (clock : ℕ) (l : Local) (own : List Cell) → isBarred (get_or prog l.pc 0) ≡ false → (r : Request)
+pub exec-quiet : (prog : List ℕ) (clock : ℕ) (l : Local) (own : List Cell) → is_barred (get_or prog l.pc 0) ≡ false → (r : Request)
     → exec prog clock l own ≡ asks r → ⊥
 unfolding Does
 exec-quiet prog clock l own q r e =

@@ -8,11 +8,11 @@ use lib.Dec.{eqb}
 use borrow.Author.Tests.{eqb-true}
 use Rattle.buffer.specs.Lists.{all}
 use Rattle.buffer.proofs.Bools.{and_left, and_right}
-use Rattle.operator.specs.Instruction.{operatorOf}
+use Rattle.operator.specs.Instruction.{operator_of}
 use Rattle.operator.specs.declared.operators.Operator.{Operator}
 use Rattle.operator.specs.declared.operators.Operator.TheVariants.{OfOne, OfTwo, Scale, NotAnOperator}
-use Rattle.machine.specs.Instruction.{find, instructionOf, operatorOr, others}
-use Rattle.machine.specs.Suppositions.{isBarred}
+use Rattle.machine.specs.Instruction.{find, instruction_of, operator_or, others}
+use Rattle.machine.specs.Suppositions.{is_barred}
 use Rattle.machine.specs.declared.instruction.Instruction.{Instruction}
 use Rattle.machine.specs.declared.instruction.Instruction.TheVariants.{Literal, StringLiteral, SetVariable, GetVariable, Operate}
 use Rattle.machine.specs.declared.instruction.Instruction.TheVariants.{DelayUntil, Millis, Print, JumpIf, EndIf, While, EndWhile}
@@ -22,14 +22,14 @@ use Rattle.machine.specs.declared.instruction.Reach.TheVariants.{OpenFile, Close
 use Rattle.machine.specs.declared.instruction.Reach.TheVariants.{WaitUntilDone}
 use Rattle.buffer.proofs.Disjunctions.{or_cases}
 
-abbrev pub isByteOf : ℕ → Reach → Bool
-isByteOf b OpenFile = eqb b 53
-isByteOf b CloseFile = eqb b 54
-isByteOf b WriteFile = eqb b 55
-isByteOf b (ReadNumber kind) = eqb b 56 || (eqb b 57 || eqb b 58)
-isByteOf b ReadString = eqb b 59
-isByteOf b Fork = eqb b 68
-isByteOf b WaitUntilDone = eqb b 69
+abbrev pub is_byte_of : ℕ → Reach → Bool
+is_byte_of b OpenFile = eqb b 53
+is_byte_of b CloseFile = eqb b 54
+is_byte_of b WriteFile = eqb b 55
+is_byte_of b (ReadNumber kind) = eqb b 56 || (eqb b 57 || eqb b 58)
+is_byte_of b ReadString = eqb b 59
+is_byte_of b Fork = eqb b 68
+is_byte_of b WaitUntilDone = eqb b 69
 
 -- READINT, READCHAR, READFLOAT
 pub reads-by : (b : ℕ) → eqb b 56 || (eqb b 57 || eqb b 58) ≡ true → (b ≡ 56) ⊎ ((b ≡ 57) ⊎ (b ≡ 58))
@@ -39,24 +39,24 @@ reads-by b h =
     (or_cases (eqb b 56) (eqb b 57 || eqb b 58) h)
 
 -- the byte of SET, and of an instruction that asks; every other instruction assigns and asks nothing
-abbrev pub asksBy : ℕ → Instruction → Bool
-asksBy b (Literal kind) = true
-asksBy b StringLiteral = true
-asksBy b SetVariable = eqb b 5
-asksBy b GetVariable = true
-asksBy b (Operate o) = true
-asksBy b DelayUntil = true
-asksBy b Millis = true
-asksBy b (Print ends) = true
-asksBy b (JumpIf zero) = true
-asksBy b EndIf = true
-asksBy b While = true
-asksBy b EndWhile = true
-asksBy b Loop = true
-asksBy b EndLoop = true
-asksBy b Stop = true
-asksBy b (Beyond r) = isBarred b && isByteOf b r
-asksBy b Unknown = true
+abbrev pub asks_by : ℕ → Instruction → Bool
+asks_by b (Literal kind) = true
+asks_by b StringLiteral = true
+asks_by b SetVariable = eqb b 5
+asks_by b GetVariable = true
+asks_by b (Operate o) = true
+asks_by b DelayUntil = true
+asks_by b Millis = true
+asks_by b (Print ends) = true
+asks_by b (JumpIf zero) = true
+asks_by b EndIf = true
+asks_by b While = true
+asks_by b EndWhile = true
+asks_by b Loop = true
+asks_by b EndLoop = true
+asks_by b Stop = true
+asks_by b (Beyond r) = is_barred b && is_byte_of b r
+asks_by b Unknown = true
 
 -- what a test says of every row of a table and of no row, it says of what is found there
 find-all : (test : ℕ → Instruction → Bool) (n : ℕ) (table : List (ℕ × Instruction)) → test n Unknown ≡ true
@@ -73,16 +73,16 @@ find-all test n (row ∷ table) u h =
 
 -- of every operator, of every other instruction of the table and of none: so of the instruction of a byte
 pub instruction-all : (test : ℕ → Instruction → Bool) (b : ℕ) → ((o : Operator) → test b (Operate o) ≡ true) → test b Unknown ≡ true
-    → all (λ row. test row.0 row.1) others ≡ true → test b (instructionOf b) ≡ true
-unfolding instructionOf
-instruction-all test b p u h = go (operatorOf b)
+    → all (λ row. test row.0 row.1) others ≡ true → test b (instruction_of b) ≡ true
+unfolding instruction_of
+instruction-all test b p u h = go (operator_of b)
   where
-    go : (o : Operator) → test b (operatorOr o (find b others)) ≡ true
+    go : (o : Operator) → test b (operator_or o (find b others)) ≡ true
     go (OfOne o) = p (OfOne o)
     go (OfTwo o) = p (OfTwo o)
     go (Scale o) = p (Scale o)
     go NotAnOperator = find-all test b others u h
 
-pub instruction-asks-by : (b : ℕ) → asksBy b (instructionOf b) ≡ true
+pub instruction-asks-by : (b : ℕ) → asks_by b (instruction_of b) ≡ true
 unfolding all
-instruction-asks-by b = instruction-all asksBy b (λ o. refl) refl refl
+instruction-asks-by b = instruction-all asks_by b (λ o. refl) refl refl

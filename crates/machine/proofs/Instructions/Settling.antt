@@ -7,14 +7,14 @@ use borrow.Author.Tests.{le-leb, lt-leb}
 use Rattle.buffer.specs.declared.Found.{Found}
 use Rattle.buffer.specs.declared.Found.TheVariants.{At, Nowhere}
 use Rattle.machine.specs.Effect.{goes, faults, settle}
-use Rattle.machine.specs.Limits.{stackSize}
+use Rattle.machine.specs.Limits.{stack_size}
 
 module _ (prog stack : List ℕ) (loopstart : ℕ) (out : List ℕ) where
-  pub settle-full : (target : Found) → stackSize < length stack → settle prog target stack loopstart out ≡ faults 4
+  pub settle-full : (target : Found) → stack_size < length stack → settle prog target stack loopstart out ≡ faults 4
   unfolding settle
   settle-full target h = rw (lt-leb _ _ h)
 
-  module _ (h : length stack ≤ stackSize) where
+  module _ (h : length stack ≤ stack_size) where
     pub settle-nowhere : settle prog Nowhere stack loopstart out ≡ faults 3
     unfolding settle
     settle-nowhere = rw (le-leb _ _ h)

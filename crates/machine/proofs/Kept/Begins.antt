@@ -15,27 +15,27 @@ use Rattle.buffer.proofs.Bools.{true-not-false}
 use Rattle.buffer.proofs.Tables.{index_at}
 use Rattle.disc.specs.Directory.{entry_at, lookup}
 use Rattle.disc.specs.declared.Entry.{Entry}
-use Rattle.machine.specs.Limits.{idLimit}
-use Rattle.machine.specs.Start.{started, startedProcess, starting, start_in, starts}
-use Rattle.machine.specs.State.{endedSlot, isLive, noProcess, processAt}
+use Rattle.machine.specs.Limits.{id_limit}
+use Rattle.machine.specs.Start.{started, started_process, starting, start_in, starts}
+use Rattle.machine.specs.State.{ended_slot, is_live, no_process, process_at}
 use Rattle.machine.specs.declared.Kernel.{Kernel}
 
 -- Document 01, Run: "12 no ended slot, 10, 13 next ID is 32768. Takes the lowest ended slot"
 pub record Begins (name : List ℕ) (k : Kernel) (disc : List ℕ) (slot : ℕ) (e : Entry) : Type 0 where
-  pub lowest : endedSlot k ≡ At slot
+  pub lowest : ended_slot k ≡ At slot
   pub inside : slot < length k.processes
-  pub free : isLive (processAt k slot) ≡ false
+  pub free : is_live (process_at k slot) ≡ false
   pub file : ℕ
   pub found : lookup disc name ≡ At file
   pub entry : e ≡ entry_at disc file
-  pub unspent : k.next ≡ idLimit → ⊥
+  pub unspent : k.next ≡ id_limit → ⊥
 
 pub starting-begins : (name : List ℕ) (k : Kernel) (disc : List ℕ) (slot : ℕ) (e : Entry) → starting k disc name ≡ starts slot e
     → Begins name k disc slot e
-unfolding starting endedSlot
-starting-begins name k disc slot e = go (endedSlot k) refl (lookup disc name) refl (eqb k.next idLimit) refl
+unfolding starting ended_slot
+starting-begins name k disc slot e = go (ended_slot k) refl (lookup disc name) refl (eqb k.next id_limit) refl
   where
-    go : (f : Found) → endedSlot k ≡ f → (h : Found) → lookup disc name ≡ h → (b : Bool) → eqb k.next idLimit ≡ b
+    go : (f : Found) → ended_slot k ≡ f → (h : Found) → lookup disc name ≡ h → (b : Bool) → eqb k.next id_limit ≡ b
         → start_in f h b disc ≡ starts slot e → Begins name k disc slot e
     go Nowhere p h q b r t = absurd (let z : ◌≡◌ {A = ℕ} 0 1 = cc in omega arith)
     go (At s) p Nowhere q b r t = absurd (let z : ◌≡◌ {A = ℕ} 0 1 = cc in omega arith)
@@ -43,8 +43,8 @@ starting-begins name k disc slot e = go (endedSlot k) refl (lookup disc name) re
     go (At s) p (At i) q false r t =
         let same : s ≡ slot = cc in
         let that : e ≡ entry_at disc i = cc in
-        let here : endedSlot k ≡ At slot = p ∙ ap (λ (n : ℕ). At n) same in
-        let f = index_at (λ x. not (isLive x)) noProcess k.processes slot here in
+        let here : ended_slot k ≡ At slot = p ∙ ap (λ (n : ℕ). At n) same in
+        let f = index_at (λ x. not (is_live x)) no_process k.processes slot here in
         record {
           lowest = here;
           inside = f.inside;
@@ -52,27 +52,27 @@ starting-begins name k disc slot e = go (endedSlot k) refl (lookup disc name) re
           file = i;
           found = q;
           entry = that;
-          unspent = eqb-false k.next idLimit r;
+          unspent = eqb-false k.next id_limit r;
         }
 
 -- ---- the records after a start
 module _ {name : List ℕ} {k : Kernel} {disc : List ℕ} {slot : ℕ} {e : Entry} (b : Begins name k disc slot e) where
-  pub started-new : processAt (started k slot e) slot ≡ startedProcess e k.next
-  started-new = get_or-set_same k.processes slot (startedProcess e k.next) noProcess b.inside
+  pub started-new : process_at (started k slot e) slot ≡ started_process e k.next
+  started-new = get_or-set_same k.processes slot (started_process e k.next) no_process b.inside
 
-  pub started-other : (s : ℕ) → (s ≡ slot → ⊥) → processAt (started k slot e) s ≡ processAt k s
-  started-other s n = get_or-set_other k.processes slot s (startedProcess e k.next) noProcess n
+  pub started-other : (s : ℕ) → (s ≡ slot → ⊥) → process_at (started k slot e) s ≡ process_at k s
+  started-other s n = get_or-set_other k.processes slot s (started_process e k.next) no_process n
 
   -- a live process is in another slot
-  pub started-spares : (s : ℕ) → isLive (processAt k s) ≡ true → processAt (started k slot e) s ≡ processAt k s
-  started-spares s h = started-other s (λ w. true-not-false h (subst (λ (x : ℕ). isLive (processAt k x) ≡ false) (sym w) b.free))
+  pub started-spares : (s : ℕ) → is_live (process_at k s) ≡ true → process_at (started k slot e) s ≡ process_at k s
+  started-spares s h = started-other s (λ w. true-not-false h (subst (λ (x : ℕ). is_live (process_at k x) ≡ false) (sym w) b.free))
 
   -- each record is the new one or what it was
-  pub started-cases : (s : ℕ) → ((s ≡ slot) × (processAt (started k slot e) s ≡ startedProcess e k.next))
-      ⊎ (processAt (started k slot e) s ≡ processAt k s)
+  pub started-cases : (s : ℕ) → ((s ≡ slot) × (process_at (started k slot e) s ≡ started_process e k.next))
+      ⊎ (process_at (started k slot e) s ≡ process_at k s)
   started-cases s = go (eqb s slot) refl
     where
-      go : (t : Bool) → eqb s slot ≡ t → ((s ≡ slot) × (processAt (started k slot e) s ≡ startedProcess e k.next))
-          ⊎ (processAt (started k slot e) s ≡ processAt k s)
-      go true q = let w : s ≡ slot = eqb-true s slot q in inl (w, ap (processAt (started k slot e)) w ∙ started-new)
+      go : (t : Bool) → eqb s slot ≡ t → ((s ≡ slot) × (process_at (started k slot e) s ≡ started_process e k.next))
+          ⊎ (process_at (started k slot e) s ≡ process_at k s)
+      go true q = let w : s ≡ slot = eqb-true s slot q in inl (w, ap (process_at (started k slot e)) w ∙ started-new)
       go false q = inr (started-other s (eqb-false s slot q))

@@ -5,9 +5,9 @@ use mathlib.Core.List.{List, []}
 use Rattle.buffer.specs.declared.Found.TheVariants.{At}
 use Rattle.disc.specs.Directory.{entry_at, lookup}
 use Rattle.variable.specs.Table.{owned}
-use Rattle.machine.specs.Limits.{slotCount}
-use Rattle.machine.specs.Start.{startedProcess}
-use Rattle.machine.specs.State.{processAt}
+use Rattle.machine.specs.Limits.{slot_count}
+use Rattle.machine.specs.Start.{started_process}
+use Rattle.machine.specs.State.{process_at}
 use Rattle.machine.specs.declared.Kernel.{Kernel}
 
 pub record Begun (name : List ℕ) (i : ℕ) (disc : List ℕ) (j : Kernel) (after : List ℕ) : Type 0 where
@@ -15,6 +15,6 @@ pub record Begun (name : List ℕ) (i : ℕ) (disc : List ℕ) (j : Kernel) (aft
   pub slot : ℕ
   pub file : ℕ
   pub found : lookup disc name ≡ At file
-  pub process : processAt j slot ≡ startedProcess (entry_at disc file) i
-  pub inside : slot < slotCount
+  pub process : process_at j slot ≡ started_process (entry_at disc file) i
+  pub inside : slot < slot_count
   pub variables : owned j.variables i ≡ []

@@ -10,7 +10,7 @@ use Rattle.buffer.specs.declared.Found.TheVariants.{At, Nowhere}
 use Rattle.place.specs.declared.Run.{Run}
 use Rattle.disc.specs.Directory.{contents}
 use Rattle.variable.specs.Table.{owned}
-use Rattle.machine.specs.State.{isLive, processAt, slotOf}
+use Rattle.machine.specs.State.{is_live, process_at, slot_of}
 use Rattle.machine.specs.Turn.{program_of}
 use Rattle.machine.specs.declared.Kernel.{Kernel}
 use Rattle.machine.specs.declared.Process.{Process}
@@ -30,14 +30,14 @@ use Rattle.machine.proofs.Changes.Slots.{slot_is}
 
 -- the record, the variables and the place of the process in slot s are as they were
 pub record Untouched (s : ℕ) (k j : Kernel) : Type 0 where
-  pub process : processAt j s ≡ processAt k s
-  pub variables : owned j.variables (processAt k s).id ≡ owned k.variables (processAt k s).id
+  pub process : process_at j s ≡ process_at k s
+  pub variables : owned j.variables (process_at k s).id ≡ owned k.variables (process_at k s).id
 
 -- the process in slot w does no WRITE without fault into that file
 abbrev pub NoWriteInto : Run → ℕ → Kernel → List ℕ → Kernel → Type 0
 NoWriteInto file w k disc j =
-    get_or (program_of disc (processAt k w)) (processAt k w).pc 0 ≡ 55 → isLive (processAt j w) ≡ true
-    → (processAt k w).file.start ≡ file.start → (processAt k w).file.len ≡ file.len → ⊥
+    get_or (program_of disc (process_at k w)) (process_at k w).pc 0 ≡ 55 → is_live (process_at j w) ≡ true
+    → (process_at k w).file.start ≡ file.start → (process_at k w).file.len ≡ file.len → ⊥
 
 -- what a WRITE does to its process
 own-of-write : {w : ℕ} {k j : Kernel} {disc after : List ℕ} → Writes w k disc j after → Own w k disc j
@@ -55,10 +55,10 @@ module _ (name : List ℕ) (w : ℕ) (k : Kernel) (disc : List ℕ) (j : Kernel)
   change-good (writes x) = writes-good moved-good w k disc j after good x
 
   -- ---- a live process in another slot
-  module _ (s : ℕ) (live : isLive (processAt k s) ≡ true) where
+  module _ (s : ℕ) (live : is_live (process_at k s) ≡ true) where
     by-own : (m : Kernel) → GoodState m after → Spared s k disc m after → (s ≡ w → ⊥) → Own w m after j → Untouched s k j
     by-own m g u other x =
-        let l : isLive (processAt m s) ≡ true = ap isLive u.process ∙ live in
+        let l : is_live (process_at m s) ≡ true = ap is_live u.process ∙ live in
         let v = own-variables s g l other x in
         record {
           process = own-process s other x ∙ u.process;
@@ -77,8 +77,8 @@ module _ (name : List ℕ) (w : ℕ) (k : Kernel) (disc : List ℕ) (j : Kernel)
       → contents after file ≡ contents disc file
   change-contents file safe (acts m o still x) = outside-contents good file o
   change-contents file safe (writes x) =
-      let p : processAt j w ≡ x.process = ap (λ (h : Kernel). processAt h w) x.kernel ∙ put-at k w x.process x.goes.before in
-      writes-contents good x file.file (safe x.instruction (ap isLive p ∙ x.goes.live))
+      let p : process_at j w ≡ x.process = ap (λ (h : Kernel). process_at h w) x.kernel ∙ put-at k w x.process x.goes.before in
+      writes-contents good x file.file (safe x.instruction (ap is_live p ∙ x.goes.live))
 
   -- ---- IDs
   pub change-gone : (i : ℕ) → Gone i k → Change name w k disc j after → Gone i j
@@ -86,7 +86,8 @@ module _ (name : List ℕ) (w : ℕ) (k : Kernel) (disc : List ℕ) (j : Kernel)
   change-gone i g (writes x) = gone-after i g (own-of-write x)
 
   -- what a live process does starts at most another one, which is then as a start leaves it
-  pub change-begun : isLive (processAt k w) ≡ true → (i : ℕ) → slotOf k i ≡ Nowhere → Change name w k disc j after → (slotOf j i ≡ Nowhere)
+  pub change-begun : is_live (process_at k w) ≡ true → (i : ℕ) → slot_of k i ≡ Nowhere → Change name w k disc j after
+      → (slot_of j i ≡ Nowhere)
       ⊎ Begun name i disc j after
   change-begun live i none (writes x) = inl (own-none i none (own-of-write x))
   change-begun live i none (acts m o still x) = go (outside-begun i good none o)
@@ -94,15 +95,15 @@ module _ (name : List ℕ) (w : ℕ) (k : Kernel) (disc : List ℕ) (j : Kernel)
       g : GoodState m after
       g = outside-good name k disc m after good o
 
-      go : (slotOf m i ≡ Nowhere) ⊎ Begun name i disc m after → (slotOf j i ≡ Nowhere) ⊎ Begun name i disc j after
+      go : (slot_of m i ≡ Nowhere) ⊎ Begun name i disc m after → (slot_of j i ≡ Nowhere) ⊎ Begun name i disc j after
       go (inl e) = inl (own-none i e x)
       go (inr b) =
-          let l : isLive (processAt m b.slot) ≡ true = ap isLive b.process in
-          let d : (processAt m b.slot).id ≡ i = ap (λ (p : Process). p.id) b.process in
+          let l : is_live (process_at m b.slot) ≡ true = ap is_live b.process in
+          let d : (process_at m b.slot).id ≡ i = ap (λ (p : Process). p.id) b.process in
           let u = outside-spares good w live o in
           let other : b.slot ≡ w → ⊥ = λ e.
           no_place (sym (slot_is good w i live (ap (λ (p : Process). p.id) (sym u.process)
-          ∙ subst (λ (t : ℕ). (processAt m t).id ≡ i) e d)) ∙ none) in
+          ∙ subst (λ (t : ℕ). (process_at m t).id ≡ i) e d)) ∙ none) in
           inr
           (record {
             same-disc = b.same-disc;

@@ -2,9 +2,9 @@
 use Prim.Native.Nat.{ℕ, ◌<◌}
 use mathlib.Core.Path.{◌≡◌}
 use Rattle.buffer.specs.declared.Found.TheVariants.{Nowhere}
-use Rattle.machine.specs.State.{slotOf}
+use Rattle.machine.specs.State.{slot_of}
 use Rattle.machine.specs.declared.Kernel.{Kernel}
 
 pub record Gone (i : ℕ) (k : Kernel) : Type 0 where
   pub given : i < k.next
-  pub none : slotOf k i ≡ Nowhere
+  pub none : slot_of k i ≡ Nowhere

@@ -6,7 +6,7 @@ use mathlib.Core.List.{List}
 use native.Mathlib.Omega.{arith}
 use lib.ListN.{length}
 use Rattle.buffer.proofs.Bools.{and_left, true-not-false}
-use Rattle.disc.specs.Directory.{entry_at, fileCount, goodDisc}
+use Rattle.disc.specs.Directory.{entry_at, file_count, good_disc}
 use Rattle.disc.specs.declared.Entry.{Entry}
 use Rattle.disc.proofs.Lookups.{lookup-at}
 use Rattle.store.specs.File.{erased, stored}
@@ -14,8 +14,8 @@ use Rattle.store.proofs.Admissions.{Admitted}
 use Rattle.store.proofs.Changes.{erased-length, erased-to}
 use Rattle.store.proofs.Effects.{stored-found, stored-good, stored-length, stored-old}
 use Rattle.store.proofs.Invariant.{erased-good, present}
-use Rattle.machine.specs.Operations.{inUse, uses}
-use Rattle.machine.specs.State.{isLive, noProcess, processAt}
+use Rattle.machine.specs.Operations.{in_use, uses}
+use Rattle.machine.specs.State.{is_live, no_process, process_at}
 use Rattle.machine.specs.declared.Kernel.{Kernel}
 use Rattle.machine.proofs.Kept.Begins.{starting-begins}
 use Rattle.machine.proofs.Changes.Change.{GoodState, Outside, nothing, stores, erases, begins}
@@ -25,17 +25,17 @@ use Rattle.machine.proofs.Changes.Slots.{live_inside}
 use Rattle.machine.proofs.Kept.StartKept.{started-good}
 
 -- ---- the files that keep their entry
-module _ {disc : List ℕ} (i : ℕ) (h : i < fileCount disc) where
-  pub stored-again : {title : List ℕ} {s : ℕ} (bytes : List ℕ) → goodDisc disc ≡ true → Admitted disc title (length bytes) s
+module _ {disc : List ℕ} (i : ℕ) (h : i < file_count disc) where
+  pub stored-again : {title : List ℕ} {s : ℕ} (bytes : List ℕ) → good_disc disc ≡ true → Admitted disc title (length bytes) s
       → Again disc (stored disc title bytes s) i
   stored-again {title} {s} bytes good a =
       record {
         place = i;
-        inside = omega (arith, (lookup-at (stored disc title bytes s) title (fileCount disc) (stored-found bytes good a)).inside);
+        inside = omega (arith, (lookup-at (stored disc title bytes s) title (file_count disc) (stored-found bytes good a)).inside);
         same = stored-old bytes good a i h;
       }
 
-  pub erased-again : (m : ℕ) → goodDisc disc ≡ true → m < fileCount disc → (i ≡ m → ⊥) → Again disc (erased disc m) i
+  pub erased-again : (m : ℕ) → good_disc disc ≡ true → m < file_count disc → (i ≡ m → ⊥) → Again disc (erased disc m) i
   erased-again m good l other = let f = erased-to (present disc good m l) i h other in record { place = f.0; inside = f.1; same = f.2 }
 
 -- ---- store, and OPEN's new file
@@ -46,17 +46,17 @@ module _ {k : Kernel} {disc title : List ℕ} (g : GoodState k disc) where
       (λ slot i h u. stored-again i h bytes g.sound a)
 
 -- ---- erase: "11 a live process runs it or has it open"
-pub used-is-in-use : (k : Kernel) (e : Entry) (s : ℕ) → uses e (processAt k s) ≡ true → inUse k e ≡ true
-unfolding inUse
-used-is-in-use k e s u = any_at (uses e) k.processes s noProcess (live_inside k s (and_left (isLive (processAt k s)) _ u)) u
+pub used-is-in-use : (k : Kernel) (e : Entry) (s : ℕ) → uses e (process_at k s) ≡ true → in_use k e ≡ true
+unfolding in_use
+used-is-in-use k e s u = any_at (uses e) k.processes s no_process (live_inside k s (and_left (is_live (process_at k s)) _ u)) u
 
-pub erased-state-good : {k : Kernel} {disc : List ℕ} → GoodState k disc → (i : ℕ) → i < fileCount disc → inUse k (entry_at disc i) ≡ false
+pub erased-state-good : {k : Kernel} {disc : List ℕ} → GoodState k disc → (i : ℕ) → i < file_count disc → in_use k (entry_at disc i) ≡ false
     → GoodState k (erased disc i)
 erased-state-good {k} {disc} g i h unused =
     files-good (erased disc i) g (erased-length (present disc g.sound i h)) (erased-good disc g.sound i h)
     (λ s j m u. erased-again j m i g.sound h
     (λ w. true-not-false
-    (used-is-in-use k (entry_at disc i) s (subst (λ (x : ℕ). uses (entry_at disc x) (processAt k s) ≡ true) w u)) unused))
+    (used-is-in-use k (entry_at disc i) s (subst (λ (x : ℕ). uses (entry_at disc x) (process_at k s) ≡ true) w u)) unused))
 
 -- ---- the kinds
 pub outside-good : (name : List ℕ) (k : Kernel) (disc : List ℕ) (j : Kernel) (after : List ℕ) → GoodState k disc

@@ -5,13 +5,13 @@ use mathlib.Core.Path.{◌≡◌, ap, ◌∙◌, subst⁻¹}
 use mathlib.Core.Bool.{true}
 use mathlib.Core.List.{List}
 use Rattle.place.specs.declared.Run.{Run}
-use Rattle.disc.specs.Directory.{contents, entry_at, runOf}
+use Rattle.disc.specs.Directory.{contents, entry_at, run_of}
 use Rattle.buffer.proofs.Bools.{true-not-false}
 use Rattle.store.proofs.Contents.{erased-other-file}
 use Rattle.store.proofs.Effects.{stored-contents}
 use Rattle.variable.specs.Table.{owned}
 use Rattle.machine.specs.Operations.{uses}
-use Rattle.machine.specs.State.{isLive, processAt}
+use Rattle.machine.specs.State.{is_live, process_at}
 use Rattle.machine.specs.declared.Kernel.{Kernel}
 use Rattle.machine.proofs.Kept.Begins.{started-spares, starting-begins}
 use Rattle.machine.proofs.Changes.Change.{GoodState, Outside, nothing, stores, erases, begins}
@@ -27,31 +27,31 @@ module _ {k : Kernel} {disc : List ℕ} (g : GoodState k disc) {name : List ℕ}
       place : ℕ
       place = x.file.place
 
-      same : {d : List ℕ} → after ≡ d → contents after (runOf (entry_at disc place)) ≡ contents d (runOf (entry_at disc place))
-      same f = ap (λ (d : List ℕ). contents d (runOf (entry_at disc place))) f
+      same : {d : List ℕ} → after ≡ d → contents after (run_of (entry_at disc place)) ≡ contents d (run_of (entry_at disc place))
+      same f = ap (λ (d : List ℕ). contents d (run_of (entry_at disc place))) f
 
-      kinds : Outside name k disc j after → contents after (runOf (entry_at disc place)) ≡ contents disc (runOf (entry_at disc place))
+      kinds : Outside name k disc j after → contents after (run_of (entry_at disc place)) ≡ contents disc (run_of (entry_at disc place))
       kinds (nothing e f) = same f
       kinds (stores title bytes at a e f) = same f ∙ stored-contents bytes g.sound a place x.file.inside
       kinds (erases i m u e f) =
           same f
           ∙ erased-other-file disc g.sound place x.file.inside i m
           (λ q. true-not-false (used-is-in-use k (entry_at disc i) x.user
-          (subst⁻¹ (λ (n : ℕ). uses (entry_at disc n) (processAt k x.user) ≡ true) q x.used)) u)
+          (subst⁻¹ (λ (n : ℕ). uses (entry_at disc n) (process_at k x.user) ≡ true) q x.used)) u)
       kinds (begins slot d t e f) = same f
 
-  module _ (s : ℕ) (h : isLive (processAt k s) ≡ true) where
-    record-kept : Outside name k disc j after → processAt j s ≡ processAt k s
-    record-kept (nothing e f) = ap (λ (x : Kernel). processAt x s) e
-    record-kept (stores title bytes at a e f) = ap (λ (x : Kernel). processAt x s) e
-    record-kept (erases i m u e f) = ap (λ (x : Kernel). processAt x s) e
-    record-kept (begins slot d t e f) = ap (λ (x : Kernel). processAt x s) e ∙ started-spares (starting-begins name k disc slot d t) s h
+  module _ (s : ℕ) (h : is_live (process_at k s) ≡ true) where
+    record-kept : Outside name k disc j after → process_at j s ≡ process_at k s
+    record-kept (nothing e f) = ap (λ (x : Kernel). process_at x s) e
+    record-kept (stores title bytes at a e f) = ap (λ (x : Kernel). process_at x s) e
+    record-kept (erases i m u e f) = ap (λ (x : Kernel). process_at x s) e
+    record-kept (begins slot d t e f) = ap (λ (x : Kernel). process_at x s) e ∙ started-spares (starting-begins name k disc slot d t) s h
 
-    variables-kept : Outside name k disc j after → owned j.variables (processAt k s).id ≡ owned k.variables (processAt k s).id
-    variables-kept (nothing e f) = ap (λ (x : Kernel). owned x.variables (processAt k s).id) e
-    variables-kept (stores title bytes at a e f) = ap (λ (x : Kernel). owned x.variables (processAt k s).id) e
-    variables-kept (erases i m u e f) = ap (λ (x : Kernel). owned x.variables (processAt k s).id) e
-    variables-kept (begins slot d t e f) = ap (λ (x : Kernel). owned x.variables (processAt k s).id) e
+    variables-kept : Outside name k disc j after → owned j.variables (process_at k s).id ≡ owned k.variables (process_at k s).id
+    variables-kept (nothing e f) = ap (λ (x : Kernel). owned x.variables (process_at k s).id) e
+    variables-kept (stores title bytes at a e f) = ap (λ (x : Kernel). owned x.variables (process_at k s).id) e
+    variables-kept (erases i m u e f) = ap (λ (x : Kernel). owned x.variables (process_at k s).id) e
+    variables-kept (begins slot d t e f) = ap (λ (x : Kernel). owned x.variables (process_at k s).id) e
 
     pub outside-spares : Outside name k disc j after → Spared s k disc j after
     outside-spares o =

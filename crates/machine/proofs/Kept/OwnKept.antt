@@ -9,18 +9,18 @@ use Rattle.buffer.specs.Lists.{any, same}
 use Rattle.buffer.proofs.Bools.{true-not-false}
 use Rattle.place.specs.declared.Run.{Run}
 use Rattle.disc.specs.Directory.{files}
-use Rattle.variable.specs.Assign.{assigned, valueBytes}
-use Rattle.variable.specs.Good.{goodSize, goodVariables}
-use Rattle.variable.specs.Table.{Shaped, freedAll, owned_by}
+use Rattle.variable.specs.Assign.{assigned, value_bytes}
+use Rattle.variable.specs.Good.{good_size, good_variables}
+use Rattle.variable.specs.Table.{Shaped, freed_all, owned_by}
 use Rattle.variable.specs.declared.Value.{Value}
 use Rattle.variable.specs.declared.Variables.{Variables}
 use Rattle.variable.proofs.Freeing.{freed-shaped}
 use Rattle.variable.proofs.Goodness.{assigned-good, freed-all-good, good-variables-is}
 use Rattle.variable.proofs.Setting.{assigned-shaped}
-use Rattle.machine.specs.GoodArea.{goodProcess, isProgram}
-use Rattle.machine.specs.Limits.{slotCount}
-use Rattle.machine.specs.Ended.{ended, endedProcess}
-use Rattle.machine.specs.State.{isLive, liveIds, processAt, withProcess, withVariables}
+use Rattle.machine.specs.GoodArea.{good_process, is_program}
+use Rattle.machine.specs.Limits.{slot_count}
+use Rattle.machine.specs.Ended.{ended, ended_process}
+use Rattle.machine.specs.State.{is_live, live_ids, process_at, with_process, with_variables}
 use Rattle.machine.specs.declared.Kernel.{Kernel}
 use Rattle.machine.specs.declared.Process.{Process}
 use Rattle.machine.proofs.Changes.Change.{GoesOn, GoodState, Own, stays, moves, sets, ends}
@@ -34,18 +34,18 @@ use Rattle.machine.proofs.Changes.Slots.{live_inside}
 -- ---- a record replaced, and a table of variables
 module _ (k : Kernel) (disc : List ℕ) (w : ℕ) (q : Process) (v : Variables) where
   -- q is the live process that was there, or not live
-  pub replaced-good : GoodState k disc → (w < slotCount → SizedProcess q) → goodProcess (files disc) k.next q ≡ true
-      → (isLive q ≡ true → (isLive (processAt k w) ≡ true) × (q.id ≡ (processAt k w).id))
-      → Shaped v → goodVariables (liveIds (withProcess k w q)) v ≡ true
-      → GoodState (withVariables (withProcess k w q) v) disc
+  pub replaced-good : GoodState k disc → (w < slot_count → SizedProcess q) → good_process (files disc) k.next q ≡ true
+      → (is_live q ≡ true → (is_live (process_at k w) ≡ true) × (q.id ≡ (process_at k w).id))
+      → Shaped v → good_variables (live_ids (with_process k w q)) v ≡ true
+      → GoodState (with_variables (with_process k w q) v) disc
   replaced-good good size record-good heir shaped owners =
       let g = good-kernel-is (files disc) k good.area in
       record {
-        sized = with-variables-sized (withProcess k w q) (with-process-sized k good.sized w q size) v shaped;
+        sized = with-variables-sized (with_process k w q) (with-process-sized k good.sized w q size) v shaped;
         long = good.long;
         sound = good.sound;
         area =
-            is-good-kernel (files disc) (withVariables (withProcess k w q) v)
+            is-good-kernel (files disc) (with_variables (with_process k w q) v)
             (record {
               variables = owners;
               header = record { zeros = g.header.zeros; low = g.header.low; high = g.header.high };
@@ -55,14 +55,14 @@ module _ (k : Kernel) (disc : List ℕ) (w : ℕ) (q : Process) (v : Variables) 
       }
 
 -- ---- going on
-module _ (k : Kernel) (disc : List ℕ) (w : ℕ) (q : Process) (good : GoodState k disc) (goes : GoesOn disc (processAt k w) q) where
+module _ (k : Kernel) (disc : List ℕ) (w : ℕ) (q : Process) (good : GoodState k disc) (goes : GoesOn disc (process_at k w) q) where
   inside : w < length k.processes
   inside = live_inside k w goes.before
 
-  going-record : goodProcess (files disc) k.next q ≡ true
-  unfolding isProgram
+  going-record : good_process (files disc) k.next q ≡ true
+  unfolding is_program
   going-record =
-      let old = good-live-of (files disc) k.next (processAt k w) (good-process-at (files disc) k good.area w inside) goes.before in
+      let old = good-live-of (files disc) k.next (process_at k w) (good-process-at (files disc) k good.area w inside) goes.before in
       live-good (files disc) k.next q goes.live
       (record {
         low = subst⁻¹ (λ (n : ℕ). 1 ≤ n) goes.id old.low;
@@ -76,44 +76,44 @@ module _ (k : Kernel) (disc : List ℕ) (w : ℕ) (q : Process) (good : GoodStat
       listed name code = any (λ e. same name e.name && (eqb code.start e.start && eqb code.len e.len)) (files disc)
 
   -- its ID is live as before
-  going-ids : (owner : ℕ) → any (eqb owner) (liveIds k) ≡ true → any (eqb owner) (liveIds (withProcess k w q)) ≡ true
+  going-ids : (owner : ℕ) → any (eqb owner) (live_ids k) ≡ true → any (eqb owner) (live_ids (with_process k w q)) ≡ true
   going-ids owner = live-id-kept k w q owner (λ h n. (goes.live, goes.id ∙ n))
 
-  going-good : (v : Variables) → Shaped v → goodVariables (liveIds k) v ≡ true → GoodState (withVariables (withProcess k w q) v) disc
+  going-good : (v : Variables) → Shaped v → good_variables (live_ids k) v ≡ true → GoodState (with_variables (with_process k w q) v) disc
   going-good v shaped owners =
       replaced-good k disc w q v good
       (λ m. record { name = ap length goes.name ∙ (good.sized.each w m).name; stack = goes.stack })
       going-record
       (λ h. (goes.before, goes.id))
       shaped
-      (still-owned (liveIds k) (liveIds (withProcess k w q)) v going-ids owners)
+      (still-owned (live_ids k) (live_ids (with_process k w q)) v going-ids owners)
 
-  pub moved-good : GoodState (withProcess k w q) disc
+  pub moved-good : GoodState (with_process k w q) disc
   moved-good = going-good k.variables good.sized.variables (good-kernel-is (files disc) k good.area).variables
 
-  pub set-good : (name : ℕ) (x : Value) → goodSize x.kind x.size ≡ true → length (valueBytes x) ≡ x.size
-      → GoodState (withVariables (withProcess k w q) (assigned k.variables name (processAt k w).id x).variables) disc
+  pub set-good : (name : ℕ) (x : Value) → good_size x.kind x.size ≡ true → length (value_bytes x) ≡ x.size
+      → GoodState (with_variables (with_process k w q) (assigned k.variables name (process_at k w).id x).variables) disc
   set-good name x size sized =
       let table = (good-kernel-is (files disc) k good.area).variables in
-      going-good (assigned k.variables name (processAt k w).id x).variables
-      (assigned-shaped k.variables name (processAt k w).id x good.sized.variables
-      (good-variables-is (liveIds k) k.variables table).few sized)
-      (assigned-good (liveIds k) k.variables name (processAt k w).id x good.sized.variables sized table size
-      (is-live-id k (processAt k w).id w goes.before refl))
+      going-good (assigned k.variables name (process_at k w).id x).variables
+      (assigned-shaped k.variables name (process_at k w).id x good.sized.variables
+      (good-variables-is (live_ids k) k.variables table).few sized)
+      (assigned-good (live_ids k) k.variables name (process_at k w).id x good.sized.variables sized table size
+      (is-live-id k (process_at k w).id w goes.before refl))
 
 -- ---- ending
 pub ended-state-good : (k : Kernel) (disc : List ℕ) (w fault : ℕ) → GoodState k disc → GoodState (ended k w fault) disc
 unfolding ended
 ended-state-good k disc w fault good =
-    let p : Process = processAt k w in
-    let q : Process = endedProcess p fault in
+    let p : Process = process_at k w in
+    let q : Process = ended_process p fault in
     let table = (good-kernel-is (files disc) k good.area).variables in
-    replaced-good k disc w q (freedAll k.variables p.id) good
+    replaced-good k disc w q (freed_all k.variables p.id) good
     (λ m. ended-process-sized p (good.sized.each w m) fault)
     (ended-good (files disc) k.next q refl)
     (λ h. absurd (true-not-false h refl))
-    (freed-shaped k.variables (owned_by p.id) (good-variables-is (liveIds k) k.variables table).few good.sized.variables)
-    (freed-all-good (liveIds k) (liveIds (withProcess k w q)) k.variables p.id table
+    (freed-shaped k.variables (owned_by p.id) (good-variables-is (live_ids k) k.variables table).few good.sized.variables)
+    (freed-all-good (live_ids k) (live_ids (with_process k w q)) k.variables p.id table
     (λ owner other t. live-id-kept k w q owner (λ h n. absurd (other (sym n))) t))
 
 -- ---- all of them

@@ -13,22 +13,22 @@ use Rattle.buffer.specs.Buffer.{overwrite}
 use Rattle.buffer.specs.Lists.{flat}
 use Rattle.buffer.specs.declared.Found.{Found}
 use Rattle.buffer.specs.declared.Found.TheVariants.{At, Nowhere}
-use Rattle.disc.specs.Directory.{contents, entry_at, files as entries, isDiscLength, lookup, runOf}
-use Rattle.store.specs.Answer.{Reported, fileLine, filesAnswer, reported, retrieveAnswer, retrieveAt}
+use Rattle.disc.specs.Directory.{contents, entry_at, files as entries, is_disc_length, lookup, run_of}
+use Rattle.store.specs.Answer.{Reported, file_line, files_answer, reported, retrieve_answer, retrieve_at}
 use Rattle.store.specs.File.{unless}
 use Rattle.store.specs.declared.Answer.TheVariants.{Done, Refused}
 use Rattle.store.specs.declared.Refusal.TheVariants.{ShortOutput}
 use Rattle.store.proofs.Checks.{by-checks}
 use Rattle.store.proofs.Contents.{contents-length}
-use Rattle.machine.specs.Answer.{Answer, Buffers, Other, store, retrieve, erase, files, freeSpace, list, Call, turn, round}
-use Rattle.machine.specs.Answer.{command, share, run, other, answer, bootAnswer, commandAnswer, eraseAt, formatAnswer, onGood}
-use Rattle.machine.specs.Answer.{otherAnswer, refused, run_at}
-use Rattle.machine.specs.Area.{isAreaLength, kernelOf}
+use Rattle.machine.specs.Answer.{Answer, Buffers, Other, store, retrieve, erase, files, free_space, list, Call, turn, round}
+use Rattle.machine.specs.Answer.{command, share, run, other, answer, boot_answer, command_answer, erase_at, format_answer, on_good}
+use Rattle.machine.specs.Answer.{other_answer, refused, run_at}
+use Rattle.machine.specs.Area.{is_area_length, kernel_of}
 use Rattle.machine.specs.LeftAlone.{Keeps, SameArea, SameDisc, SameOut}
-use Rattle.machine.specs.Limits.{roundRoom, slotCount, turnRoom}
-use Rattle.machine.specs.Operations.{Commanded, becomes, refused as declined, commanded, inUse, listText, roundOf, shared}
+use Rattle.machine.specs.Limits.{round_room, slot_count, turn_room}
+use Rattle.machine.specs.Operations.{Commanded, becomes, refused as declined, commanded, in_use, list_text, round_of, shared}
 use Rattle.machine.specs.Start.{Starting, starts, refuses, starting}
-use Rattle.machine.specs.State.{isRunning, processAt}
+use Rattle.machine.specs.State.{is_running, process_at}
 use Rattle.machine.specs.Turn.{turned}
 use Rattle.machine.specs.declared.Kernel.{Kernel}
 use Rattle.machine.proofs.Operations.Tests.{on-tests, tried}
@@ -52,7 +52,7 @@ module _ (b : Buffers) where
   Leaves c a = Keeps c a b × Behind a.number a.out
 
   k : Kernel
-  k = kernelOf b.area
+  k = kernel_of b.area
 
   still : (number : ℤ) → Behind number b.out
   still number n e j h = refl
@@ -71,46 +71,46 @@ module _ (b : Buffers) where
   abbrev Reports : Reported → Type 0
   Reports r = Behind r.number r.out
 
-  retrieve-behind : (name : List ℕ) → Reports (retrieveAnswer b.disc name b.out)
-  unfolding retrieveAnswer
+  retrieve-behind : (name : List ℕ) → Reports (retrieve_answer b.disc name b.out)
+  unfolding retrieve_answer
   retrieve-behind name = by-checks b.disc Reports _ _ (λ e. still _) (λ e. still _) (λ l g. found (lookup b.disc name))
     where
-      found : (f : Found) → Reports (retrieveAt f b.disc b.out)
+      found : (f : Found) → Reports (retrieve_at f b.disc b.out)
       found Nowhere = still _
       found (At i) =
           let e = entry_at b.disc i in
-          reports (leb e.len (length b.out)) e.len (contents b.disc (runOf e)) (omega (arith, contents-length b.disc (runOf e)))
+          reports (leb e.len (length b.out)) e.len (contents b.disc (run_of e)) (omega (arith, contents-length b.disc (run_of e)))
 
-  files-behind : Reports (filesAnswer b.disc b.out)
-  unfolding filesAnswer
+  files-behind : Reports (files_answer b.disc b.out)
+  unfolding files_answer
   files-behind =
-      let text : List ℕ = flat fileLine (entries b.disc) in
+      let text : List ℕ = flat file_line (entries b.disc) in
       by-checks b.disc Reports _ _ (λ e. still _) (λ e. still _)
       (λ l g. reports (leb (length text) (length b.out)) (length text) text (le_refl (length text)))
 
   -- ---- operations on both buffers: what holds of a refused answer, and of one that passed, holds
-  both : (c : Call) (rest : Answer) → ((n : ℕ) → Keeps c (refused n b) b) → Leaves c rest → Leaves c (onGood b rest)
+  both : (c : Call) (rest : Answer) → ((n : ℕ) → Keeps c (refused n b) b) → Leaves c rest → Leaves c (on_good b rest)
   both c rest same h = on-tests (Leaves c) b rest (same 1, still _) (same 2, still _) (same 3, still _) λ p. h
 
   other-leaves : (o : Other) → Leaves (other o) (answer (other o) b)
-  unfolding answer otherAnswer k
+  unfolding answer other_answer k
   other-leaves (store name bytes) = ((refl, refl), still _)
   other-leaves (retrieve name) = ((refl, refl), retrieve-behind name)
   other-leaves (erase name) = both (other (erase name)) _ (λ n. (refl, refl)) (found (lookup b.disc name))
     where
-      found : (f : Found) → Leaves (other (erase name)) (eraseAt f k b)
+      found : (f : Found) → Leaves (other (erase name)) (erase_at f k b)
       found Nowhere = ((refl, refl), still _)
       found (At i) =
-          tried (Leaves (other (erase name))) b (not (inUse k (entry_at b.disc i))) 11 _ ((refl, refl), still _) λ free.
+          tried (Leaves (other (erase name))) b (not (in_use k (entry_at b.disc i))) 11 _ ((refl, refl), still _) λ free.
           ((refl, refl), still _)
   other-leaves files = ((refl, refl), files-behind)
-  other-leaves freeSpace = ((refl, refl, refl), still _)
+  other-leaves free_space = ((refl, refl, refl), still _)
   other-leaves list =
       both (other list) _ (λ n. (refl, refl))
-      (tried (Leaves (other list)) b (leb (length (listText k)) (length b.out)) 4 _ ((refl, refl), still _) λ fit.
-      ((refl, refl), wrote (length (listText k)) (listText k) (le_refl (length (listText k)))))
+      (tried (Leaves (other list)) b (leb (length (list_text k)) (length b.out)) 4 _ ((refl, refl), still _) λ fit.
+      ((refl, refl), wrote (length (list_text k)) (list_text k) (le_refl (length (list_text k)))))
 
-  commanded-leaves : (r : Commanded) → let a = commandAnswer r b in (SameDisc a b × SameOut a b) × Behind a.number a.out
+  commanded-leaves : (r : Commanded) → let a = command_answer r b in (SameDisc a b × SameOut a b) × Behind a.number a.out
   commanded-leaves (declined n) = ((refl, refl), still _)
   commanded-leaves (becomes j) = ((refl, refl), still _)
 
@@ -119,13 +119,13 @@ module _ (b : Buffers) where
   call-leaves (turn slot clock) =
       let text : List ℕ = (turned k slot clock b.disc).out in
       both (turn slot clock) _ (λ n. tt)
-      (tried (Leaves (turn slot clock)) b (leb turnRoom (length b.out)) 4 _ (tt, still _) λ fit.
-      tried (Leaves (turn slot clock)) b (ltb slot slotCount && isRunning (processAt k slot)) 16 _ (tt, still _) λ may.
+      (tried (Leaves (turn slot clock)) b (leb turn_room (length b.out)) 4 _ (tt, still _) λ fit.
+      tried (Leaves (turn slot clock)) b (ltb slot slot_count && is_running (process_at k slot)) 16 _ (tt, still _) λ may.
       (tt, wrote (length text) text (le_refl (length text))))
   call-leaves (round clock) =
-      let text : List ℕ = (roundOf k clock b.disc).out in
+      let text : List ℕ = (round_of k clock b.disc).out in
       both (round clock) _ (λ n. tt)
-      (tried (Leaves (round clock)) b (leb roundRoom (length b.out)) 4 _ (tt, still _) λ fit.
+      (tried (Leaves (round clock)) b (leb round_room (length b.out)) 4 _ (tt, still _) λ fit.
       (tt, wrote (length text) text (le_refl (length text))))
   call-leaves (command c id) = both (command c id) _ (λ n. (refl, refl)) (commanded-leaves (commanded c id k))
   call-leaves (share id turns) = both (share id turns) _ (λ n. (refl, refl)) (commanded-leaves (shared id turns k))
@@ -142,14 +142,14 @@ module _ (b : Buffers) where
   other-area (retrieve name) = (call-leaves (other (retrieve name))).0.1
   other-area (erase name) = (call-leaves (other (erase name))).0.0
   other-area files = (call-leaves (other files)).0.1
-  other-area freeSpace = (call-leaves (other freeSpace)).0.1
+  other-area free_space = (call-leaves (other free_space)).0.1
   other-area list = (call-leaves (other list)).0.1
 
   -- ---- format and boot
-  pub boot-keeps : SameDisc (bootAnswer b) b × SameOut (bootAnswer b) b
-  unfolding bootAnswer
-  boot-keeps = tried (λ a. SameDisc a b × SameOut a b) b (isAreaLength (length b.area)) 1 _ (refl, refl) λ e. (refl, refl)
+  pub boot-keeps : SameDisc (boot_answer b) b × SameOut (boot_answer b) b
+  unfolding boot_answer
+  boot-keeps = tried (λ a. SameDisc a b × SameOut a b) b (is_area_length (length b.area)) 1 _ (refl, refl) λ e. (refl, refl)
 
-  pub format-keeps : SameOut (formatAnswer b) b
-  unfolding formatAnswer
-  format-keeps = tried (λ a. SameOut a b) b (isDiscLength (length b.disc) && isAreaLength (length b.area)) 1 _ refl λ e. refl
+  pub format-keeps : SameOut (format_answer b) b
+  unfolding format_answer
+  format-keeps = tried (λ a. SameOut a b) b (is_disc_length (length b.disc) && is_area_length (length b.area)) 1 _ refl λ e. refl

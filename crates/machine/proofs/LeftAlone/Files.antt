@@ -12,31 +12,31 @@ use Rattle.buffer.specs.declared.Found.{Found}
 use Rattle.buffer.specs.declared.Found.TheVariants.{At, Nowhere}
 use Rattle.buffer.proofs.Bools.{and_left, and_right, true-not-false}
 use Rattle.place.specs.declared.Run.{Run}
-use Rattle.disc.specs.Directory.{FileAt, contents, entry_at, fileCount, goodDisc, isDiscLength, lookup, runOf}
+use Rattle.disc.specs.Directory.{FileAt, contents, entry_at, file_count, good_disc, is_disc_length, lookup, run_of}
 use Rattle.disc.specs.declared.Entry.{Entry}
 use Rattle.disc.proofs.Lengths.{readable}
 use Rattle.disc.proofs.Goodness.{good-disc-is}
 use Rattle.disc.proofs.Lookups.{Located, located-once, lookup-at}
 use Rattle.disc.specs.Offsets.{bytes_of, size_of, start_of}
 use Rattle.disc.proofs.Offsets.{bytes-of, entry-size, entry-start}
-use Rattle.store.specs.File.{erased, stored, writtenAt}
+use Rattle.store.specs.File.{erased, stored, written_at}
 use Rattle.store.proofs.Admissions.{Admitted}
 use Rattle.store.proofs.Calls.{store-cases}
 use Rattle.store.proofs.Changes.{Inside, written_count, written_entry}
 use Rattle.store.proofs.Contents.{erased-other-file, written-other-file}
 use Rattle.store.proofs.Effects.{stored-contents}
 use Rattle.store.proofs.Invariant.{file-inside}
-use Rattle.machine.specs.Answer.{Answer, Buffers, Other, store, retrieve, erase, files, freeSpace, list, Call, turn, round}
-use Rattle.machine.specs.Answer.{command, share, run, other, answer, eraseAt, otherAnswer}
-use Rattle.machine.specs.Area.{kernelOf}
-use Rattle.machine.specs.AtPc.{byteAhead}
-use Rattle.machine.specs.Beyond.{fileRun}
+use Rattle.machine.specs.Answer.{Answer, Buffers, Other, store, retrieve, erase, files, free_space, list, Call, turn, round}
+use Rattle.machine.specs.Answer.{command, share, run, other, answer, erase_at, other_answer}
+use Rattle.machine.specs.Area.{kernel_of}
+use Rattle.machine.specs.AtPc.{byte_ahead}
+use Rattle.machine.specs.Beyond.{file_run}
 use Rattle.machine.specs.Fields.{Named}
 use Rattle.machine.specs.LeftAlone.{MayChange}
-use Rattle.machine.specs.Limits.{slotCount, turnRoom}
-use Rattle.machine.specs.Operations.{inUse}
+use Rattle.machine.specs.Limits.{slot_count, turn_room}
+use Rattle.machine.specs.Operations.{in_use}
 use Rattle.machine.specs.Refusals.{Passes}
-use Rattle.machine.specs.State.{isRunning, processAt}
+use Rattle.machine.specs.State.{is_running, process_at}
 use Rattle.machine.specs.declared.Kernel.{Kernel}
 use Rattle.machine.proofs.Changes.Change.{Change, GoodState, Outside, Writes, acts, begins, erases, erasing, nothing, stores}
 use Rattle.machine.proofs.Changes.Change.{writes}
@@ -62,19 +62,19 @@ module _ {disc name : List ℕ} {i : ℕ} (n : Named disc name i) where
   same-disc : {after : List ℕ} → after ≡ disc → Remains disc after name i
   same-disc e = remains-as e (i, n, refl, refl, refl)
 
-  module _ (long : isDiscLength (length disc) ≡ true) (good : goodDisc disc ≡ true) where
+  module _ (long : is_disc_length (length disc) ≡ true) (good : good_disc disc ≡ true) where
     here : Located disc name i
     here = named-located (readable disc long good) n
 
     again-remains : (after : List ℕ) → Again disc after i
-        → contents after (runOf (entry_at disc i)) ≡ contents disc (runOf (entry_at disc i))
+        → contents after (run_of (entry_at disc i)) ≡ contents disc (run_of (entry_at disc i))
         → Remains disc after name i
     again-remains after a held = (
       a.place,
       located-named (record { good = here.good; inside = a.inside; held = ap (λ (e : Entry). e.name) a.same ∙ here.held }),
       sym (entry-start after a.place) ∙ ap (λ (e : Entry). e.start) a.same ∙ entry-start disc i,
       sym (entry-size after a.place) ∙ ap (λ (e : Entry). e.len) a.same ∙ entry-size disc i,
-      sym (bytes-of after a.place) ∙ ap (λ (e : Entry). contents after (runOf e)) a.same ∙ held ∙ bytes-of disc i,
+      sym (bytes-of after a.place) ∙ ap (λ (e : Entry). contents after (run_of e)) a.same ∙ held ∙ bytes-of disc i,
     )
 
     stored-remains : (title bytes : List ℕ) (s : ℕ) → Admitted disc title (length bytes) s → Remains disc (stored disc title bytes s) name i
@@ -93,11 +93,11 @@ module _ {disc name : List ℕ} {i : ℕ} (n : Named disc name i) where
         (λ q. differ (located-once l (subst (λ (x : ℕ). Located disc name x) (sym q) here))))
 
     -- bytes are written in another file
-    written-remains : (m offset : ℕ) (bytes : List ℕ) → m < fileCount disc → (m ≡ i → ⊥) → offset + length bytes ≤ (entry_at disc m).len
-        → Remains disc (writtenAt disc (runOf (entry_at disc m)) offset bytes) name i
+    written-remains : (m offset : ℕ) (bytes : List ℕ) → m < file_count disc → (m ≡ i → ⊥) → offset + length bytes ≤ (entry_at disc m).len
+        → Remains disc (written_at disc (run_of (entry_at disc m)) offset bytes) name i
     written-remains m offset bytes h differ fits =
-        let inside : Inside disc (runOf (entry_at disc m)) offset (length bytes) = file-inside disc good m h offset (length bytes) fits in
-        again-remains (writtenAt disc (runOf (entry_at disc m)) offset bytes)
+        let inside : Inside disc (run_of (entry_at disc m)) offset (length bytes) = file-inside disc good m h offset (length bytes) fits in
+        again-remains (written_at disc (run_of (entry_at disc m)) offset bytes)
         (record {
           place = i;
           inside = omega (arith, written_count bytes inside, here.inside);
@@ -111,12 +111,12 @@ module _ (b : Buffers) (name : List ℕ) (i : ℕ) (n : Named b.disc name i) whe
   Kept a = Remains b.disc a.disc name i
 
   abbrev k : Kernel
-  k = kernelOf b.area
+  k = kernel_of b.area
 
   same : Remains b.disc b.disc name i
   same = same-disc n refl
 
-  module _ (slot clock : ℕ) (good : GoodState k b.disc) (low : slot < slotCount) (far : MayChange (turn slot clock) b name i → ⊥) where
+  module _ (slot clock : ℕ) (good : GoodState k b.disc) (low : slot < slot_count) (far : MayChange (turn slot clock) b name i → ⊥) where
     outside-remains : {title : List ℕ} {j : Kernel} {after : List ℕ} (o : Outside title k b.disc j after) → erasing o ≡ false
         → Remains b.disc after name i
     outside-remains (nothing e f) q = same-disc n f
@@ -127,24 +127,24 @@ module _ (b : Buffers) (name : List ℕ) (i : ℕ) (n : Named b.disc name i) whe
     write-remains : {j : Kernel} {after : List ℕ} → Writes slot k b.disc j after → Remains b.disc after name i
     write-remains x =
         remains-as n x.disc-after
-        (subst⁻¹ (λ (r : Run). Remains b.disc (writtenAt b.disc r offset x.bytes) name i) file.run_is
+        (subst⁻¹ (λ (r : Run). Remains b.disc (written_at b.disc r offset x.bytes) name i) file.run_is
         (written-remains n good.long good.sound file.place offset x.bytes file.inside differ
         (subst (λ (r : Run). offset + length x.bytes ≤ r.len) file.run_is x.inside)))
       where
         offset : ℕ
-        offset = (processAt k slot).file.offset
+        offset = (process_at k slot).file.offset
 
-        file : FileAt b.disc (fileRun (processAt k slot).file)
+        file : FileAt b.disc (file_run (process_at k slot).file)
         file = open_at x.file
 
-        byte : byteAhead b slot 0 ≡ 55
+        byte : byte_ahead b slot 0 ≡ 55
         byte =
             rw add-zero x.instruction
 
         differ : file.place ≡ i → ⊥
         differ q =
-            let run : fileRun (processAt k slot).file ≡ runOf (entry_at b.disc i) =
-            file.run_is ∙ ap (λ (m : ℕ). runOf (entry_at b.disc m)) q in
+            let run : file_run (process_at k slot).file ≡ run_of (entry_at b.disc i) =
+            file.run_is ∙ ap (λ (m : ℕ). run_of (entry_at b.disc m)) q in
             far (
               byte,
               sym (open-start-is b.area slot low) ∙ ap (λ (r : Run). r.start) run ∙ entry-start b.disc i,
@@ -160,24 +160,24 @@ module _ (b : Buffers) (name : List ℕ) (i : ℕ) (n : Named b.disc name i) whe
   unfolding answer
   turn-remains slot clock far =
       on-tests Kept b _ same same same λ p.
-      tried Kept b (leb turnRoom (length b.out)) 4 _ same λ fit.
-      tried Kept b (ltb slot slotCount && isRunning (processAt k slot)) 16 _ same λ may.
+      tried Kept b (leb turn_room (length b.out)) 4 _ same λ fit.
+      tried Kept b (ltb slot slot_count && is_running (process_at k slot)) 16 _ same λ may.
       let good = passes-good b.disc b.area p in
-      change-remains slot clock good (ltb-true slot slotCount (and_left (ltb slot slotCount) _ may)) far
-      (turn-is-change k slot clock b.disc good (and_right (ltb slot slotCount) _ may))
+      change-remains slot clock good (ltb-true slot slot_count (and_left (ltb slot slot_count) _ may)) far
+      (turn-is-change k slot clock b.disc good (and_right (ltb slot slot_count) _ may))
 
   erase-remains : (title : List ℕ) → (title ≡ name → ⊥) → Kept (answer (other (erase title)) b)
-  unfolding answer otherAnswer
+  unfolding answer other_answer
   erase-remains title far = on-tests Kept b _ same same same λ p. found p (lookup b.disc title) refl
     where
-      found : Passes b.disc b.area → (f : Found) → lookup b.disc title ≡ f → Kept (eraseAt f k b)
+      found : Passes b.disc b.area → (f : Found) → lookup b.disc title ≡ f → Kept (erase_at f k b)
       found p Nowhere e = same
       found p (At m) e =
-          tried Kept b (not (inUse k (entry_at b.disc m))) 11 _ same λ free.
+          tried Kept b (not (in_use k (entry_at b.disc m))) 11 _ same λ free.
           erased-remains n (passes-good b.disc b.area p).long p.disc-good title m e far
 
   store-remains : (title bytes : List ℕ) → Kept (answer (other (store title bytes)) b)
-  unfolding answer otherAnswer
+  unfolding answer other_answer
   store-remains title bytes =
       store-cases b.disc title bytes (λ u. Remains b.disc u.disc name i) (λ r d. same)
       (λ s l g a. stored-remains n l g title bytes s a)
@@ -187,7 +187,7 @@ module _ (b : Buffers) (name : List ℕ) (i : ℕ) (n : Named b.disc name i) whe
   other-remains (retrieve title) far = same-disc n (call-leaves b (other (retrieve title))).0.0
   other-remains (erase title) far = erase-remains title far
   other-remains files far = same-disc n (call-leaves b (other files)).0.0
-  other-remains freeSpace far = same-disc n (call-leaves b (other freeSpace)).0.0
+  other-remains free_space far = same-disc n (call-leaves b (other free_space)).0.0
   other-remains list far = same-disc n (call-leaves b (other list)).0.0
 
   pub files-kept : (c : Call) → (MayChange c b name i → ⊥) → Kept (answer c b)

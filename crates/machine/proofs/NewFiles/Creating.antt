@@ -13,10 +13,10 @@ use Rattle.buffer.specs.declared.Found.TheVariants.{At, Nowhere}
 use Rattle.float.specs.declared.whole.Size.{Size}
 use Rattle.float.specs.declared.whole.Size.TheVariants.{Is, Refused}
 use Rattle.number.specs.declared.Number.{Number}
-use Rattle.operator.specs.Instruction.{lookup as lookupOperator, operatorOf}
+use Rattle.operator.specs.Instruction.{lookup as lookup_operator, operator_of}
 use Rattle.operator.specs.declared.instruction.Types.TheVariants.{AnyNumber, AnyString}
 use Rattle.place.specs.Place.{run_from}
-use Rattle.disc.specs.Directory.{contents, fileCount, lookup}
+use Rattle.disc.specs.Directory.{contents, file_count, lookup}
 use Rattle.disc.specs.Name.{trimmed}
 use Rattle.store.specs.File.{admission, stored}
 use Rattle.store.specs.declared.Admission.{Admission}
@@ -25,14 +25,14 @@ use Rattle.store.proofs.Admissions.{Admitted, admitted, zeros-admitted}
 use Rattle.store.proofs.Effects.{stored-data}
 use Rattle.variable.specs.Table.{owned}
 use Rattle.machine.specs.Asking.{past, reaches}
-use Rattle.machine.specs.Beyond.{answered, created, createdAt, fileRun, newFileSize, opened, openedAt}
-use Rattle.machine.specs.Effect.{Effect, asks, number, opens, unlessFaults, with_number, withPopped}
+use Rattle.machine.specs.Beyond.{answered, created, created_at, file_run, new_file_size, opened, opened_at}
+use Rattle.machine.specs.Effect.{Effect, asks, number, opens, unless_faults, with_number, with_popped}
 use Rattle.machine.specs.Exec.{exec, performs}
-use Rattle.machine.specs.Instruction.{find, instructionOf}
-use Rattle.machine.specs.Limits.{stackSize}
+use Rattle.machine.specs.Instruction.{find, instruction_of}
+use Rattle.machine.specs.Limits.{stack_size}
 use Rattle.machine.specs.Stack.{Popped, cannot, pop, popped}
-use Rattle.machine.specs.State.{Local, isLive, isRunning, localOf, processAt, withFile, withLocal}
-use Rattle.machine.specs.Turn.{Turned, answering, carriedOut, program_of, turned}
+use Rattle.machine.specs.State.{Local, is_live, is_running, local_of, process_at, with_file, with_local}
+use Rattle.machine.specs.Turn.{Turned, answering, carried_out, program_of, turned}
 use Rattle.machine.specs.declared.Kernel.{Kernel}
 use Rattle.machine.specs.declared.Process.{Process}
 use Rattle.machine.specs.declared.instruction.Reach.TheVariants.{OpenFile}
@@ -44,32 +44,32 @@ use Rattle.machine.proofs.Instructions.Popping.{Pops, pop-pops, string-lay}
 -- the process i, running, has a file of zeros open at its first byte, and room for three bytes on its stack
 pub record Fresh (i : ℕ) (p : Process) (disc : List ℕ) : Type 0 where
   pub named : p.id ≡ i
-  pub runs : isRunning p ≡ true
+  pub runs : is_running p ≡ true
   pub some : 1 ≤ p.file.len
   pub first : p.file.offset ≡ 0
-  pub holds : contents disc (fileRun p.file) ≡ zeros p.file.len
-  pub room : length (localOf p).stack + 3 ≤ stackSize
+  pub holds : contents disc (file_run p.file) ≡ zeros p.file.len
+  pub room : length (local_of p).stack + 3 ≤ stack_size
 
-module _ {k : Kernel} {disc : List ℕ} (good : GoodState k disc) (slot clock : ℕ) (running : isRunning (processAt k slot) ≡ true) where
+module _ {k : Kernel} {disc : List ℕ} (good : GoodState k disc) (slot clock : ℕ) (running : is_running (process_at k slot) ≡ true) where
   abbrev p : Process
-  p = processAt k slot
+  p = process_at k slot
 
   abbrev stack : List ℕ
-  stack = (localOf p).stack
+  stack = (local_of p).stack
 
-  live : isLive p ≡ true
+  live : is_live p ≡ true
   live = running-live p running
 
   -- where there is a file more after the turn, the process is fresh
   abbrev Leaves : Turned → Type 0
-  Leaves t = fileCount t.disc ≡ fileCount disc + 1 → Fresh p.id (processAt t.kernel slot) t.disc
+  Leaves t = file_count t.disc ≡ file_count disc + 1 → Fresh p.id (process_at t.kernel slot) t.disc
 
-  same_count : {A : Type 0} → fileCount disc ≡ fileCount disc + 1 → A
+  same_count : {A : Type 0} → file_count disc ≡ file_count disc + 1 → A
   same_count e = absurd (omega arith)
 
   -- ---- the new file
-  create : (name : List ℕ) (l : Local) → length l.stack + 3 ≤ stackSize → (n s : ℕ) → Admitted disc name n s
-      → Fresh p.id (withFile (withLocal p l) (opened (run_from s n))) (stored disc name (zeros n) s)
+  create : (name : List ℕ) (l : Local) → length l.stack + 3 ≤ stack_size → (n s : ℕ) → Admitted disc name n s
+      → Fresh p.id (with_file (with_local p l) (opened (run_from s n))) (stored disc name (zeros n) s)
   create name l room n s a =
       record {
         named = refl;
@@ -78,26 +78,26 @@ module _ {k : Kernel} {disc : List ℕ} (good : GoodState k disc) (slot clock : 
         first = refl;
         holds = ap (λ (m : ℕ). contents (stored disc name (zeros n) s) (run_from s m)) (sym (length-replicate n 0))
             ∙ stored-data (zeros n) good.sound (zeros-admitted a);
-        room = subst⁻¹ (λ (m : List ℕ). length m + 3 ≤ stackSize) (take_at l.stack _ (length l.stack) refl) room;
+        room = subst⁻¹ (λ (m : List ℕ). length m + 3 ≤ stack_size) (take_at l.stack _ (length l.stack) refl) room;
       }
 
-  opening : (name : List ℕ) (size : Number) (l : Local) → length l.stack + 3 ≤ stackSize
-      → Leaves (answering k slot disc (openedAt k slot disc (lookup disc name) name size l))
+  opening : (name : List ℕ) (size : Number) (l : Local) → length l.stack + 3 ≤ stack_size
+      → Leaves (answering k slot disc (opened_at k slot disc (lookup disc name) name size l))
   opening name size l room = found (lookup disc name)
     where
-      judged : (n : ℕ) (a : Admission) → admission disc name n ≡ a → Leaves (answering k slot disc (createdAt k slot disc a name n l))
+      judged : (n : ℕ) (a : Admission) → admission disc name n ≡ a → Leaves (answering k slot disc (created_at k slot disc a name n l))
       judged n (Denied r) q e = same_count e
       judged n (Start s) q e =
           subst⁻¹ (λ (r : Process). Fresh p.id r (stored disc name (zeros n) s))
-          (put-at k slot (withFile (withLocal p l) (opened (run_from s n))) live) (create name l room n s (admitted disc name n s q))
+          (put-at k slot (with_file (with_local p l) (opened (run_from s n))) live) (create name l room n s (admitted disc name n s q))
 
       sized : (s : Size) → Leaves (answering k slot disc (created k slot disc s name l))
       sized Refused e = same_count e
       sized (Is n) e = judged n (admission disc name n) refl e
 
-      found : (f : Found) → Leaves (answering k slot disc (openedAt k slot disc f name size l))
+      found : (f : Found) → Leaves (answering k slot disc (opened_at k slot disc f name size l))
       found (At i) e = same_count e
-      found Nowhere e = sized (newFileSize disc size) e
+      found Nowhere e = sized (new_file_size disc size) e
 
   -- ---- the instruction
   abbrev prog : List ℕ
@@ -107,11 +107,11 @@ module _ {k : Kernel} {disc : List ℕ} (good : GoodState k disc) (slot clock : 
   on rest = past prog stack p.loopstart p.pc rest
 
   abbrev Does : Effect → Type 0
-  Does e = Leaves (carriedOut k slot disc e)
+  Does e = Leaves (carried_out k slot disc e)
 
   named : (size : Number) (below : List ℕ) → length below ≤ length stack → (top : Popped) → Pops AnyString below top
-      → Does (withPopped top λ name rest. asks (opens (trimmed name.bytes) size (on rest)))
-  unfolding carriedOut answered Pops
+      → Does (with_popped top λ name rest. asks (opens (trimmed name.bytes) size (on rest)))
+  unfolding carried_out answered Pops
   named size below h (cannot n) t e = same_count e
   named size below h (popped name rest) t e =
       opening (trimmed name.bytes) size (on rest)
@@ -119,20 +119,20 @@ module _ {k : Kernel} {disc : List ℕ} (good : GoodState k disc) (slot clock : 
 
   asked : (top : Popped) → Pops AnyNumber stack top
       → Does (with_number top λ size below.
-      withPopped (pop AnyString below) λ name rest. asks (opens (trimmed name.bytes) size (on rest)))
-  unfolding carriedOut Pops
+      with_popped (pop AnyString below) λ name rest. asks (opens (trimmed name.bytes) size (on rest)))
+  unfolding carried_out Pops
   asked (cannot n) t e = same_count e
   asked (popped size below) t e = named (number size) below (omega (arith, t.lay)) (pop AnyString below) (pop-pops AnyString below) e
 
-  performed : (inside : Bool) → Does (unlessFaults inside 2 (reaches prog stack p.loopstart p.pc OpenFile))
-  unfolding carriedOut
+  performed : (inside : Bool) → Does (unless_faults inside 2 (reaches prog stack p.loopstart p.pc OpenFile))
+  unfolding carried_out
   performed false e = same_count e
   performed true e = asked (pop AnyNumber stack) (pop-pops AnyNumber stack) e
 
   pub created-fresh : get_or prog p.pc 0 ≡ 53 → Leaves (turned k slot clock disc)
-  unfolding turned exec performs instructionOf operatorOf lookupOperator find
+  unfolding turned exec performs instruction_of operator_of lookup_operator find
   created-fresh found =
       subst⁻¹ (λ (byte : ℕ).
-      Does (unlessFaults (ltb p.pc (length prog)) 2
-      (performs prog stack p.loopstart p.pc clock (instructionOf byte) (owned k.variables p.id))))
+      Does (unless_faults (ltb p.pc (length prog)) 2
+      (performs prog stack p.loopstart p.pc clock (instruction_of byte) (owned k.variables p.id))))
       found (performed (ltb p.pc (length prog)))

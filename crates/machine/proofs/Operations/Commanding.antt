@@ -9,11 +9,11 @@ use borrow.Author.Tests.{leb-true}
 use Rattle.buffer.specs.declared.Found.{Found}
 use Rattle.buffer.specs.declared.Found.TheVariants.{At, Nowhere}
 use Rattle.store.specs.File.{unless}
-use Rattle.machine.specs.Operations.{Command, Commanded, becomes, refused, suspend, resume, kill, changed, commandAt, commanded}
-use Rattle.machine.specs.Operations.{shareAt, shared}
-use Rattle.machine.specs.Limits.{maxShare}
+use Rattle.machine.specs.Operations.{Command, Commanded, becomes, refused, suspend, resume, kill, changed, command_at, commanded}
+use Rattle.machine.specs.Operations.{share_at, shared}
+use Rattle.machine.specs.Limits.{max_share}
 use Rattle.machine.specs.Ended.{ended}
-use Rattle.machine.specs.State.{isLive, paused, processAt, running, slotOf, withProcess, withShare, withState}
+use Rattle.machine.specs.State.{is_live, paused, process_at, running, slot_of, with_process, with_share, with_state}
 use Rattle.machine.specs.declared.Kernel.{Kernel}
 use Rattle.machine.specs.declared.Process.{Process}
 use Rattle.machine.proofs.Changes.Change.{GoodState, GoesOn, Own, moves, ends}
@@ -23,19 +23,19 @@ use Rattle.machine.proofs.Kept.OwnKept.{own-good}
 use Rattle.buffer.proofs.Bools.{and_left, and_right}
 
 -- Document 01: "14 no live process of that ID"
-command-nowhere : (k j : Kernel) (c : Command) (id : ℕ) → slotOf k id ≡ Nowhere → commanded c id k ≡ becomes j → ⊥
+command-nowhere : (k j : Kernel) (c : Command) (id : ℕ) → slot_of k id ≡ Nowhere → commanded c id k ≡ becomes j → ⊥
 unfolding commanded
 command-nowhere k j c id e h =
-    let no : ◌≡◌ {A = Commanded} (refused 14) (becomes j) = subst (λ (f : Found). commandAt f c k ≡ becomes j) e h in
+    let no : ◌≡◌ {A = Commanded} (refused 14) (becomes j) = subst (λ (f : Found). command_at f c k ≡ becomes j) e h in
     absurd (let z : ◌≡◌ {A = ℕ} 0 1 = cc in omega arith)
 
-module _ {k : Kernel} {disc : List ℕ} (good : GoodState k disc) (slot : ℕ) (live : isLive (processAt k slot) ≡ true) where
+module _ {k : Kernel} {disc : List ℕ} (good : GoodState k disc) (slot : ℕ) (live : is_live (process_at k slot) ≡ true) where
   abbrev p : Process
-  p = processAt k slot
+  p = process_at k slot
 
   -- with another state and another share, a good area asks the same of the rest of a record
-  with-both : (state share : ℕ) → isLive (withState p state) ≡ true → share ≤ maxShare
-      → GoesOn disc p (withShare (withState p state) share)
+  with-both : (state share : ℕ) → is_live (with_state p state) ≡ true → share ≤ max_share
+      → GoesOn disc p (with_share (with_state p state) share)
   with-both state share h few =
       let g = live-record good slot live in
       record {
@@ -50,55 +50,55 @@ module _ {k : Kernel} {disc : List ℕ} (good : GoodState k disc) (slot : ℕ) (
       }
 
   -- Document 02, Q-9: "A new operation sets it by ID."
-  share-own : (turns : ℕ) → turns ≤ maxShare → Own slot k disc (withProcess k slot (withShare p turns))
-  share-own turns few = moves (withShare p turns) (with-both p.state turns live few) refl
+  share-own : (turns : ℕ) → turns ≤ max_share → Own slot k disc (with_process k slot (with_share p turns))
+  share-own turns few = moves (with_share p turns) (with-both p.state turns live few) refl
 
   -- Document 01: "15 already in that state"
-  becomes-state : (state : ℕ) → isLive (withState (processAt k slot) state) ≡ true → (j : Kernel) → changed k slot state ≡ becomes j
+  becomes-state : (state : ℕ) → is_live (with_state (process_at k slot) state) ≡ true → (j : Kernel) → changed k slot state ≡ becomes j
       → Own slot k disc j
-  becomes-state state h j = go (eqb (processAt k slot).state state)
+  becomes-state state h j = go (eqb (process_at k slot).state state)
     where
-      go : (already : Bool) → cond already (refused 15) (becomes (withProcess k slot (withState (processAt k slot) state))) ≡ becomes j
+      go : (already : Bool) → cond already (refused 15) (becomes (with_process k slot (with_state (process_at k slot) state))) ≡ becomes j
           → Own slot k disc j
       go true e = absurd (let z : ◌≡◌ {A = ℕ} 0 1 = cc in omega arith)
-      go false e = let q : withProcess k slot (withState (processAt k slot) state) ≡ j = cc in
-          moves (withState p state) (with-both state p.share h (live-record good slot live).registers.share) (sym q)
+      go false e = let q : with_process k slot (with_state (process_at k slot) state) ≡ j = cc in
+          moves (with_state p state) (with-both state p.share h (live-record good slot live).registers.share) (sym q)
 
-  command-at : (c : Command) (j : Kernel) → commandAt (At slot) c k ≡ becomes j → Own slot k disc j
+  command-at : (c : Command) (j : Kernel) → command_at (At slot) c k ≡ becomes j → Own slot k disc j
   command-at suspend j e = becomes-state paused refl j e
   command-at resume j e = becomes-state running refl j e
   command-at kill j e = let q : ended k slot 0 ≡ j = cc in ends 0 live (sym q)
 
 pub command-own : {k : Kernel} {disc : List ℕ} → GoodState k disc → (c : Command) (id : ℕ) (j : Kernel) → commanded c id k ≡ becomes j
-    → (slot : ℕ) × (slotOf k id ≡ At slot) × Own slot k disc j
+    → (slot : ℕ) × (slot_of k id ≡ At slot) × Own slot k disc j
 unfolding commanded
-command-own {k} {disc} good c id j h = go (slotOf k id) refl
+command-own {k} {disc} good c id j h = go (slot_of k id) refl
   where
-    go : (f : Found) → slotOf k id ≡ f → (slot : ℕ) × (slotOf k id ≡ At slot) × Own slot k disc j
+    go : (f : Found) → slot_of k id ≡ f → (slot : ℕ) × (slot_of k id ≡ At slot) × Own slot k disc j
     go Nowhere e = absurd (command-nowhere k j c id e h)
-    go (At slot) e = (slot, e, command-at good slot (slot_at k id slot e).1 c j (subst (λ (f : Found). commandAt f c k ≡ becomes j) e h))
+    go (At slot) e = (slot, e, command-at good slot (slot_at k id slot e).1 c j (subst (λ (f : Found). command_at f c k ≡ becomes j) e h))
 
 -- ---- share
 -- the slot that the ID has, and the state with its new share
 pub record Shares (k : Kernel) (id turns : ℕ) (j : Kernel) : Type 0 where
   pub slot : ℕ
-  pub found : slotOf k id ≡ At slot
+  pub found : slot_of k id ≡ At slot
   pub some : 1 ≤ turns
-  pub few : turns ≤ maxShare
-  pub after : j ≡ withProcess k slot (withShare (processAt k slot) turns)
+  pub few : turns ≤ max_share
+  pub after : j ≡ with_process k slot (with_share (process_at k slot) turns)
 
 pub share-is : (k : Kernel) (id turns : ℕ) (j : Kernel) → shared id turns k ≡ becomes j → Shares k id turns j
 unfolding shared
-share-is k id turns j h = go (slotOf k id) refl h
+share-is k id turns j h = go (slot_of k id) refl h
   where
     not-refused : (n : ℕ) → ◌≡◌ {A = Commanded} (refused n) (becomes j) → ⊥
     not-refused n e = absurd (let z : ◌≡◌ {A = ℕ} 0 1 = cc in omega arith)
 
-    at : (slot : ℕ) → slotOf k id ≡ At slot → (f : Bool) → leb 1 turns && leb turns maxShare ≡ f
-        → unless f (refused 22) (becomes (withProcess k slot (withShare (processAt k slot) turns))) ≡ becomes j
+    at : (slot : ℕ) → slot_of k id ≡ At slot → (f : Bool) → leb 1 turns && leb turns max_share ≡ f
+        → unless f (refused 22) (becomes (with_process k slot (with_share (process_at k slot) turns))) ≡ becomes j
         → Shares k id turns j
     at slot e true f q =
-        let same : withProcess k slot (withShare (processAt k slot) turns) ≡ j = cc in
+        let same : with_process k slot (with_share (process_at k slot) turns) ≡ j = cc in
         record {
           slot = slot;
           found = e;
@@ -108,9 +108,9 @@ share-is k id turns j h = go (slotOf k id) refl h
         }
     at slot e false f q = absurd (not-refused 22 q)
 
-    go : (f : Found) → slotOf k id ≡ f → shareAt f turns k ≡ becomes j → Shares k id turns j
+    go : (f : Found) → slot_of k id ≡ f → share_at f turns k ≡ becomes j → Shares k id turns j
     go Nowhere e q = absurd (not-refused 14 q)
-    go (At slot) e q = at slot e (leb 1 turns && leb turns maxShare) refl q
+    go (At slot) e q = at slot e (leb 1 turns && leb turns max_share) refl q
 
 pub command-good : {k : Kernel} {disc : List ℕ} → GoodState k disc → (c : Command) (id : ℕ) (j : Kernel) → commanded c id k ≡ becomes j
     → GoodState j disc

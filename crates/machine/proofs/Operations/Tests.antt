@@ -5,10 +5,10 @@ use mathlib.Core.Bool.{Bool, true, false, ◌&&◌}
 use native.Mathlib.Omega.{arith}
 use lib.IntN.{pos, negsuc}
 use lib.ListN.{length}
-use Rattle.disc.specs.Directory.{goodDisc, isDiscLength}
+use Rattle.disc.specs.Directory.{good_disc, is_disc_length}
 use Rattle.store.specs.File.{unless}
-use Rattle.machine.specs.Answer.{Answer, Buffers, goodArea, onGood, refused}
-use Rattle.machine.specs.Area.{isAreaLength}
+use Rattle.machine.specs.Answer.{Answer, Buffers, good_area, on_good, refused}
+use Rattle.machine.specs.Area.{is_area_length}
 use Rattle.machine.specs.Refusals.{Passes}
 
 module _ (P : Answer → Type 0) (b : Buffers) where
@@ -17,11 +17,11 @@ module _ (P : Answer → Type 0) (b : Buffers) where
   tried false n rest r h = r
 
   pub on-tests : (rest : Answer) → P (refused 1 b) → P (refused 2 b) → P (refused 3 b) → (Passes b.disc b.area → P rest)
-      → P (onGood b rest)
+      → P (on_good b rest)
   on-tests rest one two three h =
-      tried (isDiscLength (length b.disc) && isAreaLength (length b.area)) 1 _ one λ p.
-      tried (goodDisc b.disc) 2 _ two λ d.
-      tried (goodArea b.disc b.area) 3 rest three λ e.
+      tried (is_disc_length (length b.disc) && is_area_length (length b.area)) 1 _ one λ p.
+      tried (good_disc b.disc) 2 _ two λ d.
+      tried (good_area b.disc b.area) 3 rest three λ e.
       h (record { sizes = p; disc-good = d; area-good = e })
 
 -- ---- a call that is done has passed the tests
@@ -35,5 +35,5 @@ module _ (P : Answer → Type 0) (b : Buffers) (n : ℕ) where
   pub done-test : (test : Bool) (m : ℕ) (rest : Answer) → (test ≡ true → IfDone rest) → IfDone (unless test (refused (suc m) b) rest)
   done-test test m rest h = tried IfDone b test (suc m) rest below-not-done h
 
-  pub done-tests : (rest : Answer) → (Passes b.disc b.area → IfDone rest) → IfDone (onGood b rest)
+  pub done-tests : (rest : Answer) → (Passes b.disc b.area → IfDone rest) → IfDone (on_good b rest)
   done-tests rest h = on-tests IfDone b rest below-not-done below-not-done below-not-done h

@@ -11,22 +11,22 @@ use lib.ListN.{drop, get_or, length, length-append, length-drop}
 use lib.Seq.{get_or-drop}
 use borrow.Author.Tests.{eqb-false, leb-false}
 use Rattle.disc.specs.Directory.{Held, contents, files}
-use Rattle.disc.specs.Name.{trimmed, unlessZero}
+use Rattle.disc.specs.Name.{trimmed, unless_zero}
 use Rattle.disc.proofs.Names.{text-ends, text-with-zero}
-use Rattle.store.specs.File.{readAt, writtenAt}
+use Rattle.store.specs.File.{read_at, written_at}
 use Rattle.store.proofs.Changes.{Inside, written-length, written-other, written-there}
 use Rattle.store.proofs.Contents.{contents-length}
 use Rattle.machine.specs.Answer.{Buffers}
-use Rattle.machine.specs.AtPc.{Onward, SameDisc, ValueOnTop, processIn, stackIn}
-use Rattle.machine.specs.Beyond.{advanced, answered, continues, fileRun, pushed, received, unlessBreaks}
-use Rattle.machine.specs.Effect.{Request, asks, reads, readsString, writes}
+use Rattle.machine.specs.AtPc.{Onward, SameDisc, ValueOnTop, process_in, stack_in}
+use Rattle.machine.specs.Beyond.{advanced, answered, continues, file_run, pushed, received, unless_breaks}
+use Rattle.machine.specs.Effect.{Request, asks, reads, reads_string, writes}
 use Rattle.machine.specs.Fields.{Lowest}
-use Rattle.machine.specs.Instruction.{instructionOf}
-use Rattle.machine.specs.Limits.{stackSize}
+use Rattle.machine.specs.Instruction.{instruction_of}
+use Rattle.machine.specs.Limits.{stack_size}
 use Rattle.machine.specs.AtPc.{ahead}
 use Rattle.machine.specs.Reaching.{Faults, InFile, ReadExactly, ReadStringExactly, Receives, WriteExactly, Writes, read}
 use Rattle.machine.specs.Refusals.{MayTurn, state_of}
-use Rattle.machine.specs.Stack.{pushString}
+use Rattle.machine.specs.Stack.{push_string}
 use Rattle.machine.specs.State.{Local}
 use Rattle.machine.specs.declared.Kernel.{Kernel}
 use Rattle.machine.specs.declared.OpenFile.{OpenFile}
@@ -46,7 +46,7 @@ text-no-zero [] i h e = not-suc-le-zero h
 text-no-zero (c ∷ l) i h e = go (eqb c 0) refl (text-no-zero l) i h e
   where
     go : (z : Bool) → eqb c 0 ≡ z → ((j : ℕ) → j < length (trimmed l) → get_or l j 0 ≡ 0 → ⊥) → (i : ℕ)
-        → i < length (unlessZero z c (trimmed l)) → get_or (c ∷ l) i 0 ≡ 0 → ⊥
+        → i < length (unless_zero z c (trimmed l)) → get_or (c ∷ l) i 0 ≡ 0 → ⊥
     go true q more i h e = not-suc-le-zero h
     go false q more zero h e = eqb-false c 0 q e
     go false q more (suc i) h e = more i (le_of_suc-le-suc h) e
@@ -63,26 +63,26 @@ module _ (b : Buffers) (slot clock : ℕ) where
   k = state_of b
 
   abbrev pc : ℕ
-  pc = (processIn b slot).pc + 1
+  pc = (process_in b slot).pc + 1
 
   abbrev f : OpenFile
-  f = (processIn b slot).file
+  f = (process_in b slot).file
 
   -- an open file is one of the disc's
-  open-held : MayTurn b slot → (f.len ≡ 0 → ⊥) → Held b.disc (fileRun f)
+  open-held : MayTurn b slot → (f.len ≡ 0 → ⊥) → Held b.disc (file_run f)
   open-held may some = go (live-record good slot (live b slot may)).file
     where
       good : GoodState k b.disc
       good = passes-good b.disc b.area may.passes
 
-      go : GoodFile (files b.disc) f → Held b.disc (fileRun f)
+      go : GoodFile (files b.disc) f → Held b.disc (file_run f)
       go (inl c) = absurd (some c.len)
       go (inr o) = record { sound = good.sound; file = open_at o }
 
   written : MayTurn b slot → (bytes : List ℕ) → 0 < length bytes → f.offset + length bytes ≤ f.len
-      → Writes b slot clock bytes (writtenAt b.disc (fileRun f) f.offset bytes)
+      → Writes b slot clock bytes (written_at b.disc (file_run f) f.offset bytes)
   written may bytes some fits =
-      let inside : Inside b.disc (fileRun f) f.offset (length bytes) =
+      let inside : Inside b.disc (file_run f) f.offset (length bytes) =
       record { held = open-held may (λ z. omega arith); fits = fits } in
       record {
         long = written-length bytes inside;
@@ -97,86 +97,86 @@ module _ (b : Buffers) (slot clock : ℕ) where
       in-file b slot clock a.may (writes bytes (at b slot pc rest)) does (length bytes) _ _ refl
       (λ fits e.
       let c = continued b slot clock a.may (writes bytes (at b slot pc rest)) does pc rest (advanced f (length bytes)) _ e in
-      (c.0, subst⁻¹ (Writes b slot clock bytes) c.1 (written a.may bytes (value-some (stackIn b slot) rest kind bytes top) fits)))
+      (c.0, subst⁻¹ (Writes b slot clock bytes) c.1 (written a.may bytes (value-some (stack_in b slot) rest kind bytes top) fits)))
 
   -- n bytes further, with this stack if it can be that long
-  receives : MayTurn b slot → (r : Request) → Does b slot clock (asks r) → (stack value : List ℕ) (n : ℕ) → stack ≡ stackIn b slot ++ value
-      → answered k slot b.disc r ≡ received k slot b.disc stack n (at b slot pc (stackIn b slot))
+  receives : MayTurn b slot → (r : Request) → Does b slot clock (asks r) → (stack value : List ℕ) (n : ℕ) → stack ≡ stack_in b slot ++ value
+      → answered k slot b.disc r ≡ received k slot b.disc stack n (at b slot pc (stack_in b slot))
       → Receives b slot clock n value
-  receives may r does stack value n whole e = go (leb (length stack) stackSize) refl e
+  receives may r does stack value n whole e = go (leb (length stack) stack_size) refl e
     where
-      go : (c : Bool) → leb (length stack) stackSize ≡ c
+      go : (c : Bool) → leb (length stack) stack_size ≡ c
           → answered k slot b.disc r
-          ≡ unlessBreaks c 4 (continues k slot b.disc (pushed (at b slot pc (stackIn b slot)) stack) (advanced f n) b.disc)
+          ≡ unless_breaks c 4 (continues k slot b.disc (pushed (at b slot pc (stack_in b slot)) stack) (advanced f n) b.disc)
           → Receives b slot clock n value
       go false h e = inl (
-        subst (λ (s : List ℕ). stackSize < length s) whole (leb-false (length stack) stackSize h),
+        subst (λ (s : List ℕ). stack_size < length s) whole (leb-false (length stack) stack_size h),
         broken-by b slot clock may r does 4 e,
       )
       go true h e =
           inr (subst (λ (s : List ℕ). Onward b slot clock pc s (ahead b slot n) × SameDisc b slot clock) whole
           (continued b slot clock may r does pc stack (advanced f n) b.disc e))
 
-  pub read-exactly : (byte kind : ℕ) → instructionOf byte ≡ Beyond (ReadNumber kind) → ReadExactly b slot clock byte kind
-  unfolding answered readAt
+  pub read-exactly : (byte kind : ℕ) → instruction_of byte ≡ Beyond (ReadNumber kind) → ReadExactly b slot clock byte kind
+  unfolding answered read_at
   read-exactly byte kind i a =
-      let l = at b slot pc (stackIn b slot) in
+      let l = at b slot pc (stack_in b slot) in
       let does = read_found b slot clock byte kind i a in
       in-file b slot clock a.may (reads kind l) does kind _ _ refl
       (λ fits e. receives a.may (reads kind l) does _ (read b slot clock kind ++ (kind ∷ [])) kind
-      (append_assoc (stackIn b slot) _ (kind ∷ []))
+      (append_assoc (stack_in b slot) _ (kind ∷ []))
       e)
 
   -- ---- READSTRING
-  abbrev bytesAhead : List ℕ
-  bytesAhead = drop f.offset (contents b.disc (fileRun f))
+  abbrev bytes_ahead : List ℕ
+  bytes_ahead = drop f.offset (contents b.disc (file_run f))
 
   abbrev text : List ℕ
-  text = trimmed bytesAhead
+  text = trimmed bytes_ahead
 
-  byte-ahead : (j : ℕ) → get_or bytesAhead j 0 ≡ get_or (contents b.disc (fileRun f)) (f.offset + j) 0
-  byte-ahead j = get_or-drop f.offset (contents b.disc (fileRun f)) j 0
+  byte-ahead : (j : ℕ) → get_or bytes_ahead j 0 ≡ get_or (contents b.disc (file_run f)) (f.offset + j) 0
+  byte-ahead j = get_or-drop f.offset (contents b.disc (file_run f)) j 0
 
-  no_zero : (j : ℕ) → j < length text → get_or (contents b.disc (fileRun f)) (f.offset + j) 0 ≡ 0 → ⊥
-  no_zero j low e = text-no-zero bytesAhead j low (byte-ahead j ∙ e)
+  no_zero : (j : ℕ) → j < length text → get_or (contents b.disc (file_run f)) (f.offset + j) 0 ≡ 0 → ⊥
+  no_zero j low e = text-no-zero bytes_ahead j low (byte-ahead j ∙ e)
 
   -- the text and its zero
   text-read : f.offset + (length text + 1) ≤ f.len → text ++ (0 ∷ []) ≡ read b slot clock (length text + 1)
   text-read fits =
-      let long : length bytesAhead ≡ f.len - f.offset =
-      length-drop f.offset (contents b.disc (fileRun f)) ∙ ap (λ (n : ℕ). n - f.offset) (contents-length b.disc (fileRun f)) in
-      sym (text-with-zero bytesAhead (omega arith))
+      let long : length bytes_ahead ≡ f.len - f.offset =
+      length-drop f.offset (contents b.disc (file_run f)) ∙ ap (λ (n : ℕ). n - f.offset) (contents-length b.disc (file_run f)) in
+      sym (text-with-zero bytes_ahead (omega arith))
 
   pub read-string-exactly : ReadStringExactly b slot clock
   unfolding answered
   read-string-exactly a =
-      go (in-file b slot clock a.may (readsString l) does (length text + 1) _ (Receives b slot clock (length text + 1) value) refl
-      (λ fits e. receives a.may (readsString l) does _ value (length text + 1) (pushes fits) e))
+      go (in-file b slot clock a.may (reads_string l) does (length text + 1) _ (Receives b slot clock (length text + 1) value) refl
+      (λ fits e. receives a.may (reads_string l) does _ value (length text + 1) (pushes fits) e))
     where
       l : Local
-      l = at b slot pc (stackIn b slot)
+      l = at b slot pc (stack_in b slot)
 
-      does : Does b slot clock (asks (readsString l))
+      does : Does b slot clock (asks (reads_string l))
       does = read-string-found b slot clock a
 
       value : List ℕ
       value = read b slot clock (length text + 1) ++ ((length text + 1) ∷ 3 ∷ [])
 
-      pushes : f.offset + (length text + 1) ≤ f.len → pushString (stackIn b slot) (text ++ (0 ∷ [])) ≡ stackIn b slot ++ value
+      pushes : f.offset + (length text + 1) ≤ f.len → push_string (stack_in b slot) (text ++ (0 ∷ [])) ≡ stack_in b slot ++ value
       pushes fits =
-          append_assoc (stackIn b slot) (text ++ (0 ∷ [])) (length (text ++ (0 ∷ [])) ∷ 3 ∷ [])
-          ∙ (λ z. stackIn b slot ++ (text-read fits z ++ (length-append text (0 ∷ []) z ∷ 3 ∷ [])))
+          append_assoc (stack_in b slot) (text ++ (0 ∷ [])) (length (text ++ (0 ∷ [])) ∷ 3 ∷ [])
+          ∙ (λ z. stack_in b slot ++ (text-read fits z ++ (length-append text (0 ∷ []) z ∷ 3 ∷ [])))
 
       go : InFile b slot clock (length text + 1) (Receives b slot clock (length text + 1) value)
           → ((f.len ≡ 0) × Faults b slot clock 11)
           ⊎ ((0 < f.len)
-          × ((((j : ℕ) → f.offset + j < f.len → get_or (contents b.disc (fileRun f)) (f.offset + j) 0 ≡ 0 → ⊥) × Faults b slot clock 12)
+          × ((((j : ℕ) → f.offset + j < f.len → get_or (contents b.disc (file_run f)) (f.offset + j) 0 ≡ 0 → ⊥) × Faults b slot clock 12)
           ⊎ ((n : ℕ) × (f.offset + n < f.len)
-          × Lowest (λ j. get_or (contents b.disc (fileRun f)) (f.offset + j) 0 ≡ 0) n
+          × Lowest (λ j. get_or (contents b.disc (file_run f)) (f.offset + j) 0 ≡ 0) n
           × Receives b slot clock (n + 1) (read b slot clock (n + 1) ++ ((n + 1) ∷ 3 ∷ [])))))
       go (inl closed) = inl closed
       go (inr (some, inl past)) = inr (some, inl (λ j h. no_zero j (omega (arith, past.0)), past.1))
       go (inr (some, inr (fits, done))) =
           let low : f.offset + length text < f.len = omega arith in
-          let zero = sym (byte-ahead (length text)) ∙ text-ends bytesAhead in
+          let zero = sym (byte-ahead (length text)) ∙ text-ends bytes_ahead in
           inr (some, inr (length text, low, (zero, λ m h. no_zero m h), done))

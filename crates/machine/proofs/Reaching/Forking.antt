@@ -12,17 +12,17 @@ use Rattle.buffer.proofs.Bools.{true-not-false}
 use Rattle.disc.specs.Directory.{entry_at, lookup}
 use Rattle.disc.specs.declared.Entry.{Entry}
 use Rattle.machine.specs.Answer.{Buffers}
-use Rattle.machine.specs.AtPc.{Onward, SameDisc, processIn, stateAfter}
-use Rattle.machine.specs.Beyond.{answered, carriesOn, forked, pushId}
+use Rattle.machine.specs.AtPc.{Onward, SameDisc, process_in, state_after}
+use Rattle.machine.specs.Beyond.{answered, carries_on, forked, push_id}
 use Rattle.machine.specs.Changed.{CannotStart, Starts}
 use Rattle.machine.specs.Effect.{asks, forks}
-use Rattle.machine.specs.Fields.{nextId}
-use Rattle.machine.specs.Limits.{idLimit}
-use Rattle.machine.specs.AtPc.{fileIn}
+use Rattle.machine.specs.Fields.{next_id}
+use Rattle.machine.specs.Limits.{id_limit}
+use Rattle.machine.specs.AtPc.{file_in}
 use Rattle.machine.specs.Reaching.{ForkExactly, Proceeds}
 use Rattle.machine.specs.Refusals.{MayTurn, state_of}
 use Rattle.machine.specs.Start.{Starting, starts, refuses, started, starting}
-use Rattle.machine.specs.State.{Local, endedSlot, isLive, processAt, withLocal, withProcess}
+use Rattle.machine.specs.State.{Local, ended_slot, is_live, process_at, with_local, with_process}
 use Rattle.machine.specs.declared.Kernel.{Kernel}
 use Rattle.machine.specs.declared.Process.{Process}
 use Rattle.machine.proofs.Changes.Replaced.{put-at, put_other}
@@ -39,47 +39,47 @@ module _ (b : Buffers) (slot clock : ℕ) where
   k = state_of b
 
   abbrev pc : ℕ
-  pc = (processIn b slot).pc + 1
+  pc = (process_in b slot).pc + 1
 
   -- that ID on the stack
-  abbrev withId : List ℕ → ℕ → List ℕ
-  withId rest id = rest ++ (id / 256 ∷ id % 256 ∷ 2 ∷ [])
+  abbrev with_id : List ℕ → ℕ → List ℕ
+  with_id rest id = rest ++ (id / 256 ∷ id % 256 ∷ 2 ∷ [])
 
   module _ (rest text : List ℕ) (may : MayTurn b slot) (does : Does b slot clock (asks (forks text (at b slot pc rest)))) where
     abbrev l : Local
     l = at b slot pc rest
 
     abbrev after : ℕ → Process
-    after id = withLocal (processIn b slot) (pushId l id)
+    after id = with_local (process_in b slot) (push_id l id)
 
     -- the own process goes on with that ID, in a table where it is live
-    proceeds : (id : ℕ) (j : Kernel) → isLive (processAt j slot) ≡ true
-        → answered k slot b.disc (forks text l) ≡ carriesOn (withProcess j slot (after id)) b.disc
-        → Proceeds b slot clock (withId rest id)
+    proceeds : (id : ℕ) (j : Kernel) → is_live (process_at j slot) ≡ true
+        → answered k slot b.disc (forks text l) ≡ carries_on (with_process j slot (after id)) b.disc
+        → Proceeds b slot clock (with_id rest id)
     proceeds id j alive e =
-        subst (λ (s : List ℕ). Onward b slot clock pc s (fileIn b slot) × SameDisc b slot clock)
+        subst (λ (s : List ℕ). Onward b slot clock pc s (file_in b slot) × SameDisc b slot clock)
         (append_assoc rest (id / 256 ∷ id % 256 ∷ []) (2 ∷ []))
-        (carried_on b slot clock may (forks text l) does (withProcess j slot (after id)) b.disc pc
-        (rest ++ (id / 256 ∷ id % 256 ∷ []) ++ (2 ∷ [])) (fileIn b slot) e (put-at j slot (after id) alive))
+        (carried_on b slot clock may (forks text l) does (with_process j slot (after id)) b.disc pc
+        (rest ++ (id / 256 ∷ id % 256 ∷ []) ++ (2 ∷ [])) (file_in b slot) e (put-at j slot (after id) alive))
 
-    refused : (n : ℕ) → starting k b.disc text ≡ refuses n → Proceeds b slot clock (withId rest 0)
+    refused : (n : ℕ) → starting k b.disc text ≡ refuses n → Proceeds b slot clock (with_id rest 0)
     unfolding answered
     refused n e = proceeds 0 k (live b slot may) (ap (λ (s : Starting). forked k slot b.disc s l) e)
 
-    begun : (child i : ℕ) → endedSlot k ≡ At child → lookup b.disc text ≡ At i → eqb k.next idLimit ≡ false
-        → ((child : ℕ) × Starts b.disc b.area text child (stateAfter b slot clock))
-        × Proceeds b slot clock (withId rest (nextId b.area))
+    begun : (child i : ℕ) → ended_slot k ≡ At child → lookup b.disc text ≡ At i → eqb k.next id_limit ≡ false
+        → ((child : ℕ) × Starts b.disc b.area text child (state_after b slot clock))
+        × Proceeds b slot clock (with_id rest (next_id b.area))
     unfolding answered starting
     begun child i ended file left = (
       (
         child,
-        starting-starts may.passes text child entry (stateAfter b slot clock) starts-it (ap (λ (j : Kernel). j.next) state)
-            (ap (λ (j : Kernel). processAt j child) state
+        starting-starts may.passes text child entry (state_after b slot clock) starts-it (ap (λ (j : Kernel). j.next) state)
+            (ap (λ (j : Kernel). process_at j child) state
             ∙ put_other (started k child entry) slot (after k.next) child other
             ∙ started-new facts),
       ),
-      subst (λ (n : ℕ). Proceeds b slot clock (withId rest n)) (next-is b.area)
-          (proceeds k.next (started k child entry) (ap isLive (started-spares facts slot (live b slot may))
+      subst (λ (n : ℕ). Proceeds b slot clock (with_id rest n)) (next-is b.area)
+          (proceeds k.next (started k child entry) (ap is_live (started-spares facts slot (live b slot may))
           ∙ live b slot may) does-it),
     )
       where
@@ -93,27 +93,27 @@ module _ (b : Buffers) (slot clock : ℕ) where
         facts = starting-begins text k b.disc child entry starts-it
 
         does-it : answered k slot b.disc (forks text l)
-            ≡ carriesOn (withProcess (started k child entry) slot (after k.next)) b.disc
+            ≡ carries_on (with_process (started k child entry) slot (after k.next)) b.disc
         does-it = ap (λ (s : Starting). forked k slot b.disc s l) starts-it
 
-        state : stateAfter b slot clock ≡ withProcess (started k child entry) slot (after k.next)
+        state : state_after b slot clock ≡ with_process (started k child entry) slot (after k.next)
         state = state-left b slot clock may _ (answers b slot clock may (forks text l) does _ does-it)
 
         other : child ≡ slot → ⊥
-        other same = true-not-false (live b slot may) (subst (λ (x : ℕ). isLive (processAt k x) ≡ false) same facts.free)
+        other same = true-not-false (live b slot may) (subst (λ (x : ℕ). is_live (process_at k x) ≡ false) same facts.free)
 
   pub fork-exactly : ForkExactly b slot clock
   unfolding starting
   fork-exactly rest text a name =
-      go (endedSlot k) refl (lookup b.disc text) refl (eqb k.next idLimit) refl
+      go (ended_slot k) refl (lookup b.disc text) refl (eqb k.next id_limit) refl
     where
       does : Does b slot clock (asks (forks text (at b slot pc rest)))
       does = fork-found b slot clock rest text a name
 
-      go : (x : Found) → endedSlot k ≡ x → (y : Found) → lookup b.disc text ≡ y → (z : Bool) → eqb k.next idLimit ≡ z
-          → (CannotStart b.disc b.area text × Proceeds b slot clock (withId rest 0))
-          ⊎ (((child : ℕ) × Starts b.disc b.area text child (stateAfter b slot clock))
-          × Proceeds b slot clock (withId rest (nextId b.area)))
+      go : (x : Found) → ended_slot k ≡ x → (y : Found) → lookup b.disc text ≡ y → (z : Bool) → eqb k.next id_limit ≡ z
+          → (CannotStart b.disc b.area text × Proceeds b slot clock (with_id rest 0))
+          ⊎ (((child : ℕ) × Starts b.disc b.area text child (state_after b slot clock))
+          × Proceeds b slot clock (with_id rest (next_id b.area)))
       go Nowhere ended y file z spent =
           inl (inl (no-ended-slot a.may.passes ended), refused rest text a.may does 12 (rw ended))
       go (At child) ended Nowhere file z spent =
@@ -124,7 +124,7 @@ module _ (b : Buffers) (slot clock : ℕ) where
           )
       go (At child) ended (At i) file true spent =
           inl (
-            inr (inr (sym (next-is b.area) ∙ eqb-true k.next idLimit spent)),
+            inr (inr (sym (next-is b.area) ∙ eqb-true k.next id_limit spent)),
             refused rest text a.may does 13 (rw (ended, file, spent)),
           )
       go (At child) ended (At i) file false spent = inr (begun rest text a.may does child i ended file spent)

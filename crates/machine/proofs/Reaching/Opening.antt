@@ -12,7 +12,7 @@ use Rattle.number.specs.Value.{number_of}
 use Rattle.number.specs.declared.Number.{Number}
 use Rattle.place.specs.Place.{run_from}
 use Rattle.place.specs.declared.Run.{Run}
-use Rattle.disc.specs.Directory.{entry_at, lookup, runOf}
+use Rattle.disc.specs.Directory.{entry_at, lookup, run_of}
 use Rattle.disc.specs.Offsets.{size_of, start_of}
 use Rattle.disc.proofs.Offsets.{entry-size, entry-start}
 use Rattle.store.specs.File.{admission, stored}
@@ -20,16 +20,16 @@ use Rattle.store.specs.declared.Admission.{Admission}
 use Rattle.store.specs.declared.Admission.TheVariants.{Start, Denied}
 use Rattle.store.proofs.Admissions.{admitted, admitted-placed, zeros-admitted}
 use Rattle.machine.specs.Answer.{Buffers}
-use Rattle.machine.specs.AtPc.{processIn, stackIn}
-use Rattle.machine.specs.Beyond.{answered, continues, created, createdAt, newFileSize, opened, openedAt}
+use Rattle.machine.specs.AtPc.{process_in, stack_in}
+use Rattle.machine.specs.Beyond.{answered, continues, created, created_at, new_file_size, opened, opened_at}
 use Rattle.machine.specs.Changed.{Enters}
 use Rattle.machine.specs.Effect.{Request, asks, closes, opens}
 use Rattle.machine.specs.NoPlace.{NewFileRefused, by_size}
-use Rattle.machine.specs.AtPc.{fileIn}
+use Rattle.machine.specs.AtPc.{file_in}
 use Rattle.machine.specs.Reaching.{CloseExactly, Creates, Faults, OpenExactly, Opens}
 use Rattle.machine.specs.Fields.{NoFile}
 use Rattle.machine.specs.Refusals.{state_of}
-use Rattle.machine.specs.State.{Local, withLocal, withProcess}
+use Rattle.machine.specs.State.{Local, with_local, with_process}
 use Rattle.machine.specs.declared.Kernel.{Kernel}
 use Rattle.machine.specs.declared.Process.{Process}
 use Rattle.machine.proofs.Changes.Change.{GoodState}
@@ -47,19 +47,19 @@ module _ (b : Buffers) (slot clock : ℕ) where
   k = state_of b
 
   abbrev pc : ℕ
-  pc = (processIn b slot).pc + 1
+  pc = (process_in b slot).pc + 1
 
   pub close-exactly : CloseExactly b slot clock
   unfolding answered
   close-exactly a =
-      let q : Process = withLocal (processIn b slot) (at b slot pc (stackIn b slot)) in
-      carried_on b slot clock a.may (closes (at b slot pc (stackIn b slot))) (close-found b slot clock a) (withProcess k slot q)
-      b.disc pc (stackIn b slot) (fileIn b slot) refl (put-at k slot q (live b slot a.may))
+      let q : Process = with_local (process_in b slot) (at b slot pc (stack_in b slot)) in
+      carried_on b slot clock a.may (closes (at b slot pc (stack_in b slot))) (close-found b slot clock a) (with_process k slot q)
+      b.disc pc (stack_in b slot) (file_in b slot) refl (put-at k slot q (live b slot a.may))
 
   abbrev NewFile : List ℕ → List ℕ → Number → Type 0
   NewFile rest text size =
-      (NewFileRefused b.disc text (newFileSize b.disc size) × Faults b slot clock 13)
-      ⊎ ((n : ℕ) × (newFileSize b.disc size ≡ Is n) × Creates b slot clock rest text n)
+      (NewFileRefused b.disc text (new_file_size b.disc size) × Faults b slot clock 13)
+      ⊎ ((n : ℕ) × (new_file_size b.disc size ≡ Is n) × Creates b slot clock rest text n)
 
   pub open-exactly : OpenExactly b slot clock
   unfolding answered
@@ -80,9 +80,9 @@ module _ (b : Buffers) (slot clock : ℕ) where
       good : GoodState k b.disc
       good = passes-good b.disc b.area a.may.passes
 
-      admit : lookup b.disc text ≡ Nowhere → (n : ℕ) → newFileSize b.disc size ≡ Is n → (v : Admission)
+      admit : lookup b.disc text ≡ Nowhere → (n : ℕ) → new_file_size b.disc size ≡ Is n → (v : Admission)
           → admission b.disc text n ≡ v
-          → answered k slot b.disc r ≡ createdAt k slot b.disc v text n l → NewFile rest text size
+          → answered k slot b.disc r ≡ created_at k slot b.disc v text n l → NewFile rest text size
       admit new n fit (Denied w) e h =
           inl (new-file-refused b.disc text good.long good.sound size n fit new w e, broken-by b slot clock a.may r does 13 h)
       admit new n fit (Start s) e h =
@@ -93,20 +93,20 @@ module _ (b : Buffers) (slot clock : ℕ) where
           let placed = admitted-placed d in
           inr (n, fit, (good-is-name text d.good, d.few, (s, placed, on.0, enters)))
 
-      sized : lookup b.disc text ≡ Nowhere → (s : Size) → newFileSize b.disc size ≡ s
+      sized : lookup b.disc text ≡ Nowhere → (s : Size) → new_file_size b.disc size ≡ s
           → answered k slot b.disc r ≡ created k slot b.disc s text l → NewFile rest text size
       sized new Refused e h = inl (by_size e, broken-by b slot clock a.may r does 13 h)
       sized new (Is n) e h = admit new n e (admission b.disc text n) refl h
 
       found : (f : Found) → lookup b.disc text ≡ f → Opens b slot clock rest text ⊎ (NoFile b.disc text × NewFile rest text size)
       found (At i) e =
-          let run : runOf (entry_at b.disc i) ≡ run_from (start_of b.disc i) (size_of b.disc i) =
+          let run : run_of (entry_at b.disc i) ≡ run_from (start_of b.disc i) (size_of b.disc i) =
           λ z. run_from (entry-start b.disc i z) (entry-size b.disc i z) in
           let on = continued b slot clock a.may r does pc rest (opened (run_from (start_of b.disc i) (size_of b.disc i))) b.disc
-          (ap (λ (f : Found). openedAt k slot b.disc f text size l) e
+          (ap (λ (f : Found). opened_at k slot b.disc f text size l) e
           ∙ ap (λ (w : Run). continues k slot b.disc l (opened w) b.disc) run) in
           inl (i, lookup-named b.disc text i e, on.0, on.1)
       found Nowhere e = inr (
         lookup-no-file b.disc good.long good.sound text e,
-        sized e (newFileSize b.disc size) refl (ap (λ (f : Found). openedAt k slot b.disc f text size l) e),
+        sized e (new_file_size b.disc size) refl (ap (λ (f : Found). opened_at k slot b.disc f text size l) e),
       )

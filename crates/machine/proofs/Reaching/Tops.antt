@@ -17,7 +17,7 @@ use Rattle.operator.specs.declared.instruction.Types.TheVariants.{AnyNumber, Any
 use Rattle.disc.specs.Name.{trimmed}
 use Rattle.disc.proofs.Names.{trimmed-at}
 use Rattle.machine.specs.AtPc.{NumberOnTop, StringOnTop, ValueOnTop}
-use Rattle.machine.specs.Stack.{popped, pop, popNumber, popString, stringKind}
+use Rattle.machine.specs.Stack.{popped, pop, pop_number, pop_string, string_kind}
 use Rattle.machine.proofs.Instructions.Popping.{is-well-formed, number-no-string}
 
 -- the bytes between what lies below and what lies above them
@@ -37,17 +37,17 @@ module _ (rest bytes above : List ℕ) where
       ∙ ap (take n) (drop_at rest (bytes ++ above) at e) ∙ take_at bytes above n f
 
 -- Document 01: "A value lies as its bytes, high byte first, then its type 1, 2 or 4"
-number-pops : (types : Types) (rest : List ℕ) (kind : ℕ) (bytes : List ℕ) → includes types kind ≡ true → (kind ≡ stringKind → ⊥)
+number-pops : (types : Types) (rest : List ℕ) (kind : ℕ) (bytes : List ℕ) → includes types kind ≡ true → (kind ≡ string_kind → ⊥)
     → length bytes ≡ kind
     → pop types (rest ++ bytes ++ (kind ∷ [])) ≡ popped (record { kind = kind; bytes = bytes }) rest
-unfolding pop popNumber
+unfolding pop pop_number
 number-pops types rest kind bytes taken other size =
     let long : n ≡ length rest + length bytes + 1 = whole_length rest bytes (kind ∷ []) in
     rw (
       le-leb 1 n (omega arith),
       get_or_at (rest ++ bytes) kind [] 0 (n - 1) (omega (arith, length-append rest bytes)),
       taken,
-      ne_eqb kind stringKind other,
+      ne_eqb kind string_kind other,
       le-leb (kind + 1) n (omega arith),
       bytes-are rest bytes (kind ∷ []) (n - 1 - kind) kind (omega arith) size,
       below-is rest bytes (kind ∷ []) (n - 1 - kind) (omega arith),
@@ -83,10 +83,10 @@ text-trimmed text no_zero =
     (λ k h e. no_zero k h (sym (get_or-append text (0 ∷ []) 0 k h) ∙ e))
     ∙ take_at text (0 ∷ []) (length text) refl
 
-string-pops : (types : Types) (rest text : List ℕ) → includes types stringKind ≡ true → trimmed (text ++ (0 ∷ [])) ≡ text
+string-pops : (types : Types) (rest text : List ℕ) → includes types string_kind ≡ true → trimmed (text ++ (0 ∷ [])) ≡ text
     → pop types (rest ++ (text ++ (0 ∷ [])) ++ ((length text + 1) ∷ 3 ∷ []))
-    ≡ popped (record { kind = stringKind; bytes = text ++ (0 ∷ []) }) rest
-unfolding pop popString
+    ≡ popped (record { kind = string_kind; bytes = text ++ (0 ∷ []) }) rest
+unfolding pop pop_string
 string-pops types rest text taken trims =
     let size : length (text ++ (0 ∷ [])) ≡ length text + 1 = length-append text (0 ∷ []) in
     let inner : length (rest ++ (text ++ (0 ∷ []))) ≡ length rest + length (text ++ (0 ∷ [])) = length-append rest (text ++ (0 ∷ [])) in
@@ -115,18 +115,18 @@ module _ {stack rest text : List ℕ} (t : StringOnTop stack rest text) where
   pub top-trimmed : trimmed (text ++ (0 ∷ [])) ≡ text
   top-trimmed = text-trimmed text t.no_zero
 
-  string-taken : (types : Types) → includes types stringKind ≡ true
-      → pop types stack ≡ popped (record { kind = stringKind; bytes = text ++ (0 ∷ []) }) rest
+  string-taken : (types : Types) → includes types string_kind ≡ true
+      → pop types stack ≡ popped (record { kind = string_kind; bytes = text ++ (0 ∷ []) }) rest
   string-taken types taken = ap (pop types) t.lay ∙ string-pops types rest text taken top-trimmed
 
-  pub string-top : pop AnyString stack ≡ popped (record { kind = stringKind; bytes = text ++ (0 ∷ []) }) rest
+  pub string-top : pop AnyString stack ≡ popped (record { kind = string_kind; bytes = text ++ (0 ∷ []) }) rest
   unfolding includes
   string-top = string-taken AnyString refl
 
 pub value-top : {stack rest : List ℕ} {kind : ℕ} {bytes : List ℕ} → ValueOnTop stack rest kind bytes
     → pop AnyValue stack ≡ popped (record { kind = kind; bytes = bytes }) rest
 unfolding includes
-value-top {stack} {rest} {kind} {bytes} (inl t) = number-taken t AnyValue (or-second (eqb kind stringKind) (number-kind t))
+value-top {stack} {rest} {kind} {bytes} (inl t) = number-taken t AnyValue (or-second (eqb kind string_kind) (number-kind t))
 value-top {stack} {rest} {kind} {bytes} (inr v) =
     string-taken v.top AnyValue refl
     ∙ sym (λ z. popped (record { kind = v.typed z; bytes = v.whole z }) rest)

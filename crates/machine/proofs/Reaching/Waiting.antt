@@ -12,18 +12,18 @@ use Rattle.buffer.proofs.Kept.{any_at}
 use Rattle.number.specs.Compare.{equals}
 use Rattle.number.specs.Value.{number_of}
 use Rattle.machine.specs.Answer.{Buffers}
-use Rattle.machine.specs.AtPc.{Onward, SameDisc, processIn, stackIn}
-use Rattle.machine.specs.Beyond.{answered, carriesOn, isAwaited}
+use Rattle.machine.specs.AtPc.{Onward, SameDisc, process_in, stack_in}
+use Rattle.machine.specs.Beyond.{answered, carries_on, is_awaited}
 use Rattle.machine.specs.Effect.{Request, asks, awaits}
-use Rattle.machine.specs.AtPc.{fileIn}
+use Rattle.machine.specs.AtPc.{file_in}
 use Rattle.machine.specs.Reaching.{Awaited, Proceeds, WaitExactly}
 use Rattle.machine.specs.Refusals.{state_of}
-use Rattle.machine.specs.State.{Local, isLive, noProcess, processAt, withLocal, withProcess}
+use Rattle.machine.specs.State.{Local, is_live, no_process, process_at, with_local, with_process}
 use Rattle.machine.specs.declared.Kernel.{Kernel}
 use Rattle.machine.specs.declared.Process.{Process}
 use Rattle.machine.proofs.Changes.Replaced.{put-at}
 use Rattle.machine.proofs.Changes.Slots.{live_inside}
-use Rattle.machine.proofs.Fields.Slots.{id-is, is_live, live-is}
+use Rattle.machine.proofs.Fields.Slots.{id-is, is-live, live-is}
 use Rattle.machine.proofs.Reaching.Finding.{Does, at, wait-found}
 use Rattle.machine.proofs.Reaching.Going.{carried_on, live}
 
@@ -32,26 +32,26 @@ module _ (b : Buffers) (slot clock : ℕ) where
   k = state_of b
 
   abbrev pc : ℕ
-  pc = (processIn b slot).pc
+  pc = (process_in b slot).pc
 
   -- ---- a live process of that ID, in the table and in the work area
   module _ (kind : ℕ) (bytes : List ℕ) where
     abbrev test : Process → Bool
-    test = isAwaited k slot b.disc (number_of kind bytes)
+    test = is_awaited k slot b.disc (number_of kind bytes)
 
     awaited-at : any test k.processes ≡ true → (i : ℕ) × Awaited b slot clock kind bytes i
     awaited-at t =
-        let s = any-is test noProcess k.processes t in
-        let p = processAt k s.place in
-        let alive = live-is b.area s.place (and_left (isLive p) _ s.holds) in
+        let s = any-is test no_process k.processes t in
+        let p = process_at k s.place in
+        let alive = live-is b.area s.place (and_left (is_live p) _ s.holds) in
         let same = subst (λ (id : ℕ). equals (number_of kind bytes) (pos id) ≡ true) (id-is b.area s.place alive.slot)
-        (and_right (isLive p) _ s.holds) in
+        (and_right (is_live p) _ s.holds) in
         (s.place, (alive, same))
 
     is-awaited : (i : ℕ) → Awaited b slot clock kind bytes i → any test k.processes ≡ true
     is-awaited i w =
-        let alive = is_live b.area i w.0 in
-        any_at test k.processes i noProcess (live_inside k i alive)
+        let alive = is-live b.area i w.0 in
+        any_at test k.processes i no_process (live_inside k i alive)
         (and_both alive (subst⁻¹ (λ (id : ℕ). equals (number_of kind bytes) (pos id) ≡ true) (id-is b.area i w.0.slot) w.1))
 
   pub wait-exactly : WaitExactly b slot clock
@@ -59,7 +59,7 @@ module _ (b : Buffers) (slot clock : ℕ) where
   wait-exactly rest kind bytes a top = go (any (test kind bytes) k.processes) refl refl
     where
       stay : Local
-      stay = at b slot pc (stackIn b slot)
+      stay = at b slot pc (stack_in b slot)
 
       on : Local
       on = at b slot (pc + 1) rest
@@ -72,16 +72,16 @@ module _ (b : Buffers) (slot clock : ℕ) where
 
       -- with what is chosen of the two
       goes : (place : ℕ) (stack : List ℕ)
-          → answered k slot b.disc r ≡ carriesOn (withProcess k slot (withLocal (processIn b slot) (at b slot place stack))) b.disc
-          → Onward b slot clock place stack (fileIn b slot) × SameDisc b slot clock
+          → answered k slot b.disc r ≡ carries_on (with_process k slot (with_local (process_in b slot) (at b slot place stack))) b.disc
+          → Onward b slot clock place stack (file_in b slot) × SameDisc b slot clock
       goes place stack e =
-          carried_on b slot clock a.may r does _ b.disc place stack (fileIn b slot) e
-          (put-at k slot (withLocal (processIn b slot) (at b slot place stack)) (live b slot a.may))
+          carried_on b slot clock a.may r does _ b.disc place stack (file_in b slot) e
+          (put-at k slot (with_local (process_in b slot) (at b slot place stack)) (live b slot a.may))
 
       go : (c : Bool) → any (test kind bytes) k.processes ≡ c
-          → answered k slot b.disc r ≡ carriesOn (withProcess k slot (withLocal (processIn b slot) (cond c stay on))) b.disc
-          → (((i : ℕ) × Awaited b slot clock kind bytes i) × Onward b slot clock pc (stackIn b slot) (fileIn b slot)
+          → answered k slot b.disc r ≡ carries_on (with_process k slot (with_local (process_in b slot) (cond c stay on))) b.disc
+          → (((i : ℕ) × Awaited b slot clock kind bytes i) × Onward b slot clock pc (stack_in b slot) (file_in b slot)
           × SameDisc b slot clock)
           ⊎ (((i : ℕ) → Awaited b slot clock kind bytes i → ⊥) × Proceeds b slot clock rest)
-      go true t e = let g = goes pc (stackIn b slot) e in inl (awaited-at kind bytes t, g.0, g.1)
+      go true t e = let g = goes pc (stack_in b slot) e in inl (awaited-at kind bytes t, g.0, g.1)
       go false t e = inr (λ i w. true-not-false (is-awaited kind bytes i w) t, goes (pc + 1) rest e)

@@ -17,16 +17,16 @@ use Rattle.disc.specs.Directory.{contents, entry_at, lookup}
 use Rattle.disc.proofs.Lookups.{lookup-at}
 use Rattle.store.proofs.Calls.{store-cases}
 use Rattle.variable.specs.Table.{owned}
-use Rattle.machine.specs.Answer.{Answer, Buffers, Other, store, retrieve, erase, files, freeSpace, list, Call, turn, round}
+use Rattle.machine.specs.Answer.{Answer, Buffers, Other, store, retrieve, erase, files, free_space, list, Call, turn, round}
 use Rattle.machine.specs.Answer.{command, share, run, other}
-use Rattle.machine.specs.Answer.{answer, commandAnswer, eraseAt, onDisc, otherAnswer, run_at}
-use Rattle.machine.specs.Area.{kernelBytes, kernelOf}
-use Rattle.machine.specs.Isolation.{startName}
-use Rattle.machine.specs.Limits.{slotCount, turnRoom}
-use Rattle.machine.specs.Operations.{Command, Commanded, becomes, refused as declined, commanded, inUse, listText, shared}
+use Rattle.machine.specs.Answer.{answer, command_answer, erase_at, on_disc, other_answer, run_at}
+use Rattle.machine.specs.Area.{kernel_bytes, kernel_of}
+use Rattle.machine.specs.Isolation.{start_name}
+use Rattle.machine.specs.Limits.{slot_count, turn_room}
+use Rattle.machine.specs.Operations.{Command, Commanded, becomes, refused as declined, commanded, in_use, list_text, shared}
 use Rattle.machine.specs.Refusals.{Passes}
 use Rattle.machine.specs.Start.{Starting, starts, refuses, started, starting}
-use Rattle.machine.specs.State.{isLive, isRunning, processAt, slotOf}
+use Rattle.machine.specs.State.{is_live, is_running, process_at, slot_of}
 use Rattle.machine.specs.Trace.{Storage, lending}
 use Rattle.machine.specs.declared.Kernel.{Kernel}
 use Rattle.machine.proofs.Operations.Tests.{tried}
@@ -62,56 +62,56 @@ OfCommand (share id turns) fact = fact id
 OfCommand (run name) fact = Unit {0}
 OfCommand (other o) fact = Unit {0}
 
-abbrev pub isRound : Call → Bool
-isRound (turn slot clock) = false
-isRound (round clock) = true
-isRound (command c id) = false
-isRound (share id turns) = false
-isRound (run name) = false
-isRound (other o) = false
+abbrev pub is_round : Call → Bool
+is_round (turn slot clock) = false
+is_round (round clock) = true
+is_round (command c id) = false
+is_round (share id turns) = false
+is_round (run name) = false
+is_round (other o) = false
 
 -- what a call leaves: the state j and the disc after
 pub data Effects (s : Storage) (k j : Kernel) (after : List ℕ) : Call → Type 0 where
   none : {c : Call} → j ≡ k → after ≡ s.disc → Effects s k j after c
-  outside : {c : Call} → Outside (startName c s) k s.disc j after → Effects s k j after c
-  alone : {c : Command} {id : ℕ} (w : ℕ) → isLive (processAt k w) ≡ true → slotOf k id ≡ At w → Own w k s.disc j → after ≡ s.disc
+  outside : {c : Call} → Outside (start_name c s) k s.disc j after → Effects s k j after c
+  alone : {c : Command} {id : ℕ} (w : ℕ) → is_live (process_at k w) ≡ true → slot_of k id ≡ At w → Own w k s.disc j → after ≡ s.disc
       → Effects s k j after (command c id)
   shares : {id turns : ℕ} → Shares k id turns j → after ≡ s.disc → Effects s k j after (share id turns)
-  takes : {slot clock : ℕ} → isRunning (processAt k slot) ≡ true → Change (startName (turn slot clock) s) slot k s.disc j after
+  takes : {slot clock : ℕ} → is_running (process_at k slot) ≡ true → Change (start_name (turn slot clock) s) slot k s.disc j after
       → Effects s k j after (turn slot clock)
 
 module _ (s : Storage) (out : List ℕ) (passes : Passes s.disc s.area) where
   abbrev k : Kernel
-  k = kernelOf s.area
+  k = kernel_of s.area
 
   abbrev b : Buffers
   b = lending s out
 
   abbrev Leaves : Call → Answer → Type 0
-  Leaves c a = Effects s k (kernelOf a.area) a.disc c
+  Leaves c a = Effects s k (kernel_of a.area) a.disc c
 
   good : GoodState k s.disc
   good = passes-good s.disc s.area passes
 
   -- a state that is written is read back
   read_back : (c : Call) (j : Kernel) (after : List ℕ) → GoodState j after → Effects s k j after c
-      → Effects s k (kernelOf (kernelBytes j)) after c
+      → Effects s k (kernel_of (kernel_bytes j)) after c
   read_back c j after g e = subst⁻¹ (λ (h : Kernel). Effects s k h after c) (good-back j after g) e
 
   store-effects : (name bytes : List ℕ) → Leaves (other (store name bytes)) (answer (other (store name bytes)) b)
-  unfolding answer otherAnswer
+  unfolding answer other_answer
   store-effects name bytes =
-      store-cases s.disc name bytes (λ u. Leaves (other (store name bytes)) (onDisc u b)) (λ r d. none refl refl)
+      store-cases s.disc name bytes (λ u. Leaves (other (store name bytes)) (on_disc u b)) (λ r d. none refl refl)
       (λ at l g a. outside (stores name bytes at a refl refl))
 
   erase-effects : (name : List ℕ) → Leaves (other (erase name)) (answer (other (erase name)) b)
-  unfolding answer otherAnswer
+  unfolding answer other_answer
   erase-effects name = subst⁻¹ (Leaves (other (erase name))) (on-good b _ passes) (found (lookup s.disc name) refl)
     where
-      found : (f : Found) → lookup s.disc name ≡ f → Leaves (other (erase name)) (eraseAt f k b)
+      found : (f : Found) → lookup s.disc name ≡ f → Leaves (other (erase name)) (erase_at f k b)
       found Nowhere e = none refl refl
       found (At i) e =
-          tried (Leaves (other (erase name))) b (not (inUse k (entry_at s.disc i))) 11 _ (none refl refl) λ free.
+          tried (Leaves (other (erase name))) b (not (in_use k (entry_at s.disc i))) 11 _ (none refl refl) λ free.
           outside (erases i (lookup-at s.disc name i e).inside (not-true _ free) refl refl)
 
   run-effects : (name : List ℕ) → Leaves (run name) (answer (run name) b)
@@ -128,7 +128,7 @@ module _ (s : Storage) (out : List ℕ) (passes : Passes s.disc s.area) where
   unfolding answer
   command-effects c id = subst⁻¹ (Leaves (command c id)) (on-good b _ passes) (given (commanded c id k) refl)
     where
-      given : (r : Commanded) → commanded c id k ≡ r → Leaves (command c id) (commandAnswer r b)
+      given : (r : Commanded) → commanded c id k ≡ r → Leaves (command c id) (command_answer r b)
       given (declined n) e = none refl refl
       given (becomes j) e =
           let o = command-own good c id j e in
@@ -139,36 +139,36 @@ module _ (s : Storage) (out : List ℕ) (passes : Passes s.disc s.area) where
   unfolding answer
   share-effects id turns = subst⁻¹ (Leaves (share id turns)) (on-good b _ passes) (given (shared id turns k) refl)
     where
-      given : (r : Commanded) → shared id turns k ≡ r → Leaves (share id turns) (commandAnswer r b)
+      given : (r : Commanded) → shared id turns k ≡ r → Leaves (share id turns) (command_answer r b)
       given (declined n) e = none refl refl
       given (becomes j) e =
           read_back (share id turns) j s.disc (share-good good id turns j e) (shares (share-is k id turns j e) refl)
 
   list-effects : Leaves (other list) (answer (other list) b)
-  unfolding answer otherAnswer
+  unfolding answer other_answer
   list-effects = subst⁻¹ (Leaves (other list)) (on-good b _ passes)
-      (tried (Leaves (other list)) b (leb (length (listText k)) (length out)) 4 _ (none refl refl) λ fit. none refl refl)
+      (tried (Leaves (other list)) b (leb (length (list_text k)) (length out)) 4 _ (none refl refl) λ fit. none refl refl)
 
   turn-effects : (slot clock : ℕ) → Leaves (turn slot clock) (answer (turn slot clock) b)
   unfolding answer
   turn-effects slot clock =
       subst⁻¹ (Leaves (turn slot clock)) (on-good b _ passes)
-      (tried (Leaves (turn slot clock)) b (leb turnRoom (length out)) 4 _ (none refl refl) λ fit.
-      tried (Leaves (turn slot clock)) b (ltb slot slotCount && isRunning (processAt k slot)) 16 _ (none refl refl) λ may.
-      let h : isRunning (processAt k slot) ≡ true = and_right (ltb slot slotCount) _ may in
+      (tried (Leaves (turn slot clock)) b (leb turn_room (length out)) 4 _ (none refl refl) λ fit.
+      tried (Leaves (turn slot clock)) b (ltb slot slot_count && is_running (process_at k slot)) 16 _ (none refl refl) λ may.
+      let h : is_running (process_at k slot) ≡ true = and_right (ltb slot slot_count) _ may in
       read_back (turn slot clock) _ _ (turn-good k slot clock s.disc good h) (takes h (turn-is-change k slot clock s.disc good h)))
 
   other-effects : (o : Other) → Leaves (other o) (answer (other o) b)
-  unfolding answer otherAnswer
+  unfolding answer other_answer
   other-effects (store name bytes) = store-effects name bytes
   other-effects (retrieve name) = none refl refl
   other-effects (erase name) = erase-effects name
   other-effects files = none refl refl
-  other-effects freeSpace = none refl refl
+  other-effects free_space = none refl refl
   other-effects list = list-effects
 
-  pub call-effects : (c : Call) → isRound c ≡ false
-      → Effects s (kernelOf s.area) (kernelOf (answer c (lending s out)).area) (answer c (lending s out)).disc c
+  pub call-effects : (c : Call) → is_round c ≡ false
+      → Effects s (kernel_of s.area) (kernel_of (answer c (lending s out)).area) (answer c (lending s out)).disc c
   call-effects (turn slot clock) h = turn-effects slot clock
   call-effects (round clock) h = absurd (true-not-false refl h)
   call-effects (command c id) h = command-effects c id
@@ -180,11 +180,11 @@ module _ (s : Storage) (out : List ℕ) (passes : Passes s.disc s.area) where
 -- the call is none of the process in slot own
 pub record Elsewhere (c : Call) (own : ℕ) (k : Kernel) : Type 0 where
   pub turns : OfTurn c (λ slot clock. own ≡ slot → ⊥)
-  pub commands : OfCommand c (λ id. slotOf k id ≡ At own → ⊥)
+  pub commands : OfCommand c (λ id. slot_of k id ≡ At own → ⊥)
 
 -- and writes nothing into a file
 abbrev pub Unwritten : Call → Run → Storage → Kernel → Kernel → Type 0
-Unwritten c file s k j = OfTurn c (λ slot clock. isRunning (processAt k slot) ≡ true → NoWriteInto file slot k s.disc j)
+Unwritten c file s k j = OfTurn c (λ slot clock. is_running (process_at k slot) ≡ true → NoWriteInto file slot k s.disc j)
 
 module _ {s : Storage} {k j : Kernel} {after : List ℕ} (g : GoodState k s.disc) where
   pub effects-gone : (i : ℕ) (c : Call) → Gone i k → Effects s k j after c → Gone i j
@@ -194,21 +194,21 @@ module _ {s : Storage} {k j : Kernel} {after : List ℕ} (g : GoodState k s.disc
   effects-gone i c gone (shares x f) = gone-after i gone (shares-own g x)
   effects-gone i c gone (takes r x) = change-gone _ _ k s.disc j after g i gone x
 
-  pub effects-begun : (i : ℕ) (c : Call) → slotOf k i ≡ Nowhere → Effects s k j after c → (slotOf j i ≡ Nowhere)
-      ⊎ Begun (startName c s) i s.disc j after
-  effects-begun i c h (none e f) = inl (subst⁻¹ (λ (x : Kernel). slotOf x i ≡ Nowhere) e h)
+  pub effects-begun : (i : ℕ) (c : Call) → slot_of k i ≡ Nowhere → Effects s k j after c → (slot_of j i ≡ Nowhere)
+      ⊎ Begun (start_name c s) i s.disc j after
+  effects-begun i c h (none e f) = inl (subst⁻¹ (λ (x : Kernel). slot_of x i ≡ Nowhere) e h)
   effects-begun i c h (outside o) = outside-begun i g h o
   effects-begun i c h (alone w l e x f) = inl (own-none i h x)
   effects-begun i c h (shares x f) = inl (own-none i h (shares-own g x))
-  effects-begun i (turn slot clock) h (takes r x) = change-begun _ slot k s.disc j after g (running-live (processAt k slot) r) i h x
+  effects-begun i (turn slot clock) h (takes r x) = change-begun _ slot k s.disc j after g (running-live (process_at k slot) r) i h x
 
   -- the record and the variables of the process in slot own are left as they are
-  pub effects-untouched : (own : ℕ) → isLive (processAt k own) ≡ true → (c : Call) → Elsewhere c own k → Effects s k j after c
+  pub effects-untouched : (own : ℕ) → is_live (process_at k own) ≡ true → (c : Call) → Elsewhere c own k → Effects s k j after c
       → Untouched own k j
   effects-untouched own live c away (none e f) =
       record {
-        process = ap (λ (x : Kernel). processAt x own) e;
-        variables = ap (λ (x : Kernel). owned x.variables (processAt k own).id) e;
+        process = ap (λ (x : Kernel). process_at x own) e;
+        variables = ap (λ (x : Kernel). owned x.variables (process_at k own).id) e;
       }
   effects-untouched own live c away (outside o) = let u = outside-spares g own live o in
       record { process = u.process; variables = u.variables }

@@ -9,13 +9,13 @@ use Rattle.buffer.specs.declared.Found.TheVariants.{At, Nowhere}
 use Rattle.buffer.proofs.Bools.{true-not-false}
 use Rattle.variable.specs.Table.{owned}
 use Rattle.machine.specs.Answer.{Answer, answer}
-use Rattle.machine.specs.Area.{kernelOf}
-use Rattle.machine.specs.Isolation.{contentsAt, fileNamed, givesOut, isLiveIn, startName}
+use Rattle.machine.specs.Area.{kernel_of}
+use Rattle.machine.specs.Isolation.{contents_at, file_named, gives_out, is_live_in, start_name}
 use Rattle.machine.specs.Observation.{place_in}
 use Rattle.machine.specs.Refusals.{Passes}
 use Rattle.machine.specs.Single.{fresh}
-use Rattle.machine.specs.State.{isLive, slotOf}
-use Rattle.machine.specs.Trace.{Event, Storage, lending, storageOf}
+use Rattle.machine.specs.State.{is_live, slot_of}
+use Rattle.machine.specs.Trace.{Event, Storage, lending, storage_of}
 use Rattle.machine.specs.Turn.{program_of}
 use Rattle.machine.specs.declared.Kernel.{Kernel}
 use Rattle.machine.specs.declared.Process.{Process}
@@ -27,11 +27,11 @@ use Rattle.machine.proofs.Demands.GoodCalls.{passes-good}
 use Rattle.machine.proofs.Changes.Slots.{place-is-slot}
 use Rattle.machine.proofs.Traces.Chains.{Genuine}
 
-pub given_is : (i : ℕ) (e : Event) → givesOut i e ≡ true → (place_in e.before i ≡ Nowhere) × (place_in e.after i ≡ Nowhere → ⊥)
-unfolding givesOut
+pub given_is : (i : ℕ) (e : Event) → gives_out i e ≡ true → (place_in e.before i ≡ Nowhere) × (place_in e.after i ≡ Nowhere → ⊥)
+unfolding gives_out
 given_is i e h = go (place_in e.before i) refl (place_in e.after i) refl h
   where
-    go : (f : Found) → place_in e.before i ≡ f → (g : Found) → place_in e.after i ≡ g → not (isLiveIn f) && isLiveIn g ≡ true
+    go : (f : Found) → place_in e.before i ≡ f → (g : Found) → place_in e.after i ≡ g → not (is_live_in f) && is_live_in g ≡ true
         → (place_in e.before i ≡ Nowhere) × (place_in e.after i ≡ Nowhere → ⊥)
     go Nowhere p (At s) q t = (p, λ n. no_place (sym q ∙ n))
     go Nowhere p Nowhere q t = absurd (true-not-false t refl)
@@ -39,22 +39,22 @@ given_is i e h = go (place_in e.before i) refl (place_in e.after i) refl h
 
 -- "Start: running, no loop, no variables, the rest 0."
 begun-follows : (name : List ℕ) (i : ℕ) (disc : List ℕ) (j : Kernel) (after prog : List ℕ) → Begun name i disc j after
-    → fileNamed disc name ≡ prog → Follows i prog j after fresh
+    → file_named disc name ≡ prog → Follows i prog j after fresh
 begun-follows name i disc j after prog b program =
     record {
       slot = b.slot;
-      live = ap isLive b.process;
+      live = ap is_live b.process;
       named = ap (λ (p : Process). p.id) b.process;
-      runs = (λ z. program_of (b.same-disc z) (b.process z)) ∙ ap (λ (f : Found). contentsAt f disc) (sym b.found) ∙ program;
+      runs = (λ z. program_of (b.same-disc z) (b.process z)) ∙ ap (λ (f : Found). contents_at f disc) (sym b.found) ∙ program;
       holds = subst⁻¹ (λ (p : Process). Holds p (owned j.variables i) fresh) b.process
           (record { sp = refl; stack = refl; pc = refl; loop = refl; state = refl; fault = refl; cells = b.variables });
     }
 
-pub begins : (i : ℕ) (prog : List ℕ) (e : Event) → Genuine e → Passes e.before.disc e.before.area → givesOut i e ≡ true
-    → fileNamed e.before.disc (startName e.call e.before) ≡ prog
-    → Tracks i prog (kernelOf e.after.area) e.after.disc fresh
+pub begins : (i : ℕ) (prog : List ℕ) (e : Event) → Genuine e → Passes e.before.disc e.before.area → gives_out i e ≡ true
+    → file_named e.before.disc (start_name e.call e.before) ≡ prog
+    → Tracks i prog (kernel_of e.after.area) e.after.disc fresh
 begins i prog e g passes gives program =
-    subst⁻¹ (λ (f : Event). Tracks i prog (kernelOf f.after.area) f.after.disc fresh) g.same
+    subst⁻¹ (λ (f : Event). Tracks i prog (kernel_of f.after.area) f.after.disc fresh) g.same
     (go (effects-begun (passes-good s.disc s.area passes) i e.call (sym (place-is-slot s i)
     ∙ known.0) (call-effects s g.out passes e.call g.reports.single)))
   where
@@ -67,8 +67,8 @@ begins i prog e g passes gives program =
     known : (place_in e.before i ≡ Nowhere) × (place_in e.after i ≡ Nowhere → ⊥)
     known = given_is i e gives
 
-    go : (slotOf (kernelOf a.area) i ≡ Nowhere) ⊎ Begun (startName e.call s) i s.disc (kernelOf a.area) a.disc
-        → Tracks i prog (kernelOf a.area) a.disc fresh
+    go : (slot_of (kernel_of a.area) i ≡ Nowhere) ⊎ Begun (start_name e.call s) i s.disc (kernel_of a.area) a.disc
+        → Tracks i prog (kernel_of a.area) a.disc fresh
     go (inl absent) = absurd
-        (known.1 (subst⁻¹ (λ (f : Event). place_in f.after i ≡ Nowhere) g.same (place-is-slot (storageOf a) i ∙ absent)))
-    go (inr b) = on (begun-follows (startName e.call s) i s.disc (kernelOf a.area) a.disc prog b program)
+        (known.1 (subst⁻¹ (λ (f : Event). place_in f.after i ≡ Nowhere) g.same (place-is-slot (storage_of a) i ∙ absent)))
+    go (inr b) = on (begun-follows (start_name e.call s) i s.disc (kernel_of a.area) a.disc prog b program)

@@ -10,7 +10,7 @@ use Rattle.buffer.specs.Lists.{tab}
 use Rattle.buffer.proofs.Bools.{not-is-true, true-not-false}
 use Rattle.place.specs.Place.{fits}
 use Rattle.variable.specs.Assign.{assigned}
-use Rattle.variable.specs.Table.{freed, is_of, runOf}
+use Rattle.variable.specs.Table.{freed, is_of, run_of}
 use Rattle.variable.specs.declared.Placing.{Placing}
 use Rattle.variable.specs.declared.Placing.TheVariants.{Address, NoEntry, NoRun}
 use Rattle.variable.specs.declared.Value.{Value}
@@ -18,33 +18,33 @@ use Rattle.variable.specs.declared.Variable.{Variable}
 use Rattle.variable.specs.declared.Variables.{Variables}
 use Rattle.variable.proofs.Freeing.{freed-counted}
 use Rattle.variable.proofs.Setting.{assigned-no-entry, assigned-no-run}
-use Rattle.variable.specs.Limits.{maxVariables, memorySize}
-use Rattle.machine.specs.Suppositions.{lacksSpace, othersThan}
+use Rattle.variable.specs.Limits.{max_variables, memory_size}
+use Rattle.machine.specs.Suppositions.{lacks_space, others_than}
 use Rattle.buffer.proofs.Disjunctions.{any_none, or-first, or-second}
 
 module _ (v : Variables) (name i : ℕ) (x : Value) where
   abbrev others : List Variable
-  others = othersThan name i v
+  others = others_than name i v
 
   pub freed-count-is : (freed v (is_of name i)).count ≡ length others
   unfolding freed
   freed-count-is = refl
 
-  pub room-found : lacksSpace v name i x.size ≡ false → (a : ℕ) × ((assigned v name i x).placing ≡ Address a)
-  unfolding lacksSpace
+  pub room-found : lacks_space v name i x.size ≡ false → (a : ℕ) × ((assigned v name i x).placing ≡ Address a)
+  unfolding lacks_space
   room-found h = go (assigned v name i x).placing refl
     where
       go : (q : Placing) → (assigned v name i x).placing ≡ q → (a : ℕ) × ((assigned v name i x).placing ≡ Address a)
       go (Address a) e = (a, e)
       go NoEntry e =
-          let full : leb maxVariables (length others) ≡ true =
-          le-leb maxVariables (length others) (subst (λ (n : ℕ). maxVariables ≤ n) freed-count-is (assigned-no-entry v name i x e)) in
+          let full : leb max_variables (length others) ≡ true =
+          le-leb max_variables (length others) (subst (λ (n : ℕ). max_variables ≤ n) freed-count-is (assigned-no-entry v name i x e)) in
           absurd (true-not-false (or-first _ full) h)
       go NoRun e =
           let runs : (freed v (is_of name i)).count ≡ length others = freed-count-is in
-          let none : (a : ℕ) → fits (map runOf others) 0 memorySize x.size a ≡ false = λ a.
-          subst (λ (l : List Variable). fits (map runOf l) 0 memorySize x.size a ≡ false) (freed-counted v (is_of name i))
+          let none : (a : ℕ) → fits (map run_of others) 0 memory_size x.size a ≡ false = λ a.
+          subst (λ (l : List Variable). fits (map run_of l) 0 memory_size x.size a ≡ false) (freed-counted v (is_of name i))
           (assigned-no-run v name i x e a) in
           absurd (true-not-false
-          (or-second (leb maxVariables (length others))
-          (not-is-true (any_none (fits (map runOf others) 0 memorySize x.size) (tab (λ a. a) memorySize) none))) h)
+          (or-second (leb max_variables (length others))
+          (not-is-true (any_none (fits (map run_of others) 0 memory_size x.size) (tab (λ a. a) memory_size) none))) h)

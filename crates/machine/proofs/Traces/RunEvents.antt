@@ -13,17 +13,17 @@ use Rattle.buffer.specs.declared.Found.{Found}
 use Rattle.buffer.specs.declared.Found.TheVariants.{At, Nowhere}
 use Rattle.buffer.proofs.Bools.{and_right}
 use Rattle.disc.specs.Directory.{entry_at, lookup}
-use Rattle.machine.specs.Answer.{Answer, Buffers, Other, store, retrieve, erase, files, freeSpace, list, Call, turn, round}
+use Rattle.machine.specs.Answer.{Answer, Buffers, Other, store, retrieve, erase, files, free_space, list, Call, turn, round}
 use Rattle.machine.specs.Answer.{command, share, run, other}
-use Rattle.machine.specs.Answer.{answer, commandAnswer, eraseAt, onGood, otherAnswer, refused, run_at, turnedAnswer}
-use Rattle.machine.specs.Area.{AreBytes, Whole, isAreaLength, kernelBytes, kernelOf}
-use Rattle.machine.specs.Limits.{areaLength, roundRoom, slotCount, turnRoom}
-use Rattle.machine.specs.Operations.{Commanded, becomes, refused as declined, commanded, inUse, listText, roundOf, shared}
+use Rattle.machine.specs.Answer.{answer, command_answer, erase_at, on_good, other_answer, refused, run_at, turned_answer}
+use Rattle.machine.specs.Area.{AreBytes, Whole, is_area_length, kernel_bytes, kernel_of}
+use Rattle.machine.specs.Limits.{area_length, round_room, slot_count, turn_room}
+use Rattle.machine.specs.Operations.{Commanded, becomes, refused as declined, commanded, in_use, list_text, round_of, shared}
 use Rattle.machine.specs.Refusals.{Passes}
 use Rattle.machine.specs.Start.{Starting, starts, refuses, started, starting}
-use Rattle.machine.specs.State.{isRunning, processAt}
-use Rattle.machine.specs.Trace.{Event, Invocation, Storage, afterCalls, answer_of, event, events, eventsBy, lastStorage, lending}
-use Rattle.machine.specs.Trace.{only_if, outputText, roundEvents, storageOf, tenSlots}
+use Rattle.machine.specs.State.{is_running, process_at}
+use Rattle.machine.specs.Trace.{Event, Invocation, Storage, after_calls, answer_of, event, events, events_by, last_storage, lending}
+use Rattle.machine.specs.Trace.{only_if, output_text, round_events, storage_of, ten_slots}
 use Rattle.machine.specs.Turn.{Turned, turned}
 use Rattle.machine.specs.declared.Kernel.{Kernel}
 use Rattle.machine.proofs.Operations.Tests.{tried}
@@ -39,7 +39,7 @@ use Rattle.machine.proofs.Demands.Rounds.{round-done}
 
 -- an area of the right length is whole
 abbrev Sound : List ℕ → Type 0
-Sound area = isAreaLength (length area) ≡ true → Whole area
+Sound area = is_area_length (length area) ≡ true → Whole area
 
 -- ---- the area that a call leaves: as it was, or the bytes of a good state
 module _ (s : Storage) (out : List ℕ) where
@@ -48,16 +48,16 @@ module _ (s : Storage) (out : List ℕ) where
 
   pub data Written (a : Answer) : Type 0 where
     as_it_was : a.area ≡ s.area → Written a
-    state-bytes : (j : Kernel) (disc : List ℕ) → GoodState j disc → a.area ≡ kernelBytes j → Written a
+    state-bytes : (j : Kernel) (disc : List ℕ) → GoodState j disc → a.area ≡ kernel_bytes j → Written a
 
   -- on buffers that are not good it stays
   bad-other : (Passes s.disc s.area → ⊥) → (o : Other) → (answer (other o) b).area ≡ s.area
-  unfolding answer otherAnswer
+  unfolding answer other_answer
   bad-other bad (store name bytes) = refl
   bad-other bad (retrieve name) = refl
   bad-other bad (erase name) = ap (λ (a : Answer). a.area) (bad-refused b _ bad).1
   bad-other bad files = refl
-  bad-other bad freeSpace = refl
+  bad-other bad free_space = refl
   bad-other bad list = ap (λ (a : Answer). a.area) (bad-refused b _ bad).1
 
   bad-area : (Passes s.disc s.area → ⊥) → (c : Call) → (answer c b).area ≡ s.area
@@ -71,55 +71,55 @@ module _ (s : Storage) (out : List ℕ) where
 
   module _ (passes : Passes s.disc s.area) where
     abbrev k : Kernel
-    k = kernelOf s.area
+    k = kernel_of s.area
 
     good : GoodState k s.disc
     good = passes-good s.disc s.area passes
 
-    after-good : (rest : Answer) → Written rest → Written (onGood b rest)
+    after-good : (rest : Answer) → Written rest → Written (on_good b rest)
     after-good rest w = subst⁻¹ Written (on-good b rest passes) w
 
-    erased-area : (f : Found) → Written (eraseAt f k b)
+    erased-area : (f : Found) → Written (erase_at f k b)
     erased-area Nowhere = as_it_was refl
-    erased-area (At i) = tried Written b (not (inUse k (entry_at s.disc i))) 11 _ (as_it_was refl) λ free. as_it_was refl
+    erased-area (At i) = tried Written b (not (in_use k (entry_at s.disc i))) 11 _ (as_it_was refl) λ free. as_it_was refl
 
     run-area : (name : List ℕ) (x : Starting) → starting k s.disc name ≡ x → Written (run_at x k b)
     run-area name (refuses n) e = as_it_was refl
     run-area name (starts slot f) e =
         state-bytes (started k slot f) s.disc (outside-good name k s.disc _ _ good (begins slot f e refl refl)) refl
 
-    commanded-area : (r : Commanded) → ((j : Kernel) → r ≡ becomes j → GoodState j s.disc) → Written (commandAnswer r b)
+    commanded-area : (r : Commanded) → ((j : Kernel) → r ≡ becomes j → GoodState j s.disc) → Written (command_answer r b)
     commanded-area (declined n) leaves = as_it_was refl
     commanded-area (becomes j) leaves = state-bytes j s.disc (leaves j refl) refl
 
     good-other : (o : Other) → Written (answer (other o) b)
-    unfolding answer otherAnswer
+    unfolding answer other_answer
     good-other (store name bytes) = as_it_was refl
     good-other (retrieve name) = as_it_was refl
     good-other (erase name) = after-good _ (erased-area (lookup s.disc name))
     good-other files = as_it_was refl
-    good-other freeSpace = as_it_was refl
-    good-other list = after-good _ (tried Written b (leb (length (listText k)) (length out)) 4 _ (as_it_was refl) λ fit. as_it_was refl)
+    good-other free_space = as_it_was refl
+    good-other list = after-good _ (tried Written b (leb (length (list_text k)) (length out)) 4 _ (as_it_was refl) λ fit. as_it_was refl)
 
     good-area : (c : Call) → Written (answer c b)
     unfolding answer
     good-area (turn slot clock) =
         after-good _
-        (tried Written b (leb turnRoom (length out)) 4 _ (as_it_was refl) λ fit.
-        tried Written b (ltb slot slotCount && isRunning (processAt k slot)) 16 _ (as_it_was refl) λ may.
+        (tried Written b (leb turn_room (length out)) 4 _ (as_it_was refl) λ fit.
+        tried Written b (ltb slot slot_count && is_running (process_at k slot)) 16 _ (as_it_was refl) λ may.
         state-bytes (turned k slot clock s.disc).kernel (turned k slot clock s.disc).disc
-        (turn-good k slot clock s.disc good (and_right (ltb slot slotCount) _ may)) refl)
+        (turn-good k slot clock s.disc good (and_right (ltb slot slot_count) _ may)) refl)
     good-area (round clock) =
         after-good _
-        (tried Written b (leb roundRoom (length out)) 4 _ (as_it_was refl) λ fit.
-        state-bytes (roundOf k clock s.disc).kernel (roundOf k clock s.disc).disc (round-good k clock s.disc good) refl)
+        (tried Written b (leb round_room (length out)) 4 _ (as_it_was refl) λ fit.
+        state-bytes (round_of k clock s.disc).kernel (round_of k clock s.disc).disc (round-good k clock s.disc good) refl)
     good-area (command c id) = after-good _ (commanded-area (commanded c id k) (command-good good c id))
     good-area (share id turns) = after-good _ (commanded-area (shared id turns k) (share-good good id turns))
     good-area (run name) = after-good _ (run-area name (starting k s.disc name) refl)
     good-area (other o) = good-other o
 
   -- both facts of an area that a call keeps: that it is whole, and that it is where it has the right length
-  area-kept : (P : List ℕ → Type 0) → ((j : Kernel) (disc : List ℕ) → GoodState j disc → P (kernelBytes j)) → (c : Call) → P s.area
+  area-kept : (P : List ℕ → Type 0) → ((j : Kernel) (disc : List ℕ) → GoodState j disc → P (kernel_bytes j)) → (c : Call) → P s.area
       → P (answer c b).area
   area-kept P written c h =
       ⊎_elim (λ passes. of (good-area passes c)) (λ bad. subst⁻¹ P (bad-area bad c) h) (passes-or-not s.disc s.area)
@@ -129,57 +129,57 @@ module _ (s : Storage) (out : List ℕ) where
       of (state-bytes j disc g e) = subst⁻¹ P e (written j disc g)
 
   pub whole-after : (c : Call) → Whole s.area → Whole (answer c b).area
-  whole-after = area-kept Whole (λ j disc g. ap kernelBytes (good-back j disc g))
+  whole-after = area-kept Whole (λ j disc g. ap kernel_bytes (good-back j disc g))
 
   sound-kept : (c : Call) → Sound s.area → Sound (answer c b).area
-  sound-kept = area-kept Sound (λ j disc g long. ap kernelBytes (good-back j disc g))
+  sound-kept = area-kept Sound (λ j disc g long. ap kernel_bytes (good-back j disc g))
 
   -- ---- where the events of a call lead
   abbrev Ends : List Event → Answer → Type 0
-  Ends es a = lastStorage s es ≡ storageOf a
+  Ends es a = last_storage s es ≡ storage_of a
 
-  refused-ends : (n : ℕ) (a : Answer) → a ≡ refused n b → s ≡ storageOf a
-  refused-ends n a e = sym (ap storageOf e)
+  refused-ends : (n : ℕ) (a : Answer) → a ≡ refused n b → s ≡ storage_of a
+  refused-ends n a e = sym (ap storage_of e)
 
   turn-ends : (slot clock : ℕ)
-      → Ends (only_if (leb turnRoom (length out))
-      (event (turn slot clock) s (answer (turn slot clock) b) (outputText (answer (turn slot clock) b)))) (answer (turn slot clock) b)
-  unfolding lastStorage answer
-  turn-ends slot clock = go (leb turnRoom (length out)) refl (passes-or-not s.disc s.area)
+      → Ends (only_if (leb turn_room (length out))
+      (event (turn slot clock) s (answer (turn slot clock) b) (output_text (answer (turn slot clock) b)))) (answer (turn slot clock) b)
+  unfolding last_storage answer
+  turn-ends slot clock = go (leb turn_room (length out)) refl (passes-or-not s.disc s.area)
     where
       a : Answer
       a = answer (turn slot clock) b
 
-      go : (f : Bool) → leb turnRoom (length out) ≡ f → Passes s.disc s.area ⊎ (Passes s.disc s.area → ⊥)
-          → Ends (only_if f (event (turn slot clock) s a (outputText a))) a
+      go : (f : Bool) → leb turn_room (length out) ≡ f → Passes s.disc s.area ⊎ (Passes s.disc s.area → ⊥)
+          → Ends (only_if f (event (turn slot clock) s a (output_text a))) a
       go true h p = refl
       go false h (inl passes) = refused-ends 4 a (short-turn s out passes slot clock h)
       go false h (inr bad) = let r = bad-refused b _ bad in refused-ends (suc r.0) a r.1
 
   round-ends : (clock : ℕ) → Sound s.area
-      → Ends (roundEvents (answer (round clock) b).number clock s (outputText (answer (round clock) b))) (answer (round clock) b)
-  unfolding lastStorage answer all
-  round-ends clock whole = go (leb roundRoom (length out)) refl (passes-or-not s.disc s.area)
+      → Ends (round_events (answer (round clock) b).number clock s (output_text (answer (round clock) b))) (answer (round clock) b)
+  unfolding last_storage answer all
+  round-ends clock whole = go (leb round_room (length out)) refl (passes-or-not s.disc s.area)
     where
       u : Turned
-      u = roundOf (kernelOf s.area) clock s.disc
+      u = round_of (kernel_of s.area) clock s.disc
 
       Right : Answer → Type 0
-      Right a = Ends (roundEvents a.number clock s (outputText a)) a
+      Right a = Ends (round_events a.number clock s (output_text a)) a
 
       short : (n : ℕ) → answer (round clock) b ≡ refused (suc n) b → Right (answer (round clock) b)
       short n e = subst⁻¹ Right e refl
 
-      go : (f : Bool) → leb roundRoom (length out) ≡ f → Passes s.disc s.area ⊎ (Passes s.disc s.area → ⊥)
+      go : (f : Bool) → leb round_room (length out) ≡ f → Passes s.disc s.area ⊎ (Passes s.disc s.area → ⊥)
           → Right (answer (round clock) b)
       go f h (inr bad) = let r = bad-refused b _ bad in short r.0 r.1
       go false h (inl passes) = short 3 (short-round s out passes clock h)
       go true h (inl passes) =
-          let p = share-parts tenSlots clock s (outputText (turnedAnswer u b)) refl passes (take_at u.out _ (length u.out) refl) in
+          let p = share-parts ten_slots clock s (output_text (turned_answer u b)) refl passes (take_at u.out _ (length u.out) refl) in
           subst⁻¹ Right (round-done b clock passes h) (λ z. record { disc = p.disc z; area = p.area (whole (area-length passes)) z })
 
-  call_ends : (c : Call) → Sound s.area → Ends (eventsBy c out s (answer c b)) (answer c b)
-  unfolding lastStorage
+  call_ends : (c : Call) → Sound s.area → Ends (events_by c out s (answer c b)) (answer c b)
+  unfolding last_storage
   call_ends (turn slot clock) h = turn-ends slot clock
   call_ends (round clock) h = round-ends clock h
   call_ends (command c id) h = refl
@@ -187,17 +187,17 @@ module _ (s : Storage) (out : List ℕ) where
   call_ends (run name) h = refl
   call_ends (other o) h = refl
 
-run_ends : (calls : List Invocation) (s : Storage) → Sound s.area → lastStorage s (events calls s) ≡ afterCalls calls s
-unfolding events lastStorage afterCalls
+run_ends : (calls : List Invocation) (s : Storage) → Sound s.area → last_storage s (events calls s) ≡ after_calls calls s
+unfolding events last_storage after_calls
 run_ends [] s h = refl
 run_ends (i ∷ calls) s h =
     let a : Answer = answer_of i s in
-    last-append s (eventsBy i.call i.out s a) (events calls (storageOf a))
-    ∙ ap (λ (t : Storage). lastStorage t (events calls (storageOf a))) (call_ends s i.out i.call h)
-    ∙ run_ends calls (storageOf a) (sound-kept s i.out i.call h)
+    last-append s (events_by i.call i.out s a) (events calls (storage_of a))
+    ∙ ap (λ (t : Storage). last_storage t (events calls (storage_of a))) (call_ends s i.out i.call h)
+    ∙ run_ends calls (storage_of a) (sound-kept s i.out i.call h)
 
-pub bytes_whole : (area : List ℕ) → AreBytes area → length area ≡ areaLength → Whole area
+pub bytes_whole : (area : List ℕ) → AreBytes area → length area ≡ area_length → Whole area
 bytes_whole = kernel-encode-decode
 
-pub run-is-events : (calls : List Invocation) (s : Storage) → AreBytes s.area → lastStorage s (events calls s) ≡ afterCalls calls s
+pub run-is-events : (calls : List Invocation) (s : Storage) → AreBytes s.area → last_storage s (events calls s) ≡ after_calls calls s
 run-is-events calls s h = run_ends calls s (λ long. kernel-encode-decode s.area h (eqb-true _ _ long))

@@ -2,9 +2,9 @@
 ghost use Rattle.std.specs.Prelude.{◌≡◌, ◌+◌, ◌<◌, ◌≤◌, length};
 ghost use Rattle.buffer.specs.Buffer.{overwrite};
 ghost use Rattle.buffer.specs.Lists.{tab};
-ghost use Rattle.machine.specs.Limits.{areaLength};
-ghost use Rattle.variable.specs.Limits.{entrySize, maxVariables};
-ghost use Rattle.validation.specs.Columns.{bytes_of, endsOf, places, words_of};
+ghost use Rattle.machine.specs.Limits.{area_length};
+ghost use Rattle.variable.specs.Limits.{entry_size, max_variables};
+ghost use Rattle.validation.specs.Columns.{bytes_of, ends_of, places, words_of};
 
 use buffer::bytes::word_at;
 use variable::{ENTRIES_AT, ENTRY_SIZE};
@@ -35,8 +35,8 @@ pub fn wide(b: u8) -> u16
 }
 
 pub fn fill_bytes(column: &mut [u16; PLACES], area: &[u8], field: usize, count: usize)
-    requires column_len { (length column.old ≡ places) × (length area.now ≡ areaLength) }
-    requires field_lt_entry_size { (field < entrySize) × (count ≤ maxVariables) }
+    requires column_len { (length column.old ≡ places) × (length area.now ≡ area_length) }
+    requires field_lt_entry_size { (field < entry_size) × (count ≤ max_variables) }
     ensures { column.new
         ≡ overwrite column.old 0 (bytes_of area.now field count) }
 {
@@ -49,8 +49,8 @@ pub fn fill_bytes(column: &mut [u16; PLACES], area: &[u8], field: usize, count: 
 }
 
 pub fn fill_words(column: &mut [u16; PLACES], area: &[u8], field: usize, count: usize)
-    requires column_len { (length column.old ≡ places) × (length area.now ≡ areaLength) }
-    requires field_bound { (field + 1 < entrySize) × (count ≤ maxVariables) }
+    requires column_len { (length column.old ≡ places) × (length area.now ≡ area_length) }
+    requires field_bound { (field + 1 < entry_size) × (count ≤ max_variables) }
     ensures { column.new
         ≡ overwrite column.old 0 (words_of area.now field count) }
 {
@@ -63,8 +63,8 @@ pub fn fill_words(column: &mut [u16; PLACES], area: &[u8], field: usize, count: 
 }
 
 pub fn fill_ends(column: &mut [u16; PLACES], area: &[u8], count: usize)
-    requires { (length column.old ≡ places) × (length area.now ≡ areaLength) × (count ≤ maxVariables) }
-    ensures { column.new ≡ overwrite column.old 0 (endsOf area.now count) }
+    requires { (length column.old ≡ places) × (length area.now ≡ area_length) × (count ≤ max_variables) }
+    ensures { column.new ≡ overwrite column.old 0 (ends_of area.now count) }
 {
     let mut i: usize = 0;
     while i < count {

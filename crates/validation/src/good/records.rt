@@ -2,11 +2,11 @@
 ghost use Rattle.std.specs.Prelude.{◌≡◌, true, ◌||◌, ◌+◌, ◌<◌, eqb, length};
 ghost use Rattle.buffer.specs.Lists.{all, any};
 ghost use Rattle.disc.specs.Directory.{Readable, files};
-ghost use Rattle.machine.specs.Area.{kernelOf, processOf};
-ghost use Rattle.machine.specs.GoodArea.{goodFile, goodLive, goodProcess, goodRegisters, isProgram};
-ghost use Rattle.machine.specs.Limits.{areaLength, recordSize};
+ghost use Rattle.machine.specs.Area.{kernel_of, process_of};
+ghost use Rattle.machine.specs.GoodArea.{good_file, good_live, good_process, good_registers, is_program};
+ghost use Rattle.machine.specs.Limits.{area_length, record_size};
 ghost use Rattle.machine.specs.State.{paused, running};
-ghost use Rattle.validation.specs.Columns.{FileOf, Listed, fileRuns};
+ghost use Rattle.validation.specs.Columns.{FileOf, Listed, file_runs};
 
 use area::records::{
     CODE_AT, FILE_AT, ID_AT, LOOP_AT, NO_LOOP, PAUSED, PC_AT, RUNNING, SHARE_AT, SP_AT, STATE_AT,
@@ -19,7 +19,7 @@ use machine::limits::{MAX_SHARE, NEXT_AT, SLOT_COUNT, STACK_SIZE};
 // Start and length of each file as one number; behind the last file 0, which is no file's.
 pub fn file_runs(disc: &[u8]) -> [u32; MAX_FILES]
     requires { Readable disc.now }
-    ensures { result ≡ fileRuns disc.now }
+    ensures { result ≡ file_runs disc.now }
 {
     let count = disc::directory::file_count(disc);
     let mut runs = [0u32; MAX_FILES];
@@ -55,8 +55,8 @@ pub fn is_live(state: u8) -> bool
 
 // "code equal to the directory's file of that name"
 fn is_good_program(disc: &[u8], runs: &[u32; MAX_FILES], bytes: &[u8]) -> bool
-    requires { (Listed disc.now runs.now) × (length bytes.now ≡ recordSize) }
-    ensures { result ≡ any (isProgram (processOf bytes.now)) (files disc.now) }
+    requires { (Listed disc.now runs.now) × (length bytes.now ≡ record_size) }
+    ensures { result ≡ any (is_program (process_of bytes.now)) (files disc.now) }
 {
     let run = four_at(bytes, CODE_AT);
     if run == 0 {
@@ -71,8 +71,8 @@ fn is_good_program(disc: &[u8], runs: &[u32; MAX_FILES], bytes: &[u8]) -> bool
 
 // "file offset at most [its] length", "an open file equal to some directory file"
 fn is_good_file(disc: &[u8], runs: &[u32; MAX_FILES], bytes: &[u8]) -> bool
-    requires { (Listed disc.now runs.now) × (length bytes.now ≡ recordSize) }
-    ensures { result ≡ goodFile (files disc.now) (processOf bytes.now).file }
+    requires { (Listed disc.now runs.now) × (length bytes.now ≡ record_size) }
+    ensures { result ≡ good_file (files disc.now) (process_of bytes.now).file }
 {
     let len = word_at(bytes, FILE_AT + 2);
     let offset = word_at(bytes, FILE_AT + 4);
@@ -88,8 +88,8 @@ fn is_good_file(disc: &[u8], runs: &[u32; MAX_FILES], bytes: &[u8]) -> bool
 // Document 02, Q-9: a live record's share is at most 8; "SP at most 32, PC, loop (unless none) [..] at most their
 // lengths"
 fn are_good_registers(bytes: &[u8]) -> bool
-    requires { length bytes.now ≡ recordSize }
-    ensures { result ≡ goodRegisters (processOf bytes.now) }
+    requires { length bytes.now ≡ record_size }
+    ensures { result ≡ good_registers (process_of bytes.now) }
 {
     let len = word_at(bytes, CODE_AT + 2);
     let pc = word_at(bytes, PC_AT);
@@ -100,8 +100,8 @@ fn are_good_registers(bytes: &[u8]) -> bool
 }
 
 fn is_good_live(disc: &[u8], runs: &[u32; MAX_FILES], next: u16, bytes: &[u8]) -> bool
-    requires { (Listed disc.now runs.now) × (length bytes.now ≡ recordSize) }
-    ensures { result ≡ goodLive (files disc.now) next (processOf bytes.now) }
+    requires { (Listed disc.now runs.now) × (length bytes.now ≡ record_size) }
+    ensures { result ≡ good_live (files disc.now) next (process_of bytes.now) }
 {
     let id = word_at(bytes, ID_AT);
     if id < 1 {
@@ -121,8 +121,8 @@ fn is_good_live(disc: &[u8], runs: &[u32; MAX_FILES], next: u16, bytes: &[u8]) -
 
 // "known states"; "all of an ended record but its state [is] not read"
 fn is_good_record(disc: &[u8], runs: &[u32; MAX_FILES], next: u16, bytes: &[u8]) -> bool
-    requires { (Listed disc.now runs.now) × (length bytes.now ≡ recordSize) }
-    ensures { result ≡ goodProcess (files disc.now) next (processOf bytes.now) }
+    requires { (Listed disc.now runs.now) × (length bytes.now ≡ record_size) }
+    ensures { result ≡ good_process (files disc.now) next (process_of bytes.now) }
 {
     let state = bytes[STATE_AT];
     if state == 0 {
@@ -135,9 +135,9 @@ fn is_good_record(disc: &[u8], runs: &[u32; MAX_FILES], next: u16, bytes: &[u8])
 }
 
 pub fn are_good(disc: &[u8], runs: &[u32; MAX_FILES], area: &[u8]) -> bool
-    requires { (Listed disc.now runs.now) × (length area.now ≡ areaLength) }
-    ensures { result ≡ all (goodProcess (files disc.now) (kernelOf area.now).next)
-        (kernelOf area.now).processes }
+    requires { (Listed disc.now runs.now) × (length area.now ≡ area_length) }
+    ensures { result ≡ all (good_process (files disc.now) (kernel_of area.now).next)
+        (kernel_of area.now).processes }
 {
     let next = word_at(area, NEXT_AT);
     let mut i: u32 = 0;

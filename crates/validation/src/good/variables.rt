@@ -2,11 +2,11 @@
 ghost use Rattle.std.specs.Prelude.{◌≡◌, ◌+◌, ◌<◌, ◌≤◌, eqb, leb, length, replicate, take};
 ghost use Rattle.buffer.specs.Buffer.{overwrite};
 ghost use Rattle.buffer.specs.Lists.{all, any, keep, pairs, tab};
-ghost use Rattle.variable.specs.Bytes.{variableIn, variablesOf};
-ghost use Rattle.machine.specs.Limits.{areaLength, slotCount};
-ghost use Rattle.variable.specs.Good.{beside, goodSize, goodVariables};
-ghost use Rattle.variable.specs.Limits.{maxVariables, memorySize};
-ghost use Rattle.validation.specs.Columns.{clash, firsts, isId, places, reach, sized, words_of};
+ghost use Rattle.variable.specs.Bytes.{variable_in, variables_of};
+ghost use Rattle.machine.specs.Limits.{area_length, slot_count};
+ghost use Rattle.variable.specs.Good.{beside, good_size, good_variables};
+ghost use Rattle.variable.specs.Limits.{max_variables, memory_size};
+ghost use Rattle.validation.specs.Columns.{clash, firsts, is_id, places, reach, sized, words_of};
 
 use super::columns::{
     ADDRESS_AT, FEW, FIRSTS, KIND_AT, NAME_AT, OWNER_AT, PLACES, SIZE_AT, fill_bytes, fill_ends,
@@ -22,7 +22,7 @@ const NOWHERE: u16 = 65535;
 
 // Document 01: "size 1, 2, 4 for types 1, 2, 4, or 1 to 30 for type 3"
 fn is_good_size(kind: u16, size: u16) -> bool
-    ensures { result ≡ goodSize kind size }
+    ensures { result ≡ good_size kind size }
 {
     ((kind == 1) & (size == 1))
         | (((kind == 2) & (size == 2))
@@ -32,14 +32,14 @@ fn is_good_size(kind: u16, size: u16) -> bool
 // "inside memory"
 fn is_inside(address: u16, size: u16) -> bool
     requires { address + size < 65536 }
-    ensures { result ≡ leb (address + size) memorySize }
+    ensures { result ≡ leb (address + size) memory_size }
 {
     address + size <= MEMORY_SIZE
 }
 
 fn are_sized(area: &[u8], count: usize) -> bool
-    requires { (length area.now ≡ areaLength) × (count ≤ maxVariables) }
-    ensures { result ≡ all sized (tab (variableIn area.now) count) }
+    requires { (length area.now ≡ area_length) × (count ≤ max_variables) }
+    ensures { result ≡ all sized (tab (variable_in area.now) count) }
 {
     let mut good = true;
     let mut i: usize = 0;
@@ -56,8 +56,8 @@ fn are_sized(area: &[u8], count: usize) -> bool
 
 // "belong to live processes"
 fn is_owner(ids: &[u16; SLOT_COUNT], id: u16) -> bool
-    requires { length ids.now ≡ slotCount }
-    ensures { result ≡ any (eqb id) (keep isId ids.now) }
+    requires { length ids.now ≡ slot_count }
+    ensures { result ≡ any (eqb id) (keep is_id ids.now) }
 {
     let mut hit = false;
     let mut i: u32 = 0;
@@ -70,8 +70,8 @@ fn is_owner(ids: &[u16; SLOT_COUNT], id: u16) -> bool
 }
 
 fn are_owned(owners: &[u16; PLACES], ids: &[u16; SLOT_COUNT], count: usize) -> bool
-    requires { (length owners.now ≡ places) × (length ids.now ≡ slotCount) × (count ≤ places) }
-    ensures { result ≡ all (λ id. any (eqb id) (keep isId ids.now)) (take count owners.now) }
+    requires { (length owners.now ≡ places) × (length ids.now ≡ slot_count) × (count ≤ places) }
+    ensures { result ≡ all (λ id. any (eqb id) (keep is_id ids.now)) (take count owners.now) }
 {
     let mut good = true;
     let mut i: usize = 0;
@@ -132,9 +132,9 @@ fn is_clash_at(
 
 // "disjoint [..], have distinct (name, ID)": fewer than two need no columns.
 fn are_beside(area: &[u8], owners: &[u16; PLACES], count: usize) -> bool
-    requires { (length area.now ≡ areaLength) × (count ≤ maxVariables)
+    requires { (length area.now ≡ area_length) × (count ≤ max_variables)
         × (owners.now ≡ overwrite (replicate places 0) 0 (words_of area.now 4 count)) }
-    ensures { result ≡ pairs beside (tab (variableIn area.now) count) }
+    ensures { result ≡ pairs beside (tab (variable_in area.now) count) }
 {
     if count < 2 {
         return true;
@@ -157,8 +157,8 @@ fn are_beside(area: &[u8], owners: &[u16; PLACES], count: usize) -> bool
 
 // The IDs are by slot, 0 where nothing lives.
 pub fn are_good(area: &[u8], ids: &[u16; SLOT_COUNT]) -> bool
-    requires { (length area.now ≡ areaLength) × (length ids.now ≡ slotCount) }
-    ensures { result ≡ goodVariables (keep isId ids.now) (variablesOf area.now) }
+    requires { (length area.now ≡ area_length) × (length ids.now ≡ slot_count) }
+    ensures { result ≡ good_variables (keep is_id ids.now) (variables_of area.now) }
 {
     let count = area[COUNT_AT] as usize;
     if MAX_VARIABLES < count {

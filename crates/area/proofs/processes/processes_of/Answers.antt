@@ -2,7 +2,7 @@
 use mathlib.Core.Path.{refl, ◌∙◌}
 use native.Mathlib.Omega.{arith}
 use Rattle.buffer.specs.Lists.{tab}
-use Rattle.machine.specs.Area.{kernelOf}
+use Rattle.machine.specs.Area.{kernel_of}
 use Rattle.area.proofs.Reading.{process-read}
 use Rattle.area.proofs.Tables.{filled-all, filled_next}
 use Rattle.area.proofs.processes.processes_of.Goals as goal
@@ -16,5 +16,5 @@ loop-slot-preserved c =
     filled_next _ _ c.loop-slot.invariant (omega arith) (c.process_at-p.ensures ∙ process-read _ c.loop-slot.slot (omega arith))
 
 pub returns : goal.returns
-unfolding kernelOf
+unfolding kernel_of
 returns c = filled-all _ _ c.loop-slot.invariant (omega arith)

@@ -1,10 +1,10 @@
 -- The front as a SET leaves it, the rest as it was: the state with those variables.
 use mathlib.Core.Path.{ap, refl, sym, ◌∙◌}
 use borrow.Author.Rules.{rules}
-use Rattle.machine.specs.Area.{kernelOf}
+use Rattle.machine.specs.Area.{kernel_of}
 use Rattle.machine.proofs.Bytes.Area.{kernel-encode-decode}
 use Rattle.variable.specs.Assign.{assigned, value_of}
-use Rattle.variable.specs.Bytes.{variablesBytes}
+use Rattle.variable.specs.Bytes.{variables_bytes}
 use Rattle.variable.specs.declared.Variables.{Variables}
 use Rattle.area.proofs.Front.{front-few, front_length, variables-front, variables-laid}
 use Rattle.area.proofs.variables.assign_in.Goals as goal
@@ -25,7 +25,7 @@ returns c =
     let e = c.assign.ensures in record {
       placing = e.placing ∙ ap (λ (v : Variables). (assigned v a.name a.owner x).placing) (variables-front area);
       left = variables-laid area c.requires.0 (kernel-encode-decode area (λ i. search rules) c.requires.0)
-          (assigned (kernelOf area).variables a.name a.owner x).variables
-          (e.variables ∙ ap (λ (v : Variables). variablesBytes (assigned v a.name a.owner x).variables) (variables-front area))
+          (assigned (kernel_of area).variables a.name a.owner x).variables
+          (e.variables ∙ ap (λ (v : Variables). variables_bytes (assigned v a.name a.owner x).variables) (variables-front area))
           refl;
     }

@@ -7,8 +7,8 @@ use native.Mathlib.Omega.{arith}
 use borrow.Author.Count.{below_more}
 use Rattle.buffer.specs.Lists.{same}
 use Rattle.buffer.proofs.Tables.{index-tab-is, index-tab-miss}
-use Rattle.disc.specs.Directory.{entry_at, fileCount, lookup, named}
-use Rattle.disc.specs.Name.{goodName, padded}
+use Rattle.disc.specs.Directory.{entry_at, file_count, lookup, named}
+use Rattle.disc.specs.Name.{good_name, padded}
 use Rattle.disc.specs.declared.Entry.{Entry}
 use Rattle.disc.proofs.Names.{good-name-is}
 use Rattle.disc.proofs.directory.find.Goals as goal
@@ -24,7 +24,7 @@ returns-then-not-is_good_name c = rw (sym c.is_good_name.ensures ∙ c.if-not-is
 
 pub pad-field-requires : goal.pad-field-requires
 pad-field-requires c =
-    let good : goodName c.args.name.now ≡ true = sym c.is_good_name.ensures ∙ c.if-not-is_good_name.false in
+    let good : good_name c.args.name.now ≡ true = sym c.is_good_name.ensures ∙ c.if-not-is_good_name.false in
     omega (arith, (good-name-is _ good).short)
 
 pub loop-i-init : goal.loop-i-init
@@ -37,7 +37,7 @@ returns-then-same_bytes c =
     let name = c.args.name.now in
     rw (
       sym c.is_good_name.ensures ∙ c.if-not-is_good_name.false,
-      index-tab-is (entry_at d) (fileCount d) (named name) c.loop-i.i (omega arith)
+      index-tab-is (entry_at d) (file_count d) (named name) c.loop-i.i (omega arith)
           (tested d name _ _ _ _ _ c.entry_at-entry.ensures c.pad-field.ensures c.same_bytes.ensures c.if-same_bytes.true)
           c.loop-i.invariant.1,
     )
@@ -56,5 +56,5 @@ returns c =
     let d = c.args.disc.now in
     rw (
       sym c.is_good_name.ensures ∙ c.if-not-is_good_name.false,
-      index-tab-miss (entry_at d) (fileCount d) (named c.args.name.now) (λ k h. c.loop-i.invariant.1 k (omega arith)),
+      index-tab-miss (entry_at d) (file_count d) (named c.args.name.now) (λ k h. c.loop-i.invariant.1 k (omega arith)),
     )

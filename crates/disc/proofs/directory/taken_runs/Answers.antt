@@ -8,7 +8,7 @@ use Rattle.buffer.proofs.Lists.{map-tab}
 use Rattle.place.specs.Place.{filled}
 use Rattle.place.specs.declared.Run.{Run}
 use Rattle.place.proofs.Place.{filled_next}
-use Rattle.disc.specs.Directory.{entry_at, fileCount, runOf}
+use Rattle.disc.specs.Directory.{entry_at, file_count, run_of}
 use Rattle.disc.proofs.directory.taken_runs.Invariants.{run_at}
 use Rattle.disc.proofs.directory.taken_runs.Goals as goal
 
@@ -19,7 +19,7 @@ loop-i-init c = (omega arith, c.no_runs-runs.ensures)
 pub loop-i-preserved : goal.loop-i-preserved
 loop-i-preserved c =
     let d = c.args.disc.now in
-    let e : c.run_of-run.result ≡ run_at d c.loop-i.i = c.run_of-run.ensures ∙ ap runOf c.entry_at.ensures in (
+    let e : c.run_of-run.result ≡ run_at d c.loop-i.i = c.run_of-run.ensures ∙ ap run_of c.entry_at.ensures in (
       omega arith,
       ap₂ (λ (runs : List Run) (run : Run). set runs c.loop-i.i run) c.loop-i.invariant.1 e
           ∙ filled_next (run_at d) c.loop-i.i (omega arith),
@@ -28,5 +28,5 @@ loop-i-preserved c =
 pub returns : goal.returns
 returns c =
     let d = c.args.disc.now in
-    let q : c.loop-i.i ≡ fileCount d = omega arith in
-    rw (← q) (c.loop-i.invariant.1 ∙ ap filled (sym (map-tab runOf (entry_at d) c.loop-i.i)))
+    let q : c.loop-i.i ≡ file_count d = omega arith in
+    rw (← q) (c.loop-i.invariant.1 ∙ ap filled (sym (map-tab run_of (entry_at d) c.loop-i.i)))

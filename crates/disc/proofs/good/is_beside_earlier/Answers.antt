@@ -9,14 +9,14 @@ use Rattle.buffer.specs.Lists.{all, same, tab}
 use Rattle.buffer.proofs.Lists.{all-tab-next, all-tab-stop}
 use Rattle.place.specs.Place.{apart}
 use Rattle.disc.specs.Directory.{beside, entry_at}
-use Rattle.disc.specs.Layout.{entrySize, nameSize}
+use Rattle.disc.specs.Layout.{entry_size, name_size}
 use Rattle.disc.proofs.InPlace.{name-in-place}
-use Rattle.disc.proofs.good.is_beside_earlier.Invariants.{besideFirst}
+use Rattle.disc.proofs.good.is_beside_earlier.Invariants.{beside_first}
 use Rattle.disc.proofs.good.is_beside_earlier.Goals as goal
 
 -- what a test of two names in place says of the entries'
 same_names : (disc : List ℕ) (j i : ℕ) (t b : Bool)
-    → t ≡ same (part disc (j * entrySize) nameSize) (part disc (i * entrySize) nameSize) → t ≡ b
+    → t ≡ same (part disc (j * entry_size) name_size) (part disc (i * entry_size) name_size) → t ≡ b
     → same (entry_at disc j).name (entry_at disc i).name ≡ b
 same_names disc j i t b e h = cc (name-in-place disc j, name-in-place disc i)
 
@@ -57,4 +57,4 @@ pub returns : goal.returns
 returns c =
     let a = c.args in
     let q : c.loop-j.j ≡ a.i = omega arith in
-    sym (subst (λ (n : ℕ). besideFirst a.disc.now a.i n ≡ true) q c.loop-j.invariant.1)
+    sym (subst (λ (n : ℕ). beside_first a.disc.now a.i n ≡ true) q c.loop-j.invariant.1)

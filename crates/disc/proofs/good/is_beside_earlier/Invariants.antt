@@ -8,11 +8,11 @@ use Rattle.disc.specs.Directory.{beside, entry_at}
 use Rattle.disc.proofs.good.is_beside_earlier.Given as goal
 
 -- whether the entry at i is beside each of the first n
-abbrev pub besideFirst : List ℕ → ℕ → ℕ → Bool
-besideFirst disc i n = all (λ e. beside e (entry_at disc i)) (tab (entry_at disc) n)
+abbrev pub beside_first : List ℕ → ℕ → ℕ → Bool
+beside_first disc i n = all (λ e. beside e (entry_at disc i)) (tab (entry_at disc) n)
 
 abbrev pub invariant-loop-j : goal.invariant-loop-j
-invariant-loop-j l = (l.j ≤ l.i) × (besideFirst l.disc l.i l.j ≡ true)
+invariant-loop-j l = (l.j ≤ l.i) × (beside_first l.disc l.i l.j ≡ true)
 
 abbrev pub decreases-loop-j : goal.decreases-loop-j
 decreases-loop-j l = l.i - l.j

@@ -1,12 +1,12 @@
 -- `numbers::refusal_number` meets its contract, refusal by refusal.
 use mathlib.Core.Path.{◌≡◌, sym, ap}
 use lib.IntN.{neg_ℤ, pos}
-use Rattle.store.specs.Answer.{refusalNumber}
+use Rattle.store.specs.Answer.{refusal_number}
 use Rattle.store.specs.declared.Refusal.{Refusal}
 use Rattle.disc_operation.proofs.numbers.refusal_number.Goals as goal
 
-numbered : {a b : Refusal} → a ≡ b → neg_ℤ (pos (refusalNumber b)) ≡ neg_ℤ (pos (refusalNumber a))
-numbered e = ap (λ (r : Refusal). neg_ℤ (pos (refusalNumber r))) (sym e)
+numbered : {a b : Refusal} → a ≡ b → neg_ℤ (pos (refusal_number b)) ≡ neg_ℤ (pos (refusal_number a))
+numbered e = ap (λ (r : Refusal). neg_ℤ (pos (refusal_number r))) (sym e)
 
 pub returns-in-WrongLength : goal.returns-in-WrongLength
 returns-in-WrongLength c = numbered c.in-WrongLength.is

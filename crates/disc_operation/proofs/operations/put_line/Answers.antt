@@ -4,7 +4,7 @@ use native.Mathlib.Omega.{arith}
 use Rattle.buffer.proofs.Lines.{line-laid}
 use Rattle.decimal.specs.Decimal.{decimal}
 use Rattle.disc.specs.Name.{trimmed}
-use Rattle.store.specs.Answer.{fileLine}
+use Rattle.store.specs.Answer.{file_line}
 use Rattle.disc_operation.proofs.Lines.{file-line-long}
 use Rattle.disc_operation.proofs.operations.put_line.Goals as goal
 
@@ -25,7 +25,7 @@ put_bytes-requires c =
     omega (arith, c.put_name-named.ensures.place, c.put_bytes-spaced.ensures.place, c.put_decimal-counted.ensures.place)
 
 pub returns : goal.returns
-unfolding fileLine
+unfolding file_line
 returns c =
     let e = c.args.entry in
     line-laid (trimmed e.name) (32 ∷ []) (decimal e.len) (10 ∷ []) c.requires

@@ -9,12 +9,12 @@ use lib.Seq.{length-take-le}
 use Rattle.buffer.specs.Buffer.{overwrite}
 use Rattle.buffer.specs.declared.Found.{Found}
 use Rattle.buffer.specs.declared.Found.TheVariants.{At}
-use Rattle.disc.specs.Directory.{Held, contents, entry_at, fileCount, lookup, runOf}
+use Rattle.disc.specs.Directory.{Held, contents, entry_at, file_count, lookup, run_of}
 use Rattle.disc.specs.declared.Entry.{Entry}
 use Rattle.disc.proofs.Locations.{file-held}
 use Rattle.disc.proofs.Lookups.{lookup-at}
-use Rattle.store.specs.Answer.{checked, retrieveAnswer, retrieveAt, retrieveFile}
-use Rattle.store.specs.File.{readAt}
+use Rattle.store.specs.Answer.{checked, retrieve_answer, retrieve_at, retrieve_file}
+use Rattle.store.specs.File.{read_at}
 use Rattle.store.specs.declared.Checked.TheVariants.{Usable}
 use Rattle.store.proofs.Contents.{contents-length, read_all}
 use Rattle.disc_operation.proofs.Checks.{usable}
@@ -24,39 +24,39 @@ use Rattle.disc_operation.proofs.operations.retrieve.Goals as goal
 -- a disc that has passed the tests, and the place that the search has found in it
 module _ (disc name : List ℕ) (passed : checked disc ≡ Usable) {found : Found} {i : ℕ} (sought : found ≡ lookup disc name)
     (at : found ≡ At i) where
-  inside : i < fileCount disc
+  inside : i < file_count disc
   inside = (lookup-at disc name i (sym sought ∙ at)).inside
 
-  file : {e : Entry} → e ≡ entry_at disc i → Held disc (runOf e)
-  file x = subst⁻¹ (λ (e : Entry). Held disc (runOf e)) x (file-held disc (usable disc passed).sound i inside)
+  file : {e : Entry} → e ≡ entry_at disc i → Held disc (run_of e)
+  file x = subst⁻¹ (λ (e : Entry). Held disc (run_of e)) x (file-held disc (usable disc passed).sound i inside)
 
-  chosen : (out : List ℕ) {e : Entry} → e ≡ entry_at disc i → retrieveFile e disc out ≡ retrieveAnswer disc name out
-  unfolding retrieveAnswer
+  chosen : (out : List ℕ) {e : Entry} → e ≡ entry_at disc i → retrieve_file e disc out ≡ retrieve_answer disc name out
+  unfolding retrieve_answer
   chosen out x =
       rw passed
-      (ap (λ (e : Entry). retrieveFile e disc out) x ∙ ap (λ (f : Found). retrieveAt f disc out) (sym at ∙ sought))
+      (ap (λ (e : Entry). retrieve_file e disc out) x ∙ ap (λ (f : Found). retrieve_at f disc out) (sym at ∙ sought))
 
 -- read whole into as many bytes as the file has
 read-whole : (disc : List ℕ) (e : Entry) (out got : List ℕ) → e.len ≤ length out
-    → got ≡ readAt disc (runOf e) 0 (length (take e.len out)) → got ++ drop e.len out ≡ overwrite out 0 (contents disc (runOf e))
+    → got ≡ read_at disc (run_of e) 0 (length (take e.len out)) → got ++ drop e.len out ≡ overwrite out 0 (contents disc (run_of e))
 read-whole disc e out got room read =
-    let file = contents disc (runOf e) in
-    let long : length file ≡ e.len = contents-length disc (runOf e) in
-    let whole : got ≡ file = read ∙ ap (readAt disc (runOf e) 0) (length-take-le e.len out room) ∙ read_all disc (runOf e) in
+    let file = contents disc (run_of e) in
+    let long : length file ≡ e.len = contents-length disc (run_of e) in
+    let whole : got ≡ file = read ∙ ap (read_at disc (run_of e) 0) (length-take-le e.len out room) ∙ read_all disc (run_of e) in
     rw (whole, zero-add, long)
 
 pub returns-in-Unusable : goal.returns-in-Unusable
-unfolding retrieveAnswer
+unfolding retrieve_answer
 returns-in-Unusable c = rw (sym c.check.ensures ∙ c.in-Unusable.is)
 
 pub find-requires : goal.find-requires
 find-requires c = (usable c.args.disc.now (sym c.check.ensures ∙ c.in_default.is)).ready
 
 pub returns-in-Nowhere : goal.returns-in-Nowhere
-unfolding retrieveAnswer
+unfolding retrieve_answer
 returns-in-Nowhere c =
     rw (sym c.check.ensures ∙ c.in_default.is)
-    (ap (λ (x : Found). retrieveAt x c.args.disc.now c.args.out.now) (sym c.in-Nowhere.is ∙ c.find.ensures))
+    (ap (λ (x : Found). retrieve_at x c.args.disc.now c.args.out.now) (sym c.in-Nowhere.is ∙ c.find.ensures))
 
 pub entry_at-entry-requires : goal.entry_at-entry-requires
 entry_at-entry-requires c =

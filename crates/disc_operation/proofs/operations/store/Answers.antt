@@ -6,7 +6,7 @@ use native.Mathlib.Omega.{arith}
 use lib.ListN.{length}
 use Rattle.place.specs.Place.{run_from}
 use Rattle.disc.specs.Directory.{Held}
-use Rattle.store.specs.Answer.{checked, storeAnswer, storeAt, updated}
+use Rattle.store.specs.Answer.{checked, store_answer, store_at, updated}
 use Rattle.store.specs.File.{admission, stored}
 use Rattle.store.specs.declared.Admission.{Admission}
 use Rattle.store.specs.declared.Answer.TheVariants.{Done}
@@ -20,12 +20,12 @@ use Rattle.disc_operation.proofs.operations.store.Goals as goal
 module _ (disc name bytes : List ℕ) where
   -- what is left of the definition behind the tests
   rest : checked disc ≡ Usable → {m n : Admission} → m ≡ admission disc name (length bytes) → m ≡ n
-      → storeAt n disc name bytes ≡ storeAnswer disc name bytes
-  unfolding storeAnswer
-  rest passed x e = rw passed (ap (λ (a : Admission). storeAt a disc name bytes) (sym e ∙ x))
+      → store_at n disc name bytes ≡ store_answer disc name bytes
+  unfolding store_answer
+  rest passed x e = rw passed (ap (λ (a : Admission). store_at a disc name bytes) (sym e ∙ x))
 
 pub returns-in-Unusable : goal.returns-in-Unusable
-unfolding storeAnswer
+unfolding store_answer
 returns-in-Unusable c = rw (sym c.check.ensures ∙ c.in-Unusable.is)
 
 pub admit-requires : goal.admit-requires

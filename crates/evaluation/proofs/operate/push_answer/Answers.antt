@@ -2,7 +2,7 @@
 use Prim.Native.Nat.{◌≤◌}
 use mathlib.Core.Path.{subst}
 use lib.ListN.{length}
-use Rattle.stack.specs.Tops.{bytesBelow}
+use Rattle.stack.specs.Tops.{bytes_below}
 use Rattle.stack.specs.declared.TopNumber.{TopNumber}
 use Rattle.stack.proofs.Steps.{last-means}
 use Rattle.evaluation.proofs.operate.push_answer.Goals as goal
@@ -12,7 +12,7 @@ push_outcome-requires c =
     record {
       short = c.requires.0.short;
       low = c.requires.0.low;
-      there = subst (λ (t : TopNumber). bytesBelow t ≤ length c.args.stack.now) c.in-Is.is c.requires.1;
+      there = subst (λ (t : TopNumber). bytes_below t ≤ length c.args.stack.now) c.in-Is.is c.requires.1;
     }
 
 pub returns-in-Is : goal.returns-in-Is

@@ -3,22 +3,22 @@ use Rattle.std.proofs.Common.{ℕ, ◌+◌, ◌≤◌, ◌≡◌, [], length, ge
 use lib.Seq.{take-length}
 use borrow.Author.Tests.{le-leb, lt-leb}
 use Rattle.buffer.specs.declared.Found.TheVariants.{At}
-use Rattle.variable.specs.Table.{Cell, cell_of, find, noVariable}
+use Rattle.variable.specs.Table.{Cell, cell_of, find, no_variable}
 use Rattle.variable.specs.declared.Variable.{Variable}
 use Rattle.variable.specs.declared.Variables.{Variables}
 use Rattle.variable.proofs.Reading.{Own, find-own, find-own-none}
-use Rattle.machine.specs.Area.{kernelOf}
+use Rattle.machine.specs.Area.{kernel_of}
 use Rattle.instruction.proofs.Held.{Held, found-held, held_bytes}
 use Rattle.stack.proofs.Steps.{last-means}
 use Rattle.instruction.proofs.values.get_variable.Goals as goal
 
 -- what the machine's GET falls back on
-abbrev noCell : Cell
-noCell = record { name = 0; kind = 0; bytes = [] }
+abbrev no_cell : Cell
+no_cell = record { name = 0; kind = 0; bytes = [] }
 
 own : (v : Variables) (name id i : ℕ) → Held v i → find v name id ≡ At i
-    → Own v name id noCell (cell_of v.memory (get_or v.entries i noVariable))
-own v name id i held e = rw held.same at (find-own v name id noCell i e)
+    → Own v name id no_cell (cell_of v.memory (get_or v.entries i no_variable))
+own v name id i held e = rw held.same at (find-own v name id no_cell i e)
 
 pub returns-then-code-to : goal.returns-then-code-to
 returns-then-code-to c =
@@ -28,7 +28,7 @@ returns-then-code-to c =
 pub variable_at-e-requires : goal.variable_at-e-requires
 variable_at-e-requires c =
     let a = c.args in
-    let table = (kernelOf a.area.now).variables in
+    let table = (kernel_of a.area.now).variables in
     let name = get_or a.code.now (a.at + 1) 0 in
     let held = found-held table name a.owner c.in-At.i c.requires.2 (sym c.find_in.ensures ∙ c.in-At.is) in
     (c.requires.1, held.low)
@@ -38,7 +38,7 @@ returns-in-At c =
     let a = c.args in
     let i = c.in-At.i in
     let e = c.variable_at-e in
-    let table = (kernelOf a.area.now).variables in
+    let table = (kernel_of a.area.now).variables in
     let name = get_or a.code.now (a.at + 1) 0 in
     let fits : a.at + 1 + 1 ≤ length a.code.now = omega arith in
     let lookup = sym c.find_in.ensures ∙ c.in-At.is in
@@ -51,8 +51,8 @@ returns-in-At c =
 pub returns-in-Nowhere : goal.returns-in-Nowhere
 returns-in-Nowhere c =
     let a = c.args in
-    let table = (kernelOf a.area.now).variables in
+    let table = (kernel_of a.area.now).variables in
     let name = get_or a.code.now (a.at + 1) 0 in
     let fits : a.at + 1 + 1 ≤ length a.code.now = omega arith in
-    let none = find-own-none table name a.owner noCell (sym c.find_in.ensures ∙ c.in-Nowhere.is) in
+    let none = find-own-none table name a.owner no_cell (sym c.find_in.ensures ∙ c.in-Nowhere.is) in
     rw (le-leb _ _ fits, none) (last-means a.stack.now c.last_step-in-Nowhere.ensures)

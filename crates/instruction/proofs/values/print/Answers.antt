@@ -5,7 +5,7 @@ use Rattle.buffer.specs.Buffer.{part}
 use Rattle.buffer.proofs.Parts.{part-to}
 use Rattle.operator.specs.declared.instruction.Types.TheVariants.{AnyValue}
 use Rattle.machine.specs.Effect.{newline, printed}
-use Rattle.machine.specs.Limits.{stackSize}
+use Rattle.machine.specs.Limits.{stack_size}
 use Rattle.machine.proofs.Instructions.Settling.{settle_goes}
 use Rattle.stack.proofs.Popping.{value-faults, value-on-top, value-small}
 use Rattle.stack.proofs.Steps.{step-means}
@@ -45,7 +45,7 @@ returns-in-Lies c =
     let top = value-on-top AnyValue st c.top_value.ensures v.is in
     let out = printed (record { kind = v.kind; bytes = part st v.place v.len }) ++ newline a.ends in
     let below = length-take-le v.place st (omega (arith, top.inside)) in
-    let low : length (take v.place st) ≤ stackSize = omega (arith, top.inside, c.requires.low) in
+    let low : length (take v.place st) ≤ stack_size = omega (arith, top.inside, c.requires.low) in
     rw (top.pops, settle_goes a.code.now (take v.place st) a.loopstart out low (a.at + 1) c.requires.inside)
     (step-means st out (rw (part-to st v.place v.len) at c.print_value.ensures) (omega (arith, top.inside)))
 

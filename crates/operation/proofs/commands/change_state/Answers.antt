@@ -4,12 +4,12 @@ use mathlib.Core.Path.{◌≡◌, sym, ap, ◌∙◌}
 use mathlib.Core.List.{List}
 use borrow.Author.Tests.{eq-eqb, ne_eqb}
 use Rattle.buffer.specs.declared.Found.{Found}
-use Rattle.machine.specs.Answer.{commandAnswer}
-use Rattle.machine.specs.Area.{kernelBytes, kernelOf}
-use Rattle.machine.specs.State.{processAt, withProcess, withState}
+use Rattle.machine.specs.Answer.{command_answer}
+use Rattle.machine.specs.Area.{kernel_bytes, kernel_of}
+use Rattle.machine.specs.State.{process_at, with_process, with_state}
 use Rattle.machine.specs.declared.Process.{Process}
 use Rattle.operation.specs.Answers.{answered, lent}
-use Rattle.operation.specs.Commands.{turnedAt}
+use Rattle.operation.specs.Commands.{turned_at}
 use Rattle.operation.specs.declared.Answer.TheVariants.{Done}
 use Rattle.turn.proofs.Passing.{area-size}
 use Rattle.operation.proofs.FirstTests.{slot-low}
@@ -21,7 +21,7 @@ slot_of-requires c = area-size c.requires
 pub returns-in-Nowhere : goal.returns-in-Nowhere
 returns-in-Nowhere c out =
     let a = c.args in
-    ap (λ (f : Found). commandAnswer (turnedAt f a.state (kernelOf a.area.now)) (lent a.disc.now a.area.now out)) c.in-Nowhere.ensures
+    ap (λ (f : Found). command_answer (turned_at f a.state (kernel_of a.area.now)) (lent a.disc.now a.area.now out)) c.in-Nowhere.ensures
 
 pub process_at-p-requires : goal.process_at-p-requires
 process_at-p-requires c =
@@ -30,7 +30,7 @@ process_at-p-requires c =
 
 pub returns-then-p-state : goal.returns-then-p-state
 returns-then-p-state c out =
-    let same : (processAt (kernelOf c.args.area.now) c.in-At.slot).state ≡ c.args.state =
+    let same : (process_at (kernel_of c.args.area.now) c.in-At.slot).state ≡ c.args.state =
     ap (λ (p : Process). p.state) (sym c.process_at-p.ensures) ∙ c.if-p-state.true in
     rw (sym c.in-At.ensures, eq-eqb _ _ same)
 
@@ -42,9 +42,9 @@ put_back-requires c =
 pub returns-else-p-state : goal.returns-else-p-state
 returns-else-p-state c out =
     let a = c.args in
-    let read : (processAt (kernelOf a.area.now) c.in-At.slot).state ≡ c.process_at-p.result.state =
+    let read : (process_at (kernel_of a.area.now) c.in-At.slot).state ≡ c.process_at-p.result.state =
     ap (λ (p : Process). p.state) (sym c.process_at-p.ensures) in
     rw (sym c.in-At.ensures, ne_eqb _ _ (λ e. c.if-p-state.false (sym read ∙ e)))
     (ap (λ (l : List ℕ). answered (Done 0) a.disc.now l out)
     (c.put_back.ensures
-    ∙ ap (λ (q : Process). kernelBytes (withProcess (kernelOf a.area.now) c.in-At.slot (withState q a.state))) c.process_at-p.ensures))
+    ∙ ap (λ (q : Process). kernel_bytes (with_process (kernel_of a.area.now) c.in-At.slot (with_state q a.state))) c.process_at-p.ensures))

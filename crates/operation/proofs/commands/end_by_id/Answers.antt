@@ -3,9 +3,9 @@ use Prim.Native.Nat.{ℕ}
 use mathlib.Core.Path.{sym, ap, ◌∙◌}
 use mathlib.Core.List.{List}
 use Rattle.buffer.specs.declared.Found.{Found}
-use Rattle.machine.specs.Answer.{commandAnswer}
-use Rattle.machine.specs.Area.{kernelOf}
-use Rattle.machine.specs.Operations.{kill, commandAt, commanded}
+use Rattle.machine.specs.Answer.{command_answer}
+use Rattle.machine.specs.Area.{kernel_of}
+use Rattle.machine.specs.Operations.{kill, command_at, commanded}
 use Rattle.operation.specs.Answers.{answered, lent}
 use Rattle.operation.specs.declared.Answer.TheVariants.{Done}
 use Rattle.turn.proofs.Passing.{area-size, few-variables}
@@ -19,7 +19,7 @@ pub returns-in-Nowhere : goal.returns-in-Nowhere
 unfolding commanded
 returns-in-Nowhere c out =
     let a = c.args in
-    ap (λ (f : Found). commandAnswer (commandAt f kill (kernelOf a.area.now)) (lent a.disc.now a.area.now out)) c.in-Nowhere.ensures
+    ap (λ (f : Found). command_answer (command_at f kill (kernel_of a.area.now)) (lent a.disc.now a.area.now out)) c.in-Nowhere.ensures
 
 pub finish-requires : goal.finish-requires
 finish-requires c =
@@ -31,4 +31,4 @@ unfolding commanded
 returns-in-At c out =
     let a = c.args in
     ap (λ (l : List ℕ). answered (Done 0) a.disc.now l out) c.finish.ensures
-    ∙ ap (λ (f : Found). commandAnswer (commandAt f kill (kernelOf a.area.now)) (lent a.disc.now a.area.now out)) c.in-At.ensures
+    ∙ ap (λ (f : Found). command_answer (command_at f kill (kernel_of a.area.now)) (lent a.disc.now a.area.now out)) c.in-At.ensures

@@ -5,11 +5,11 @@ use mathlib.Core.List.{List}
 use native.Mathlib.Omega.{arith}
 use borrow.Author.Tests.{le-leb, lt-leb}
 use Rattle.buffer.specs.declared.Found.{Found}
-use Rattle.machine.specs.Answer.{commandAnswer}
-use Rattle.machine.specs.Area.{kernelBytes, kernelOf}
-use Rattle.machine.specs.Limits.{maxShare}
-use Rattle.machine.specs.Operations.{shareAt, shared}
-use Rattle.machine.specs.State.{withProcess, withShare}
+use Rattle.machine.specs.Answer.{command_answer}
+use Rattle.machine.specs.Area.{kernel_bytes, kernel_of}
+use Rattle.machine.specs.Limits.{max_share}
+use Rattle.machine.specs.Operations.{share_at, shared}
+use Rattle.machine.specs.State.{with_process, with_share}
 use Rattle.machine.specs.declared.Process.{Process}
 use Rattle.operation.specs.Answers.{answered, lent}
 use Rattle.operation.specs.declared.Answer.TheVariants.{Done}
@@ -24,7 +24,7 @@ pub returns-in-Nowhere : goal.returns-in-Nowhere
 unfolding shared
 returns-in-Nowhere c out =
     let a = c.args in
-    ap (λ (f : Found). commandAnswer (shareAt f a.turns (kernelOf a.area.now)) (lent a.disc.now a.area.now out)) c.in-Nowhere.ensures
+    ap (λ (f : Found). command_answer (share_at f a.turns (kernel_of a.area.now)) (lent a.disc.now a.area.now out)) c.in-Nowhere.ensures
 
 pub returns-then-turns-lt1 : goal.returns-then-turns-lt1
 unfolding shared
@@ -33,7 +33,7 @@ returns-then-turns-lt1 c out = rw (sym c.in-At.ensures, lt-leb 1 _ c.if-turns-lt
 pub returns-then-turns : goal.returns-then-turns
 unfolding shared
 returns-then-turns c out =
-    rw (sym c.in-At.ensures, le-leb 1 c.args.turns (omega (arith, c.if-turns-lt1.false)), lt-leb _ maxShare c.if-turns.true)
+    rw (sym c.in-At.ensures, le-leb 1 c.args.turns (omega (arith, c.if-turns-lt1.false)), lt-leb _ max_share c.if-turns.true)
 
 pub process_at-p-requires : goal.process_at-p-requires
 process_at-p-requires c =
@@ -50,8 +50,8 @@ unfolding shared
 returns-else-turns c out =
     let a = c.args in
     let low = le-leb 1 a.turns (omega (arith, c.if-turns-lt1.false)) in
-    let high = le-leb a.turns maxShare (omega (arith, c.if-turns.false)) in
+    let high = le-leb a.turns max_share (omega (arith, c.if-turns.false)) in
     rw (sym c.in-At.ensures, low, high)
     (ap (λ (l : List ℕ). answered (Done 0) a.disc.now l out)
     (c.put_back.ensures
-    ∙ ap (λ (q : Process). kernelBytes (withProcess (kernelOf a.area.now) c.in-At.slot (withShare q a.turns))) c.process_at-p.ensures))
+    ∙ ap (λ (q : Process). kernel_bytes (with_process (kernel_of a.area.now) c.in-At.slot (with_share q a.turns))) c.process_at-p.ensures))

@@ -6,9 +6,9 @@ use native.Mathlib.Omega.{arith}
 use Rattle.buffer.specs.declared.Found.{Found}
 use Rattle.disc.specs.Directory.{entry_at}
 use Rattle.disc.proofs.Lookups.{lookup-at}
-use Rattle.machine.specs.Answer.{eraseAt}
-use Rattle.machine.specs.Area.{kernelOf}
-use Rattle.machine.specs.Operations.{inUse}
+use Rattle.machine.specs.Answer.{erase_at}
+use Rattle.machine.specs.Area.{kernel_of}
+use Rattle.machine.specs.Operations.{in_use}
 use Rattle.operation.specs.Answers.{answered, lent}
 use Rattle.operation.specs.declared.Answer.TheVariants.{Done}
 use Rattle.turn.proofs.Passing.{area-size, disc-readable}
@@ -20,7 +20,7 @@ find-requires c = disc-readable c.requires
 pub returns-in-Nowhere : goal.returns-in-Nowhere
 returns-in-Nowhere c out =
     let a = c.args in
-    ap (λ (f : Found). eraseAt f (kernelOf a.area.now) (lent a.disc.now a.area.now out)) c.in-Nowhere.ensures
+    ap (λ (f : Found). erase_at f (kernel_of a.area.now) (lent a.disc.now a.area.now out)) c.in-Nowhere.ensures
 
 pub entry_at-requires : goal.entry_at-requires
 entry_at-requires c =
@@ -32,9 +32,9 @@ is_in_use-requires c = area-size c.requires
 
 pub returns-then-is_in_use : goal.returns-then-is_in_use
 returns-then-is_in_use c out =
-    let k = kernelOf c.args.area.now in
-    let tested : inUse k (entry_at c.args.disc.now c.in-At.i) ≡ c.is_in_use.result =
-    ap (inUse k) (sym c.entry_at.ensures) ∙ sym c.is_in_use.ensures in
+    let k = kernel_of c.args.area.now in
+    let tested : in_use k (entry_at c.args.disc.now c.in-At.i) ≡ c.is_in_use.result =
+    ap (in_use k) (sym c.entry_at.ensures) ∙ sym c.is_in_use.ensures in
     rw (sym c.in-At.ensures, tested ∙ c.if-is_in_use.true)
 
 pub erase_entry-requires : goal.erase_entry-requires
@@ -43,8 +43,8 @@ erase_entry-requires c =
 
 pub returns-else-is_in_use : goal.returns-else-is_in_use
 returns-else-is_in_use c out =
-    let k = kernelOf c.args.area.now in
-    let tested : inUse k (entry_at c.args.disc.now c.in-At.i) ≡ c.is_in_use.result =
-    ap (inUse k) (sym c.entry_at.ensures) ∙ sym c.is_in_use.ensures in
+    let k = kernel_of c.args.area.now in
+    let tested : in_use k (entry_at c.args.disc.now c.in-At.i) ≡ c.is_in_use.result =
+    ap (in_use k) (sym c.entry_at.ensures) ∙ sym c.is_in_use.ensures in
     rw (sym c.in-At.ensures, tested ∙ c.if-is_in_use.false)
     (ap (λ (l : List ℕ). answered (Done 0) l c.args.area.now out) c.erase_entry.ensures)

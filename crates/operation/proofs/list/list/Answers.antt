@@ -4,10 +4,10 @@ use mathlib.Core.Path.{◌≡◌, ap, ap₂}
 use mathlib.Core.List.{List}
 use native.Mathlib.Omega.{arith}
 use lib.ListN.{length}
-use Rattle.machine.specs.Answer.{answer, otherAnswer}
-use Rattle.machine.specs.Area.{kernelOf}
-use Rattle.machine.specs.Limits.{slotCount}
-use Rattle.machine.specs.Operations.{listText}
+use Rattle.machine.specs.Answer.{answer, other_answer}
+use Rattle.machine.specs.Area.{kernel_of}
+use Rattle.machine.specs.Limits.{slot_count}
+use Rattle.machine.specs.Operations.{list_text}
 use Rattle.operation.specs.Answers.{answered}
 use Rattle.operation.specs.declared.Answer.TheVariants.{Done}
 use Rattle.turn.proofs.Passing.{area-size}
@@ -16,16 +16,16 @@ use Rattle.operation.proofs.Lines.{list-short, live-lines}
 use Rattle.operation.proofs.list.list.Goals as goal
 
 pub returns-in-Unusable : goal.returns-in-Unusable
-unfolding answer otherAnswer
+unfolding answer other_answer
 returns-in-Unusable c = first-refused _ _ c.check.ensures c.in-Unusable.is _ _
 
 pub list_length-requires : goal.list_length-requires
 list_length-requires c = area-size (first-passed _ _ c.check.ensures c.in_default.is)
 
 pub returns-then-out-list_length : goal.returns-then-out-list_length
-unfolding answer otherAnswer
+unfolding answer other_answer
 returns-then-out-list_length c =
-    first_short _ _ c.check.ensures c.in_default.is _ (length (listText (kernelOf c.args.area.now))) _
+    first_short _ _ c.check.ensures c.in_default.is _ (length (list_text (kernel_of c.args.area.now))) _
     (omega (arith, c.list_length.ensures))
 
 pub put_list-requires : goal.put_list-requires
@@ -38,13 +38,13 @@ put_list-requires c =
 pub overflow_cast-result : goal.overflow_cast-result
 overflow_cast-result c =
     let area = c.args.area.now in
-    omega (arith, c.put_list.ensures.place, ap length (live-lines area), list-short area slotCount)
+    omega (arith, c.put_list.ensures.place, ap length (live-lines area), list-short area slot_count)
 
 pub returns : goal.returns
-unfolding answer otherAnswer
+unfolding answer other_answer
 returns c =
     let a = c.args in
-    let text = listText (kernelOf a.area.now) in
+    let text = list_text (kernel_of a.area.now) in
     let n : c.put_list.result ≡ length text = omega (arith, c.put_list.ensures.place) in
     first-roomy _ _ c.check.ensures c.in_default.is a.out.now (length text) _ (omega (arith, c.list_length.ensures))
     (ap₂ (λ (m : ℕ) (l : List ℕ). answered (Done m) a.disc.now a.area.now l) n c.put_list.ensures.bytes)

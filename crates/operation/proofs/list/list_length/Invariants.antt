@@ -1,13 +1,13 @@
 -- The loop: the lines of the processes in the slots passed are counted.
 use Prim.Native.Nat.{◌-◌}
 use Rattle.buffer.proofs.Lines.{Counted}
-use Rattle.machine.specs.Limits.{slotCount}
-use Rattle.area.specs.Parts.{processIn}
+use Rattle.machine.specs.Limits.{slot_count}
+use Rattle.area.specs.Parts.{process_in}
 use Rattle.operation.specs.Lines.{line_of}
 use Rattle.operation.proofs.list.list_length.Given as goal
 
 abbrev pub invariant-loop-slot : goal.invariant-loop-slot
-invariant-loop-slot l = Counted line_of (processIn l.area) slotCount l.len l.slot
+invariant-loop-slot l = Counted line_of (process_in l.area) slot_count l.len l.slot
 
 abbrev pub decreases-loop-slot : goal.decreases-loop-slot
-decreases-loop-slot l = slotCount - l.slot
+decreases-loop-slot l = slot_count - l.slot

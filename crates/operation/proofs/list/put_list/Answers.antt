@@ -5,17 +5,17 @@ use mathlib.Core.List.{List}
 use native.Mathlib.Omega.{arith}
 use lib.ListN.{length}
 use Rattle.buffer.proofs.Lines.{lines, written_all, written_next, written_none, written-room}
-use Rattle.machine.specs.Area.{kernelOf, processOf}
-use Rattle.machine.specs.Operations.{listText}
-use Rattle.machine.specs.Limits.{slotCount}
-use Rattle.area.specs.Parts.{processIn}
+use Rattle.machine.specs.Area.{kernel_of, process_of}
+use Rattle.machine.specs.Operations.{list_text}
+use Rattle.machine.specs.Limits.{slot_count}
+use Rattle.area.specs.Parts.{process_in}
 use Rattle.operation.specs.Lines.{line_of}
 use Rattle.operation.proofs.Lines.{live-lines}
 use Rattle.operation.proofs.list.put_list.Goals as goal
 
 -- the output has room for the lines of all slots
-roomy : (area out : List ℕ) → length (listText (kernelOf area)) ≤ length out
-    → length (lines line_of (processIn area) slotCount) ≤ length out
+roomy : (area out : List ℕ) → length (list_text (kernel_of area)) ≤ length out
+    → length (lines line_of (process_in area) slot_count) ≤ length out
 roomy area out h = omega (arith, ap length (live-lines area))
 
 pub loop-slot-init : goal.loop-slot-init
@@ -26,13 +26,13 @@ put_line-at-requires c =
     let room = roomy c.args.area.now c.args.out.now c.requires.area_in_bounds in
     record {
       bytes_len = c.record_at.ensures.1;
-      bytes_in_bounds = written-room _ _ _ _ room c.loop-slot.invariant (omega arith) (ap processOf c.record_at.ensures.0);
+      bytes_in_bounds = written-room _ _ _ _ room c.loop-slot.invariant (omega arith) (ap process_of c.record_at.ensures.0);
     }
 
 pub loop-slot-preserved : goal.loop-slot-preserved
 loop-slot-preserved c =
     let room = roomy c.args.area.now c.args.out.now c.requires.area_in_bounds in
-    written_next _ _ _ _ room c.loop-slot.invariant (omega arith) (ap processOf c.record_at.ensures.0) c.put_line-at.ensures
+    written_next _ _ _ _ room c.loop-slot.invariant (omega arith) (ap process_of c.record_at.ensures.0) c.put_line-at.ensures
 
 pub returns : goal.returns
 returns c = rw (live-lines c.args.area.now) at (written_all _ _ _ _ c.loop-slot.invariant (omega arith))

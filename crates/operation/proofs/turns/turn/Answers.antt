@@ -4,7 +4,7 @@ use native.Mathlib.Omega.{arith}
 use borrow.Author.Tests.{le-leb, le-ltb, lt-ltb}
 use lib.ListN.{length}
 use Rattle.machine.specs.Answer.{answer}
-use Rattle.machine.specs.Limits.{slotCount, turnRoom}
+use Rattle.machine.specs.Limits.{slot_count, turn_room}
 use Rattle.machine.specs.Refusals.{MayTurn}
 use Rattle.machine.proofs.Demands.Rounds.{turn-not-running, turn-running}
 use Rattle.machine.proofs.Demands.TurnCalls.{prints-little}
@@ -22,14 +22,14 @@ returns-in-Unusable c = first-refused _ _ c.check.ensures c.in-Unusable.is _ _
 pub returns-then-out-lt-TURN_ROOM : goal.returns-then-out-lt-TURN_ROOM
 unfolding answer
 returns-then-out-lt-TURN_ROOM c =
-    first_short _ _ c.check.ensures c.in_default.is _ turnRoom _ c.if-out-lt-TURN_ROOM.true
+    first_short _ _ c.check.ensures c.in_default.is _ turn_room _ c.if-out-lt-TURN_ROOM.true
 
 pub returns-then-at-ge-SLOT_COUNT : goal.returns-then-at-ge-SLOT_COUNT
 unfolding answer
 returns-then-at-ge-SLOT_COUNT c =
     let p = first-passed _ _ c.check.ensures c.in_default.is in
-    let r = le-leb turnRoom (length c.args.out.now) c.if-out-lt-TURN_ROOM.false in
-    rw (p.sizes, p.disc-good, p.area-good, r, le-ltb _ slotCount c.if-at-ge-SLOT_COUNT.true)
+    let r = le-leb turn_room (length c.args.out.now) c.if-out-lt-TURN_ROOM.false in
+    rw (p.sizes, p.disc-good, p.area-good, r, le-ltb _ slot_count c.if-at-ge-SLOT_COUNT.true)
 
 pub is_running-requires : goal.is_running-requires
 is_running-requires c =
@@ -39,8 +39,8 @@ pub returns-then-not-is_running : goal.returns-then-not-is_running
 returns-then-not-is_running c =
     let a = c.args in
     let p = first-passed _ _ c.check.ensures c.in_default.is in
-    let r = le-leb turnRoom (length a.out.now) c.if-out-lt-TURN_ROOM.false in
-    let low = lt-ltb a.slot slotCount c.if-at-ge-SLOT_COUNT.false in
+    let r = le-leb turn_room (length a.out.now) c.if-out-lt-TURN_ROOM.false in
+    let low = lt-ltb a.slot slot_count c.if-at-ge-SLOT_COUNT.false in
     sym (turn-not-running (lent a.disc.now a.area.now a.out.now) a.slot a.clock p r low
     (sym c.is_running.ensures ∙ c.if-not-is_running.true))
 
@@ -59,8 +59,8 @@ overflow_cast-result c =
     let may : MayTurn (lent a.disc.now a.area.now a.out.now) a.slot =
     record {
       passes = first-passed _ _ c.check.ensures c.in_default.is;
-      room = le-leb turnRoom (length a.out.now) c.if-out-lt-TURN_ROOM.false;
-      low = lt-ltb a.slot slotCount c.if-at-ge-SLOT_COUNT.false;
+      room = le-leb turn_room (length a.out.now) c.if-out-lt-TURN_ROOM.false;
+      low = lt-ltb a.slot slot_count c.if-at-ge-SLOT_COUNT.false;
       running = sym c.is_running.ensures ∙ c.if-not-is_running.false;
     } in
     omega (arith, prints-little (lent a.disc.now a.area.now a.out.now) a.slot a.clock may)
@@ -70,8 +70,8 @@ returns c =
     let a = c.args in
     let left = c.turn_slot.ensures in
     let p = first-passed _ _ c.check.ensures c.in_default.is in
-    let r = le-leb turnRoom (length a.out.now) c.if-out-lt-TURN_ROOM.false in
-    let low = lt-ltb a.slot slotCount c.if-at-ge-SLOT_COUNT.false in
+    let r = le-leb turn_room (length a.out.now) c.if-out-lt-TURN_ROOM.false in
+    let low = lt-ltb a.slot slot_count c.if-at-ge-SLOT_COUNT.false in
     (λ i. answered (Done (left i).count) (left i).disc (left i).area (left i).out)
     ∙ sym (turn-running (lent a.disc.now a.area.now a.out.now) a.slot a.clock p r low
     (sym c.is_running.ensures ∙ c.if-not-is_running.false))

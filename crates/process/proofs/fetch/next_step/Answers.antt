@@ -3,13 +3,13 @@ use Rattle.std.proofs.Common.{◌≤◌, ◌≡◌, length, sym, arith, rules}
 use lib.Seq.{length-take-le}
 use Rattle.buffer.proofs.Parts.{part_length, part-to}
 use Rattle.disc.proofs.Locations.{contents-part, held-inside}
-use Rattle.machine.specs.Limits.{stackSize}
-use Rattle.stack.specs.Steps.{maxCode}
+use Rattle.machine.specs.Limits.{stack_size}
+use Rattle.stack.specs.Steps.{max_code}
 use Rattle.process.proofs.fetch.next_step.Goals as goal
 
 pub slice_bounds-stack-end : goal.slice_bounds-stack-end
 slice_bounds-stack-end c =
-    let size : length c.args.p.stack ≡ stackSize = search rules in
+    let size : length c.args.p.stack ≡ stack_size = search rules in
     omega arith
 
 pub slice_bounds-execute-end : goal.slice_bounds-execute-end
@@ -17,15 +17,15 @@ slice_bounds-execute-end c = omega (arith, held-inside c.requires.0)
 
 pub slice_bounds-execute-end-2 : goal.slice_bounds-execute-end-2
 slice_bounds-execute-end-2 c =
-    let size : length c.args.p.stack ≡ stackSize = search rules in
+    let size : length c.args.p.stack ≡ stack_size = search rules in
     sym (length-take-le c.args.p.sp c.args.p.stack (omega arith))
 
 pub execute-requires : goal.execute-requires
 execute-requires c =
     let p = c.args.p in
     let disc = c.args.disc.now in
-    let size : length p.stack ≡ stackSize = search rules in
-    let short : p.code.len ≤ maxCode = search rules in
+    let size : length p.stack ≡ stack_size = search rules in
+    let short : p.code.len ≤ max_code = search rules in
     let below = length-take-le p.sp p.stack (omega arith) in (
       rw (part-to disc p.code.start p.code.len) (omega (arith, part_length disc p.code.start p.code.len (held-inside c.requires.0))),
       omega arith,

@@ -2,25 +2,25 @@
 use Rattle.std.proofs.Common.{◌≡◌, length, sym, arith, rules}
 use lib.Seq.{length-take-le}
 use Rattle.variable.specs.declared.Placing.TheVariants.{NoEntry, NoRun}
-use Rattle.machine.specs.Limits.{stackSize}
+use Rattle.machine.specs.Limits.{stack_size}
 use Rattle.process.proofs.Assigning.{set-done, set-few, set_on, set-refused}
 use Rattle.process.proofs.setting.set_variable.Goals as goal
 
 pub slice_bounds-bytes-end : goal.slice_bounds-bytes-end
 slice_bounds-bytes-end c =
-    let size : length c.args.d.bytes ≡ stackSize = search rules in
+    let size : length c.args.d.bytes ≡ stack_size = search rules in
     omega (arith, c.requires.0.len)
 
 pub slice_bounds-assign_in-end : goal.slice_bounds-assign_in-end
 slice_bounds-assign_in-end c =
-    let size : length c.args.d.bytes ≡ stackSize = search rules in
+    let size : length c.args.d.bytes ≡ stack_size = search rules in
     sym (length-take-le c.args.d.len c.args.d.bytes (omega (arith, c.requires.0.len)))
 
 pub assign_in-placing-requires : goal.assign_in-placing-requires
 assign_in-placing-requires c =
     let d = c.args.d in
     let t = c.requires.0 in
-    let size : length d.bytes ≡ stackSize = search rules in
+    let size : length d.bytes ≡ stack_size = search rules in
     let n = length-take-le d.len d.bytes (omega (arith, t.len)) in
     (t.size, t.few, omega (arith, c.requires.1), omega (arith, t.len))
 

@@ -5,9 +5,9 @@ use mathlib.Core.List.{List, ◌++◌}
 use native.Mathlib.Omega.{arith}
 use lib.ListN.{length, drop, replicate, take, length-append}
 use lib.Seq.{length-take-le, take_at}
-use Rattle.machine.specs.Area.{kernelOf}
-use Rattle.machine.specs.Beyond.{Answered, advanced, fileRun, received}
-use Rattle.machine.specs.Limits.{stackSize}
+use Rattle.machine.specs.Area.{kernel_of}
+use Rattle.machine.specs.Beyond.{Answered, advanced, file_run, received}
+use Rattle.machine.specs.Limits.{stack_size}
 use Rattle.machine.specs.declared.OpenFile.{OpenFile}
 use Rattle.machine.specs.declared.Process.{Process}
 use Rattle.place.specs.declared.Run.{Run}
@@ -15,7 +15,7 @@ use Rattle.process.specs.Stepping.{Stepping, own_at, stack_of}
 use Rattle.process.proofs.Advancing.{may-go-on}
 use Rattle.stack.specs.declared.Step.{Step}
 use Rattle.stack.specs.Steps.{keeping, placed}
-use Rattle.store.specs.File.{readAt}
+use Rattle.store.specs.File.{read_at}
 use Rattle.request.specs.Answers.{Ahead}
 use Rattle.request.proofs.Accesses.{has_room, no_room, read_length}
 use Rattle.request.proofs.Answering.{breaks-off, goes_on}
@@ -23,9 +23,9 @@ use Rattle.request.proofs.file.push_read.Goals as goal
 
 -- what is lent: n bytes
 abbrev zeros : List ℕ
-zeros = replicate stackSize 0
+zeros = replicate stack_size 0
 
-lent-length : (n : ℕ) → n ≤ stackSize → length (take n zeros) ≡ n
+lent-length : (n : ℕ) → n ≤ stack_size → length (take n zeros) ≡ n
 lent-length n h = length-take-le n zeros (omega arith)
 
 -- ---- the file is that of the process
@@ -39,14 +39,14 @@ module _ {area : List ℕ} {slot : ℕ} {d : Step} (s : Stepping area slot (own_
 
   abbrev answer : List ℕ → OpenFile → Answered
   answer tail f =
-      received (kernelOf area) slot disc (take d.kept (stack_of own) ++ readAt disc (fileRun f) f.offset n ++ tail) n
+      received (kernel_of area) slot disc (take d.kept (stack_of own) ++ read_at disc (file_run f) f.offset n ++ tail) n
       (keeping (stack_of own) d)
 
   -- what is read
-  module _ {run : Run} {lent : ℕ} {bytes : List ℕ} (r : run ≡ fileRun file) (l : lent ≡ n)
-      (e : bytes ≡ readAt disc run file.offset lent) where
-    read-is : bytes ≡ readAt disc (fileRun own.file) own.file.offset n
-    read-is = e ∙ (λ i. readAt disc (r i) file.offset (l i)) ∙ ap (λ (f : OpenFile). readAt disc (fileRun f) f.offset n) is
+  module _ {run : Run} {lent : ℕ} {bytes : List ℕ} (r : run ≡ file_run file) (l : lent ≡ n)
+      (e : bytes ≡ read_at disc run file.offset lent) where
+    read-is : bytes ≡ read_at disc (file_run own.file) own.file.offset n
+    read-is = e ∙ (λ i. read_at disc (r i) file.offset (l i)) ∙ ap (λ (f : OpenFile). read_at disc (file_run f) f.offset n) is
 
     bytes-length : length bytes ≡ n
     bytes-length = ap length read-is ∙ read_length s own-ahead

@@ -2,12 +2,12 @@
 use mathlib.Core.List.{[], ◌∷◌}
 use native.Mathlib.Omega.{arith}
 use borrow.Author.Rules.{rules}
-use Rattle.machine.specs.Beyond.{fileRun}
-use Rattle.machine.specs.Stack.{stringKind}
+use Rattle.machine.specs.Beyond.{file_run}
+use Rattle.machine.specs.Stack.{string_kind}
 use Rattle.process.specs.Stepping.{stack_of}
 use Rattle.process.proofs.Advancing.{own-file, own-stepping}
 use Rattle.stack.specs.Steps.{keeping}
-use Rattle.store.specs.File.{readAt}
+use Rattle.store.specs.File.{read_at}
 use Rattle.request.proofs.Accesses.{no_room, own-received}
 use Rattle.request.proofs.Answering.{answers, breaks-off}
 use Rattle.request.proofs.file.push_text.Goals as goal
@@ -16,7 +16,7 @@ pub returns-then-n-gt-STACK_SIZE : goal.returns-then-n-gt-STACK_SIZE
 returns-then-n-gt-STACK_SIZE c =
     let a = c.args in
     breaks-off c.requires.0 a.disc.now
-    (no_room c.requires.0 c.requires.1 (a.n ∷ stringKind ∷ []) (keeping (stack_of a.p) a.d) (omega arith)) c.finish.ensures
+    (no_room c.requires.0 c.requires.1 (a.n ∷ string_kind ∷ []) (keeping (stack_of a.p) a.d) (omega arith)) c.finish.ensures
 
 pub push_read-requires : goal.push_read-requires
 push_read-requires c =
@@ -28,4 +28,4 @@ returns c =
     let f = a.p.file in
     let disc = a.disc.now in
     answers c.requires.0 disc c.push_read.ensures
-    (own-received c.requires.0 disc (readAt disc (fileRun f) f.offset a.n) (a.n ∷ stringKind ∷ []) a.n)
+    (own-received c.requires.0 disc (read_at disc (file_run f) f.offset a.n) (a.n ∷ string_kind ∷ []) a.n)

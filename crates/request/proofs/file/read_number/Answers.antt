@@ -2,9 +2,9 @@
 use mathlib.Core.Path.{sym, ◌∙◌}
 use mathlib.Core.List.{[], ◌∷◌}
 use borrow.Author.Rules.{rules}
-use Rattle.machine.specs.Beyond.{fileRun}
+use Rattle.machine.specs.Beyond.{file_run}
 use Rattle.process.proofs.Advancing.{own-file, own-stepping}
-use Rattle.store.specs.File.{readAt}
+use Rattle.store.specs.File.{read_at}
 use Rattle.request.proofs.Accesses.{ahead, own-received, read-granted}
 use Rattle.request.proofs.Answering.{answers, breaks-off}
 use Rattle.request.proofs.file.read_number.Goals as goal
@@ -21,7 +21,7 @@ returns-in-Inside c =
     let disc = a.disc.now in
     let f = a.p.file in
     answers c.requires.0 disc c.push_read.ensures
-    (own-received c.requires.0 disc (readAt disc (fileRun f) f.offset a.kind) (a.kind ∷ []) a.kind
+    (own-received c.requires.0 disc (read_at disc (file_run f) f.offset a.kind) (a.kind ∷ []) a.kind
     ∙ sym (read-granted c.requires.0 disc a.kind (sym c.in-Inside.ensures)))
 
 pub returns-in-NoFile : goal.returns-in-NoFile

@@ -4,18 +4,18 @@ use mathlib.Core.Path.{◌≡◌, sym, ap, ◌∙◌}
 use mathlib.Core.List.{List}
 use native.Mathlib.Omega.{arith}
 use lib.ListN.{length, drop}
-use Rattle.machine.specs.Beyond.{fileRun}
+use Rattle.machine.specs.Beyond.{file_run}
 use Rattle.machine.specs.declared.OpenFile.{OpenFile}
 use Rattle.place.specs.declared.Run.{Run}
 use Rattle.disc.specs.Directory.{contents}
 use Rattle.disc.specs.Name.{trimmed}
 use Rattle.request.specs.Answers.{Ahead}
-use Rattle.request.proofs.Accesses.{no-file, past_end, text-granted, text-received, text-short, textIn}
+use Rattle.request.proofs.Accesses.{no-file, past_end, text-granted, text-received, text-short, text_in}
 use Rattle.request.proofs.Answering.{answers, breaks-off}
 use Rattle.request.proofs.file.read_string.Goals as goal
 
-text-is : (disc : List ℕ) (f : OpenFile) {run : Run} {n : ℕ} → n ≡ length (trimmed (drop f.offset (contents disc run))) → run ≡ fileRun f
-    → n ≡ length (textIn disc f)
+text-is : (disc : List ℕ) (f : OpenFile) {run : Run} {n : ℕ} → n ≡ length (trimmed (drop f.offset (contents disc run))) → run ≡ file_run f
+    → n ≡ length (text_in disc f)
 text-is disc f e r = e ∙ ap (λ (x : Run). length (trimmed (drop f.offset (contents disc x)))) r
 
 pub text_ahead-n-requires : goal.text_ahead-n-requires

@@ -5,11 +5,11 @@ use mathlib.Core.List.{List}
 use native.Mathlib.Omega.{arith}
 use borrow.Author.Rules.{rules}
 use lib.ListN.{length}
-use Rattle.machine.specs.Limits.{stackSize}
+use Rattle.machine.specs.Limits.{stack_size}
 use Rattle.place.specs.declared.Run.{Run}
 use Rattle.process.specs.Stepping.{left}
 use Rattle.stack.specs.Steps.{about}
-use Rattle.store.specs.File.{writtenAt}
+use Rattle.store.specs.File.{written_at}
 use Rattle.process.proofs.Advancing.{may-keep, own-keeping}
 use Rattle.request.proofs.Accesses.{ahead, write_granted}
 use Rattle.request.proofs.Answering.{about-length, breaks-off, goes_on}
@@ -18,7 +18,7 @@ use Rattle.request.proofs.file.write_file.Goals as goal
 pub write_at-requires : goal.write_at-requires
 write_at-requires c =
     let a = c.args in
-    let size : length a.d.bytes ≡ stackSize = search rules in
+    let size : length a.d.bytes ≡ stack_size = search rules in
     let n = about-length c.requires.0 size in
     let h = ahead a.p.file a.d.len c.requires.1 (sym c.in-Inside.ensures) in
     rw c.file_run.ensures (h.held, omega (arith, h.within))
@@ -33,18 +33,18 @@ pub returns-in-Inside : goal.returns-in-Inside
 returns-in-Inside c =
     let a = c.args in
     let disc = a.disc.now in
-    let size : length a.d.bytes ≡ stackSize = search rules in
-    let e = c.write_at.ensures ∙ ap (λ (r : Run). writtenAt disc r a.p.file.offset (about a.d)) c.file_run.ensures in
+    let size : length a.d.bytes ≡ stack_size = search rules in
+    let e = c.write_at.ensures ∙ ap (λ (r : Run). written_at disc r a.p.file.offset (about a.d)) c.file_run.ensures in
     ap (λ (l : List ℕ). left l c.go_on.new.area) e
     ∙ goes_on c.requires.0 disc (write_granted c.requires.0 disc size (sym c.in-Inside.ensures))
     (own-keeping c.requires.0) c.advanced.ensures c.go_on.ensures
 
 pub returns-in-NoFile : goal.returns-in-NoFile
 returns-in-NoFile c =
-    let size : length c.args.d.bytes ≡ stackSize = search rules in
+    let size : length c.args.d.bytes ≡ stack_size = search rules in
     breaks-off c.requires.0 _ (write_granted c.requires.0 _ size (sym c.in-NoFile.ensures)) c.finish.ensures
 
 pub returns-in-PastEnd : goal.returns-in-PastEnd
 returns-in-PastEnd c =
-    let size : length c.args.d.bytes ≡ stackSize = search rules in
+    let size : length c.args.d.bytes ≡ stack_size = search rules in
     breaks-off c.requires.0 _ (write_granted c.requires.0 _ size (sym c.in-PastEnd.ensures)) c.finish-in-PastEnd.ensures

@@ -2,7 +2,7 @@
 use Prim.Native.Nat.{ℕ}
 use mathlib.Core.Path.{◌≡◌, sym, ap, ◌∙◌}
 use mathlib.Core.List.{List}
-use Rattle.machine.specs.Area.{kernelOf}
+use Rattle.machine.specs.Area.{kernel_of}
 use Rattle.machine.specs.Beyond.{answered, forked}
 use Rattle.machine.specs.Effect.{forks}
 use Rattle.machine.specs.Start.{starting}
@@ -18,14 +18,14 @@ use Rattle.request.proofs.fork.fork.Goals as goal
 
 -- what FORK answers, from what it answers to the process as it stands in the area
 forks-by : {area : List ℕ} {slot : ℕ} {p : Process} {d : Step} (s : Stepping area slot p d) (disc : List ℕ) {x : Left} {start : StartOf}
-    → x ≡ after disc area slot (forked (kernelOf area) slot disc start (keeping (stack_of (own_at area slot)) d))
-    → start ≡ starting (kernelOf area) disc (about d)
-    → x ≡ after disc area slot (answered (kernelOf area) slot disc (forks (about d) (keeping (stack_of p) d)))
+    → x ≡ after disc area slot (forked (kernel_of area) slot disc start (keeping (stack_of (own_at area slot)) d))
+    → start ≡ starting (kernel_of area) disc (about d)
+    → x ≡ after disc area slot (answered (kernel_of area) slot disc (forks (about d) (keeping (stack_of p) d)))
 unfolding answered
 forks-by {area} {slot} {p} {d} s disc {x} {start} e t =
     answers s disc e
-    (ap (λ (q : Process). forked (kernelOf area) slot disc start (keeping (stack_of q) d)) (sym s.own)
-    ∙ ap (λ (y : StartOf). forked (kernelOf area) slot disc y (keeping (stack_of p) d)) t)
+    (ap (λ (q : Process). forked (kernel_of area) slot disc start (keeping (stack_of q) d)) (sym s.own)
+    ∙ ap (λ (y : StartOf). forked (kernel_of area) slot disc y (keeping (stack_of p) d)) t)
 
 pub push_child-requires : goal.push_child-requires
 push_child-requires c =

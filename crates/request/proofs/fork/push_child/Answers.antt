@@ -5,20 +5,20 @@ use mathlib.Core.List.{List}
 use native.Mathlib.Omega.{arith}
 use borrow.Author.Rules.{rules}
 use lib.ListN.{length}
-use Rattle.disc.specs.Layout.{nameSize}
+use Rattle.disc.specs.Layout.{name_size}
 use Rattle.disc.specs.declared.Entry.{Entry}
-use Rattle.machine.specs.Area.{kernelBytes, kernelOf}
-use Rattle.machine.specs.Limits.{areaLength}
+use Rattle.machine.specs.Area.{kernel_bytes, kernel_of}
+use Rattle.machine.specs.Limits.{area_length}
 use Rattle.machine.specs.Start.{started}
 use Rattle.request.proofs.Answering.{forks-on, may-fork-on}
 use Rattle.request.proofs.Started.{started-said}
 use Rattle.request.proofs.fork.push_child.Goals as goal
 
 -- the area after the child's start, from an entry as it was read
-begun-is : (area : List ℕ) → length area ≡ areaLength → (child : ℕ) {e entry : Entry} {begun : List ℕ} → length e.name ≡ nameSize
-    → e ≡ entry → begun ≡ kernelBytes (started (kernelOf area) child e) → kernelOf begun ≡ started (kernelOf area) child entry
+begun-is : (area : List ℕ) → length area ≡ area_length → (child : ℕ) {e entry : Entry} {begun : List ℕ} → length e.name ≡ name_size
+    → e ≡ entry → begun ≡ kernel_bytes (started (kernel_of area) child e) → kernel_of begun ≡ started (kernel_of area) child entry
 begun-is area size child {e} named r x =
-    started-said area size child e named x ∙ ap (λ (y : Entry). started (kernelOf area) child y) r
+    started-said area size child e named x ∙ ap (λ (y : Entry). started (kernel_of area) child y) r
 
 pub go_on-requires : goal.go_on-requires
 go_on-requires c =

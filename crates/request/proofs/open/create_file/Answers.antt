@@ -3,8 +3,8 @@ use Prim.Native.Nat.{ℕ}
 use mathlib.Core.Path.{sym, ap, ◌∙◌}
 use mathlib.Core.List.{List}
 use native.Mathlib.Omega.{arith}
-use Rattle.machine.specs.Area.{kernelOf}
-use Rattle.machine.specs.Beyond.{Answered, createdAt}
+use Rattle.machine.specs.Area.{kernel_of}
+use Rattle.machine.specs.Beyond.{Answered, created_at}
 use Rattle.process.specs.Stepping.{left, stack_of}
 use Rattle.stack.specs.Steps.{about, keeping}
 use Rattle.store.specs.declared.Admission.{Admission}
@@ -26,7 +26,7 @@ pub returns-in-Start : goal.returns-in-Start
 returns-in-Start c =
     let a = c.args in
     let answer : Admission → Answered =
-    λ x. createdAt (kernelOf a.area.now) a.slot a.disc.now x (about a.d) a.n (keeping (stack_of a.p) a.d) in
+    λ x. created_at (kernel_of a.area.now) a.slot a.disc.now x (about a.d) a.n (keeping (stack_of a.p) a.d) in
     answers c.requires.0 a.disc.now
     (ap (λ (l : List ℕ). left l c.open_run.new.area) c.create.ensures ∙ c.open_run.ensures a.disc.now _)
     (ap answer c.in-Start.ensures)
@@ -35,5 +35,5 @@ pub returns-in-Denied : goal.returns-in-Denied
 returns-in-Denied c =
     let a = c.args in
     let answer : Admission → Answered =
-    λ x. createdAt (kernelOf a.area.now) a.slot a.disc.now x (about a.d) a.n (keeping (stack_of a.p) a.d) in
+    λ x. created_at (kernel_of a.area.now) a.slot a.disc.now x (about a.d) a.n (keeping (stack_of a.p) a.d) in
     breaks-off c.requires.0 a.disc.now (ap answer (sym c.in-Denied.ensures)) c.finish.ensures

@@ -2,8 +2,8 @@
 use mathlib.Core.Path.{sym, ap, ◌∙◌}
 use native.Mathlib.Omega.{arith}
 use Rattle.buffer.specs.declared.Found.{Found}
-use Rattle.machine.specs.Area.{kernelOf}
-use Rattle.machine.specs.Beyond.{Answered, answered, continues, opened, openedAt}
+use Rattle.machine.specs.Area.{kernel_of}
+use Rattle.machine.specs.Beyond.{Answered, answered, continues, opened, opened_at}
 use Rattle.process.specs.Stepping.{stack_of}
 use Rattle.stack.specs.Steps.{about, keeping}
 use Rattle.disc.specs.declared.Entry.{Entry}
@@ -23,9 +23,9 @@ returns-in-At c =
     let a = c.args in
     let disc = a.disc.now in
     let on = keeping (stack_of a.p) a.d in
-    let answer : Found → Answered = λ f. openedAt (kernelOf a.area.now) a.slot disc f (about a.d) a.size on in
+    let answer : Found → Answered = λ f. opened_at (kernel_of a.area.now) a.slot disc f (about a.d) a.size on in
     answers c.requires.0 disc (c.open_run.ensures disc disc)
-    (ap (λ (e : Entry). continues (kernelOf a.area.now) a.slot disc on (opened (run_from e.start e.len)) disc) c.entry_at-entry.ensures
+    (ap (λ (e : Entry). continues (kernel_of a.area.now) a.slot disc on (opened (run_from e.start e.len)) disc) c.entry_at-entry.ensures
     ∙ ap answer c.in-At.ensures)
 
 pub returns-in-Nowhere : goal.returns-in-Nowhere
@@ -33,5 +33,5 @@ unfolding answered
 returns-in-Nowhere c =
     let a = c.args in
     let answer : Found → Answered =
-    λ f. openedAt (kernelOf a.area.now) a.slot a.disc.now f (about a.d) a.size (keeping (stack_of a.p) a.d) in
+    λ f. opened_at (kernel_of a.area.now) a.slot a.disc.now f (about a.d) a.size (keeping (stack_of a.p) a.d) in
     answers c.requires.0 a.disc.now c.open_new.ensures (ap answer c.in-Nowhere.ensures)

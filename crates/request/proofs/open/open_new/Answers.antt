@@ -4,21 +4,21 @@ use mathlib.Core.Path.{◌≡◌, sym, ap, ◌∙◌}
 use mathlib.Core.List.{List}
 use native.Mathlib.Omega.{arith}
 use Rattle.float.specs.declared.whole.Size.{Size}
-use Rattle.number.specs.Compare.{sizeWithin}
+use Rattle.number.specs.Compare.{size_within}
 use Rattle.number.specs.declared.Number.{Number}
-use Rattle.machine.specs.Area.{kernelOf}
-use Rattle.machine.specs.Beyond.{Answered, created, newFileSize}
+use Rattle.machine.specs.Area.{kernel_of}
+use Rattle.machine.specs.Beyond.{Answered, created, new_file_size}
 use Rattle.process.specs.Stepping.{stack_of}
 use Rattle.stack.specs.Steps.{about, keeping}
-use Rattle.store.specs.File.{sizeLimit}
+use Rattle.store.specs.File.{size_limit}
 use Rattle.store.proofs.Rooms.{size-limit-is}
 use Rattle.request.proofs.Answering.{answers, breaks-off}
 use Rattle.request.proofs.open.open_new.Goals as goal
 
 -- the size that the test gives is the one that the disc's limit gives
-size-is : (disc : List ℕ) (size : Number) {max : ℕ} {s t : Size} → t ≡ s → t ≡ sizeWithin max size → max ≡ sizeLimit disc
-    → s ≡ newFileSize disc size
-size-is disc size e f g = sym e ∙ f ∙ ap (λ (m : ℕ). sizeWithin m size) g
+size-is : (disc : List ℕ) (size : Number) {max : ℕ} {s t : Size} → t ≡ s → t ≡ size_within max size → max ≡ size_limit disc
+    → s ≡ new_file_size disc size
+size-is disc size e f g = sym e ∙ f ∙ ap (λ (m : ℕ). size_within m size) g
 
 pub overflow_cast-max : goal.overflow_cast-max
 overflow_cast-max c = omega (arith, c.size_limit-max.ensures, size-limit-is c.args.disc.now, c.requires.1.high)
@@ -27,7 +27,7 @@ pub returns-in-Is : goal.returns-in-Is
 returns-in-Is c =
     let a = c.args in
     let answer : Size → Answered =
-    λ x. created (kernelOf a.area.now) a.slot a.disc.now x (about a.d) (keeping (stack_of a.p) a.d) in
+    λ x. created (kernel_of a.area.now) a.slot a.disc.now x (about a.d) (keeping (stack_of a.p) a.d) in
     answers c.requires.0 a.disc.now c.create_file.ensures
     (ap answer (size-is a.disc.now a.size c.in-Is.is c.size_within.ensures c.size_limit-max.ensures))
 
@@ -35,7 +35,7 @@ pub returns-in-Refused : goal.returns-in-Refused
 returns-in-Refused c =
     let a = c.args in
     let answer : Size → Answered =
-    λ x. created (kernelOf a.area.now) a.slot a.disc.now x (about a.d) (keeping (stack_of a.p) a.d) in
+    λ x. created (kernel_of a.area.now) a.slot a.disc.now x (about a.d) (keeping (stack_of a.p) a.d) in
     breaks-off c.requires.0 a.disc.now
     (ap answer (sym (size-is a.disc.now a.size c.in-Refused.is c.size_within.ensures c.size_limit-max.ensures)))
     c.finish.ensures

@@ -1,8 +1,8 @@
 -- No ended slot, no file, no ID left, or slot and file.
 use mathlib.Core.Path.{◌≡◌, refl, sym, ◌∙◌}
 use borrow.Author.Tests.{eq-eqb, ne_eqb}
-use Rattle.machine.specs.Area.{kernelOf}
-use Rattle.machine.specs.Limits.{idLimit}
+use Rattle.machine.specs.Area.{kernel_of}
+use Rattle.machine.specs.Limits.{id_limit}
 use Rattle.disc.proofs.Lookups.{lookup-at}
 use Rattle.request.proofs.Slots.{ended-slot-is, starting-by}
 use Rattle.request.proofs.start.find_start.Goals as goal
@@ -20,15 +20,15 @@ returns-in-Nowhere-find c =
 pub returns-then-next_id-eq-ID_LIMIT : goal.returns-then-next_id-eq-ID_LIMIT
 returns-then-next_id-eq-ID_LIMIT c =
     let a = c.args in
-    let spent = eq-eqb _ idLimit (sym c.next_id.ensures ∙ c.if-next_id-eq-ID_LIMIT.true) in
+    let spent = eq-eqb _ id_limit (sym c.next_id.ensures ∙ c.if-next_id-eq-ID_LIMIT.true) in
     (sym (starting-by a.area.now a.disc.now a.name.now (sym c.in-At.ensures) (sym c.in-At-find.ensures) spent), tt)
 
 pub returns-else-next_id-eq-ID_LIMIT : goal.returns-else-next_id-eq-ID_LIMIT
 returns-else-next_id-eq-ID_LIMIT c =
     let a = c.args in
-    let left : (kernelOf a.area.now).next ≡ idLimit → ⊥ = λ h. c.if-next_id-eq-ID_LIMIT.false (c.next_id.ensures ∙ h) in
+    let left : (kernel_of a.area.now).next ≡ id_limit → ⊥ = λ h. c.if-next_id-eq-ID_LIMIT.false (c.next_id.ensures ∙ h) in
     let ended = ended-slot-is a.area.now (sym c.in-At.ensures) in (
-      sym (starting-by a.area.now a.disc.now a.name.now (sym c.in-At.ensures) (sym c.in-At-find.ensures) (ne_eqb _ idLimit left)),
+      sym (starting-by a.area.now a.disc.now a.name.now (sym c.in-At.ensures) (sym c.in-At-find.ensures) (ne_eqb _ id_limit left)),
       record {
         slot-low = ended.0;
         ended = ended.1;

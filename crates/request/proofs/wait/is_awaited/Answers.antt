@@ -3,8 +3,8 @@ use mathlib.Core.Path.{ap, ◌∙◌}
 use native.Mathlib.Omega.{arith}
 use Rattle.area.proofs.Reading.{process-read}
 use Rattle.buffer.proofs.Equivalence.{asked-all, asked-next, asked-none}
-use Rattle.machine.specs.Area.{kernelOf}
-use Rattle.request.specs.Answers.{isAwaitedBy}
+use Rattle.machine.specs.Area.{kernel_of}
+use Rattle.request.specs.Answers.{is_awaited_by}
 use Rattle.request.proofs.wait.is_awaited.Goals as goal
 
 pub loop-slot-init : goal.loop-slot-init
@@ -13,8 +13,8 @@ loop-slot-init c = asked-none _ _ _
 pub loop-slot-preserved : goal.loop-slot-preserved
 loop-slot-preserved c =
     let read = c.process_at.ensures ∙ process-read c.args.area.now c.loop-slot.slot (omega arith) in
-    asked-next _ _ _ c.loop-slot.invariant (omega arith) (c.is_awaited_in-awaited.ensures ∙ ap (isAwaitedBy c.args.id) read)
+    asked-next _ _ _ c.loop-slot.invariant (omega arith) (c.is_awaited_in-awaited.ensures ∙ ap (is_awaited_by c.args.id) read)
 
 pub returns : goal.returns
-unfolding kernelOf
+unfolding kernel_of
 returns c = asked-all _ _ _ c.loop-slot.invariant (omega arith)

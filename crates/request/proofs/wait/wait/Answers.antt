@@ -1,7 +1,7 @@
 -- The process stays as it is, or goes on, by whether a live process has the ID.
 use mathlib.Core.Path.{sym, ◌∙◌}
 use native.Mathlib.Omega.{arith}
-use Rattle.machine.specs.State.{localOf}
+use Rattle.machine.specs.State.{local_of}
 use Rattle.process.specs.Stepping.{stack_of}
 use Rattle.stack.specs.Steps.{keeping}
 use Rattle.process.proofs.Advancing.{may-keep, own-keeping, own_room}
@@ -20,8 +20,8 @@ returns-then-is_awaited c disc =
     let a = c.args in
     let p = a.p in
     let on = keeping (stack_of p) a.d in
-    steps_on c.requires disc (localOf p)
-    (awaited-by a.area.now a.slot disc a.id (localOf p) on (sym c.is_awaited.ensures ∙ c.if-is_awaited.true))
+    steps_on c.requires disc (local_of p)
+    (awaited-by a.area.now a.slot disc a.id (local_of p) on (sym c.is_awaited.ensures ∙ c.if-is_awaited.true))
     (own-staying c.requires) c.go_on.ensures
 
 pub returns : goal.returns
@@ -30,5 +30,5 @@ returns c disc =
     let p = a.p in
     let on = keeping (stack_of p) a.d in
     steps_on c.requires disc on
-    (awaited-by a.area.now a.slot disc a.id (localOf p) on (sym c.is_awaited.ensures ∙ c.if-is_awaited.false))
+    (awaited-by a.area.now a.slot disc a.id (local_of p) on (sym c.is_awaited.ensures ∙ c.if-is_awaited.false))
     (own-keeping c.requires) c.go_on-2.ensures

@@ -2,7 +2,7 @@
 use mathlib.Core.Path.{sym, ◌∙◌, ap₂}
 use lib.IntN.{ℤ, ◌*ℤ◌, ◌+ℤ◌}
 use lib.Signed.{quot_z}
-use Rattle.scaling.specs.Map.{mapExact}
+use Rattle.scaling.specs.Map.{map_exact}
 use Rattle.scaling.proofs.Mapping.{adds, divides, reads-exact}
 use Rattle.scaling.proofs.map.map_exact.Goals as goal
 
@@ -23,7 +23,7 @@ overflow_add-result c =
     adds x.result y.result x.type_inv y.type_inv x.ensures.1 y.ensures.1 z.result z.type_inv d.result d.type_inv
 
 pub returns : goal.returns
-unfolding mapExact
+unfolding map_exact
 returns c =
     let x = c.difference in
     let y = c.difference-2 in

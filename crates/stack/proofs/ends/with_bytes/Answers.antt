@@ -4,19 +4,19 @@ use lib.ListN.{length-replicate}
 use native.Mathlib.Nat.{zero-add}
 use Rattle.buffer.specs.Buffer.{overwrite}
 use Rattle.buffer.proofs.Buffer.{overwrite-joined, overwrite-zeros}
-use Rattle.machine.specs.Limits.{stackSize}
+use Rattle.machine.specs.Limits.{stack_size}
 use Rattle.stack.proofs.ends.with_bytes.Goals as goal
 
 -- two parts laid over the zeros of a whole stack
-laid : (head tail : List ℕ) → length head + length tail ≤ stackSize → {first second : List ℕ}
-    → first ≡ overwrite (replicate stackSize 0) 0 head → second ≡ overwrite first (length head) tail
-    → second ≡ head ++ tail ++ replicate (stackSize - length (head ++ tail)) 0
+laid : (head tail : List ℕ) → length head + length tail ≤ stack_size → {first second : List ℕ}
+    → first ≡ overwrite (replicate stack_size 0) 0 head → second ≡ overwrite first (length head) tail
+    → second ≡ head ++ tail ++ replicate (stack_size - length (head ++ tail)) 0
 laid head tail fits x y =
     y
     ∙ ap (λ (l : List ℕ). overwrite l (length head) tail) x
-    ∙ overwrite-joined (replicate stackSize 0) head tail 0 (length head) (sym (zero-add (length head)))
-    (rw (length-replicate {A = ℕ} stackSize 0) (omega arith))
-    ∙ overwrite-zeros (head ++ tail) stackSize
+    ∙ overwrite-joined (replicate stack_size 0) head tail 0 (length head) (sym (zero-add (length head)))
+    (rw (length-replicate {A = ℕ} stack_size 0) (omega arith))
+    ∙ overwrite-zeros (head ++ tail) stack_size
 
 pub returns : goal.returns
 returns c =

@@ -1,14 +1,14 @@
 -- The stack below the number popped before is lent to the next pop.
 use Rattle.std.proofs.Common.{ℕ, ◌≤◌, ◌≡◌, length, sym, subst, ◌∙◌, arith}
-use Rattle.stack.specs.Tops.{bytesBelow}
+use Rattle.stack.specs.Tops.{bytes_below}
 use Rattle.stack.specs.declared.TopNumber.{TopNumber}
 use Rattle.stack.specs.declared.TopNumber.TheVariants.{Is}
 use Rattle.stack.proofs.Chains.{found_below, lent}
 use Rattle.number.specs.declared.Number.{Number}
 use Rattle.stack.proofs.tops.next_number.Goals as goal
 
-below_inside : (n : ℕ) {above : TopNumber} {a : Number} {below : ℕ} → bytesBelow above ≤ n → above ≡ Is a below → below ≤ n
-below_inside n h e = subst (λ (t : TopNumber). bytesBelow t ≤ n) e h
+below_inside : (n : ℕ) {above : TopNumber} {a : Number} {below : ℕ} → bytes_below above ≤ n → above ≡ Is a below → below ≤ n
+below_inside n h e = subst (λ (t : TopNumber). bytes_below t ≤ n) e h
 
 pub slice_bounds-top_number-end : goal.slice_bounds-top_number-end
 slice_bounds-top_number-end c = sym (lent _ _ (below_inside _ c.requires.1 c.in-Is.is))

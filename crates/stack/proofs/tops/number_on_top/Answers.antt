@@ -3,18 +3,18 @@ use Prim.Native.Nat.{◌≤◌, ◌<◌, ◌+◌}
 use lib.ListN.{length}
 use native.Mathlib.Omega.{arith}
 use borrow.Author.Tests.{le-leb, lt-leb}
-use Rattle.machine.specs.Stack.{popNumber}
+use Rattle.machine.specs.Stack.{pop_number}
 use Rattle.stack.proofs.tops.number_on_top.Goals as goal
 
 pub returns-then-n-size : goal.returns-then-n-size
-unfolding popNumber
+unfolding pop_number
 returns-then-n-size c =
     let a = c.args in
     let h : length a.stack.now < a.kind + 1 = omega (arith, c.wide-size.ensures) in
     (rw (lt-leb _ _ h), omega arith)
 
 pub returns : goal.returns
-unfolding popNumber
+unfolding pop_number
 returns c =
     let a = c.args in
     let h : a.kind + 1 ≤ length a.stack.now = omega (arith, c.wide-size.ensures) in

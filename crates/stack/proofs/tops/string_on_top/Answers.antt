@@ -5,7 +5,7 @@ use borrow.Author.Tests.{le-leb, lt-leb}
 use Rattle.buffer.specs.Buffer.{part}
 use Rattle.buffer.proofs.Parts.{part_length}
 use Rattle.disc.specs.Name.{trimmed}
-use Rattle.machine.specs.Stack.{popString}
+use Rattle.machine.specs.Stack.{pop_string}
 use Rattle.machine.proofs.Instructions.Popping.{is-well-formed, not-well-formed}
 use Rattle.stack.proofs.tops.string_on_top.Goals as goal
 
@@ -33,16 +33,16 @@ measured stack n t fits known =
     }
 
 pub returns-then-n-lt2 : goal.returns-then-n-lt2
-unfolding popString
+unfolding pop_string
 returns-then-n-lt2 c = (rw (lt-leb 2 (length c.args.stack.now) (omega arith)), omega arith)
 
 pub returns-then-n-len : goal.returns-then-n-len
-unfolding popString
+unfolding pop_string
 returns-then-n-len c =
     (rw (le-leb 2 (length c.args.stack.now) (omega arith), ← c.wide-len.ensures, lt-leb _ _ c.if-n-len.true), omega arith)
 
 pub returns-then-text_length-len : goal.returns-then-text_length-len
-unfolding popString
+unfolding pop_string
 returns-then-text_length-len c =
     let s = c.args.stack.now in
     let n = c.wide-len.result in
@@ -57,7 +57,7 @@ returns-then-text_length-len c =
     )
 
 pub returns : goal.returns
-unfolding popString
+unfolding pop_string
 returns c =
     let s = c.args.stack.now in
     let n = c.wide-len.result in

@@ -5,11 +5,11 @@ use Rattle.machine.proofs.Instructions.Popping.{number-no-string}
 use Rattle.number.specs.Value.{number_of}
 use Rattle.number.specs.declared.Number.{Number}
 use Rattle.operator.specs.declared.instruction.Types.{Types}
-use Rattle.stack.specs.Tops.{isNumeric, numberAbove}
+use Rattle.stack.specs.Tops.{is_numeric, number_above}
 use Rattle.stack.proofs.Popping.{OnTop, no_value, number_small, numeric-number, value-on-top}
 use Rattle.stack.proofs.tops.top_number.Goals as goal
 
-few : (types : Types) (stack : List ℕ) (kind at len : ℕ) → isNumeric types ≡ true → OnTop types stack kind at len → len ≤ 4
+few : (types : Types) (stack : List ℕ) (kind at len : ℕ) → is_numeric types ≡ true → OnTop types stack kind at len → len ≤ 4
 few types stack kind at len numeric top =
     let n = numeric-number types kind numeric top.off.taken in
     let size = sym top.size ∙ top.off.number (number-no-string kind n) in
@@ -38,7 +38,7 @@ returns-in-Lies c =
     let st = c.args.stack.now in
     let v = c.in-Lies in
     let top = value-on-top c.args.types st c.top_value.ensures v.is in (
-      rw top.pops (ap (λ (a : Number). numberAbove a (take v.at st))
+      rw top.pops (ap (λ (a : Number). number_above a (take v.at st))
           (c.number_of.ensures ∙ ap (number_of v.kind) (part-to st v.at v.len))),
       omega (arith, top.inside),
     )

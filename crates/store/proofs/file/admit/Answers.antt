@@ -10,27 +10,27 @@ use Rattle.buffer.specs.declared.Found.{Found}
 use Rattle.buffer.specs.declared.Found.TheVariants.{Nowhere}
 use Rattle.place.specs.Place.{filled, place}
 use Rattle.place.specs.declared.Run.{Run}
-use Rattle.disc.specs.Directory.{fileCount, lookup, taken}
-use Rattle.disc.specs.Layout.{dataStart, maxFiles}
-use Rattle.disc.specs.Name.{goodName}
+use Rattle.disc.specs.Directory.{file_count, lookup, taken}
+use Rattle.disc.specs.Layout.{data_start, max_files}
+use Rattle.disc.specs.Name.{good_name}
 use Rattle.disc.proofs.Entries.{taken-first}
-use Rattle.store.specs.File.{admission, denyIfFound, place_of, sizeLimit, startOr}
+use Rattle.store.specs.File.{admission, deny_if_found, place_of, size_limit, start_or}
 use Rattle.store.proofs.file.admit.Goals as goal
 
-module _ (d name : List ℕ) (n count : ℕ) (good : goodName name ≡ true) (some : 1 ≤ n) (fits : n ≤ sizeLimit d)
-    (few : count < maxFiles) (counted : count ≡ fileCount d) where
+module _ (d name : List ℕ) (n count : ℕ) (good : good_name name ≡ true) (some : 1 ≤ n) (fits : n ≤ size_limit d)
+    (few : count < max_files) (counted : count ≡ file_count d) where
   -- what is left of the definition behind the first tests
-  rest : (f : Found) → f ≡ lookup d name → admission d name n ≡ denyIfFound f (startOr (place_of d n))
+  rest : (f : Found) → f ≡ lookup d name → admission d name n ≡ deny_if_found f (start_or (place_of d n))
   unfolding admission
-  rest f found = rw (good, le-leb _ _ some, le-leb _ _ fits, lt-ltb (fileCount d) maxFiles (omega arith), found)
+  rest f found = rw (good, le-leb _ _ some, le-leb _ _ fits, lt-ltb (file_count d) max_files (omega arith), found)
 
   -- and behind the lookup
   last : Nowhere ≡ lookup d name → (runs : List Run) → runs ≡ filled (taken d) → (f : Found)
-      → f ≡ place (take count runs) dataStart (length d) n → admission d name n ≡ startOr f
+      → f ≡ place (take count runs) data_start (length d) n → admission d name n ≡ start_or f
   unfolding place_of
   last new runs r f placed =
       let e : take count runs ≡ taken d = taken-first d runs count (omega arith) counted r in
-      rest Nowhere new ∙ ap startOr (sym (rw (← e) placed))
+      rest Nowhere new ∙ ap start_or (sym (rw (← e) placed))
 
 pub returns-then-not-is_good_name : goal.returns-then-not-is_good_name
 unfolding admission
@@ -56,7 +56,7 @@ returns-then-count-ge-MAX_FILES c =
       sym c.is_good_name.ensures ∙ c.if-not-is_good_name.false,
       le-leb _ _ c.if-n-lt1.false,
       le-leb _ _ (rw c.size_limit.ensures at c.if-size_limit-n.false),
-      le-ltb (fileCount c.args.disc.now) maxFiles (omega arith),
+      le-ltb (file_count c.args.disc.now) max_files (omega arith),
     )
 
 pub returns-in-At : goal.returns-in-At

@@ -4,8 +4,8 @@ use mathlib.Core.Path.{ap, ◌∙◌}
 use mathlib.Core.List.{List}
 use native.Mathlib.Omega.{arith}
 use Rattle.buffer.specs.Buffer.{overwrite}
-use Rattle.disc.specs.Directory.{entryBytes}
-use Rattle.disc.specs.Layout.{entrySize}
+use Rattle.disc.specs.Directory.{entry_bytes}
+use Rattle.disc.specs.Layout.{entry_size}
 use Rattle.store.proofs.Admissions.{admitted}
 use Rattle.store.proofs.Invariant.{admitted-small, room}
 use Rattle.store.proofs.Steps.{entered-steps}
@@ -33,5 +33,5 @@ returns c =
     let a = c.args in
     entered-steps a.disc.now c.requires.0.low _ a.name.now a.n a.start n.result n.ensures (omega arith)
     (c.put_entry.ensures
-    ∙ ap (λ (l : List ℕ). overwrite a.disc.now (n.result * entrySize) (entryBytes (record { name = l; start = a.start; len = a.n })))
+    ∙ ap (λ (l : List ℕ). overwrite a.disc.now (n.result * entry_size) (entry_bytes (record { name = l; start = a.start; len = a.n })))
     c.pad-field.ensures)

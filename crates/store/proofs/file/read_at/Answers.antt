@@ -6,7 +6,7 @@ use lib.ListN.{length}
 use Rattle.buffer.specs.Buffer.{part}
 use Rattle.buffer.proofs.Parts.{part-of-part}
 use Rattle.disc.proofs.Locations.{contents-part, held-inside}
-use Rattle.store.specs.File.{readAt}
+use Rattle.store.specs.File.{read_at}
 use native.Mathlib.Omega.{arith}
 use Rattle.store.proofs.file.read_at.Goals as goal
 
@@ -14,7 +14,7 @@ pub copy_part-requires : goal.copy_part-requires
 copy_part-requires c = omega (arith, held-inside c.requires.0, c.requires.1)
 
 pub returns : goal.returns
-unfolding readAt
+unfolding read_at
 returns c =
     let a = c.args in
     let n = length a.out.now in

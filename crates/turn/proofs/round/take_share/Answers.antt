@@ -4,10 +4,10 @@ use mathlib.Core.Path.{ap, ◌∙◌}
 use native.Mathlib.Omega.{arith}
 use borrow.Author.Rules.{rules}
 use lib.ListN.{length, replicate, get_or-replicate, length-drop, length-replicate, length-take}
-use Rattle.machine.specs.Area.{kernelOf}
-use Rattle.machine.specs.Limits.{turnRoom}
-use Rattle.machine.specs.Operations.{inOrder, turnIfRunning}
-use Rattle.turn.specs.Turns.{turnLeftBy}
+use Rattle.machine.specs.Area.{kernel_of}
+use Rattle.machine.specs.Limits.{turn_room}
+use Rattle.machine.specs.Operations.{in_order, turn_if_running}
+use Rattle.turn.specs.Turns.{turn_left_by}
 use Rattle.turn.proofs.Passing.{area-size}
 use Rattle.turn.proofs.Going.{going-all, going-first, going_on, next-short, out-room}
 use Rattle.turn.proofs.Rounding.{due-few, due-share, turn-steady}
@@ -25,7 +25,7 @@ loop-taken-init c =
     let a = c.args in
     let n = c.turns_due-due.result in
     let few = due-few a.slot a.clock a.disc.now a.area.now c.requires.0 in
-    going-first turnIfRunning turnRoom (replicate n a.slot) a.clock a.disc.now a.area.now a.out.now c.requires.0
+    going-first turn_if_running turn_room (replicate n a.slot) a.clock a.disc.now a.area.now a.out.now c.requires.0
     (λ i. search rules) (omega (arith, few, c.turns_due-due.ensures, c.requires.2, length-replicate n a.slot))
 
 pub turn_if_running-printed-requires : goal.turn_if_running-printed-requires
@@ -59,6 +59,6 @@ returns c =
     let a = c.args in
     let n = c.turns_due-due.result in
     going-all c.loop-taken.invariant (omega (arith, c.loop-taken-test.false, length-replicate n a.slot))
-    ∙ ap (λ (m : ℕ). turnLeftBy (inOrder turnIfRunning (replicate m a.slot) (kernelOf a.area.now) a.clock a.disc.now) a.out.now)
+    ∙ ap (λ (m : ℕ). turn_left_by (in_order turn_if_running (replicate m a.slot) (kernel_of a.area.now) a.clock a.disc.now) a.out.now)
     c.turns_due-due.ensures
-    ∙ ap (λ t. turnLeftBy t a.out.now) (due-share a.slot a.clock a.disc.now a.area.now)
+    ∙ ap (λ t. turn_left_by t a.out.now) (due-share a.slot a.clock a.disc.now a.area.now)

@@ -1,15 +1,15 @@
 -- Share after share of the ten slots, each in the rest of the output.
 use native.Mathlib.Omega.{arith}
 use lib.ListN.{length-drop, length-take}
-use Rattle.machine.specs.Limits.{shareRoom}
-use Rattle.machine.specs.Operations.{shareOfTurns, slots}
+use Rattle.machine.specs.Limits.{share_room}
+use Rattle.machine.specs.Operations.{share_of_turns, slots}
 use Rattle.turn.proofs.Going.{going-all, going-first, going_on, next-short, out-room}
 use Rattle.turn.proofs.Rounding.{share-steady, slot_is}
 use Rattle.turn.proofs.round.take_turns.Goals as goal
 
 pub loop-slot-init : goal.loop-slot-init
 loop-slot-init c =
-    going-first shareOfTurns shareRoom slots c.args.clock c.args.disc.now c.args.area.now c.args.out.now c.requires.0
+    going-first share_of_turns share_room slots c.args.clock c.args.disc.now c.args.area.now c.args.out.now c.requires.0
     (λ i. omega (arith, c.type_inv.area i)) c.requires.1
 
 pub take_share-printed-requires : goal.take_share-printed-requires

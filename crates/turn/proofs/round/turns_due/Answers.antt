@@ -6,19 +6,19 @@ use mathlib.Core.List.{List}
 use lib.Dec.{eqb}
 use lib.ListN.{get_or}
 use Rattle.area.proofs.Reading.{process-read}
-use Rattle.area.specs.Parts.{recordAt}
+use Rattle.area.specs.Parts.{record_at}
 use Rattle.buffer.specs.Buffer.{part}
-use Rattle.machine.specs.Area.{kernelOf}
-use Rattle.machine.specs.Limits.{recordSize, slotCount}
-use Rattle.machine.specs.State.{isRunning, processAt}
+use Rattle.machine.specs.Area.{kernel_of}
+use Rattle.machine.specs.Limits.{record_size, slot_count}
+use Rattle.machine.specs.State.{is_running, process_at}
 use Rattle.machine.specs.declared.Process.{Process}
 use Rattle.turn.proofs.round.turns_due.Goals as goal
 
-module _ (area : List ℕ) (slot : ℕ) (low : slot < slotCount) {bytes : List ℕ} (read : bytes ≡ part area (recordAt slot) recordSize) where
-  state-is : isRunning (processAt (kernelOf area) slot) ≡ eqb (get_or bytes 14 0) 114
-  state-is = ap isRunning (process-read area slot low) ∙ sym (ap (λ l. eqb (get_or l 14 0) 114) read)
+module _ (area : List ℕ) (slot : ℕ) (low : slot < slot_count) {bytes : List ℕ} (read : bytes ≡ part area (record_at slot) record_size) where
+  state-is : is_running (process_at (kernel_of area) slot) ≡ eqb (get_or bytes 14 0) 114
+  state-is = ap is_running (process-read area slot low) ∙ sym (ap (λ l. eqb (get_or l 14 0) 114) read)
 
-  share-is : (processAt (kernelOf area) slot).share ≡ get_or bytes 31 0
+  share-is : (process_at (kernel_of area) slot).share ≡ get_or bytes 31 0
   share-is = ap (λ (p : Process). p.share) (process-read area slot low) ∙ sym (ap (λ l. get_or l 31 0) read)
 
 pub returns-then-bytes-ne-RUNNING : goal.returns-then-bytes-ne-RUNNING

@@ -5,17 +5,17 @@ use mathlib.Core.List.{List, [], ◌++◌, append-nil}
 use native.Mathlib.Omega.{arith}
 use borrow.Author.Rules.{rules}
 use lib.ListN.{length, take}
-use Rattle.machine.specs.Area.{kernelBytes, kernelOf}
+use Rattle.machine.specs.Area.{kernel_bytes, kernel_of}
 use Rattle.machine.specs.Effect.{Effect, asks, awaits}
-use Rattle.machine.specs.Limits.{stackSize}
+use Rattle.machine.specs.Limits.{stack_size}
 use Rattle.machine.specs.Beyond.{answered}
-use Rattle.machine.specs.State.{Local, localOf, processAt, withFile, withLocal, withProcess}
+use Rattle.machine.specs.State.{Local, local_of, process_at, with_file, with_local, with_process}
 use Rattle.number.specs.declared.Number.{Number}
-use Rattle.machine.specs.Turn.{carriedOut}
+use Rattle.machine.specs.Turn.{carried_out}
 use Rattle.machine.specs.declared.Process.{Process}
-use Rattle.process.specs.Stepping.{Left, left, leftBy, pushing, stack_of}
+use Rattle.process.specs.Stepping.{Left, left, left_by, pushing, stack_of}
 use Rattle.process.proofs.Advancing.{may-go-on, may-keep, own-keeping, own-pushing}
-use Rattle.stack.specs.Steps.{about, effectBy, effect_of, keeping, placed}
+use Rattle.stack.specs.Steps.{about, effect_by, effect_of, keeping, placed}
 use Rattle.stack.specs.declared.Step.{Step}
 use Rattle.stack.specs.declared.Action.{Action}
 use Rattle.stack.specs.declared.Action.TheVariants.{Await}
@@ -26,13 +26,13 @@ use Rattle.turn.proofs.take.carry_out.Goals as goal
 -- ---- what an action's effect leaves
 module _ {disc area : List ℕ} {slot : ℕ} {p : Process} {d : Step} (s : Carries disc area slot p d) where
   abbrev own : Process
-  own = processAt (kernelOf area) slot
+  own = process_at (kernel_of area) slot
 
   abbrev does : Effect → Left
-  does e = leftBy (carriedOut (kernelOf area) slot disc e)
+  does e = left_by (carried_out (kernel_of area) slot disc e)
 
   abbrev effect : Action → Effect
-  effect a = effectBy a (stack_of p) (about d) (keeping (stack_of p) d)
+  effect a = effect_by a (stack_of p) (about d) (keeping (stack_of p) d)
 
   -- the step's effect is that of the action it is told to be
   done-as : {a : Action} {after : Left} → d.action ≡ a → after ≡ does (effect a) → after ≡ does (effect_of (stack_of p) d)
@@ -42,12 +42,12 @@ module _ {disc area : List ℕ} {slot : ℕ} {p : Process} {d : Step} (s : Carri
   bounds told = subst (λ (a : Action). Bounds a p d) told s.bounds
 
   -- the process of its slot, gone on with the file that it has
-  went_on : {after : List ℕ} {l m : Local}
-      → after ≡ kernelBytes (withProcess (kernelOf area) slot (withFile (withLocal own l) p.file)) → l ≡ m
-      → left disc after ≡ left disc (kernelBytes (withProcess (kernelOf area) slot (withLocal own m)))
-  went_on h e =
+  went-on : {after : List ℕ} {l m : Local}
+      → after ≡ kernel_bytes (with_process (kernel_of area) slot (with_file (with_local own l) p.file)) → l ≡ m
+      → left disc after ≡ left disc (kernel_bytes (with_process (kernel_of area) slot (with_local own m)))
+  went-on h e =
       let same = s.stepping.own in
-      ap (left disc) (h ∙ λ t. kernelBytes (withProcess (kernelOf area) slot (withFile (withLocal own (e t)) (same t).file)))
+      ap (left disc) (h ∙ λ t. kernel_bytes (with_process (kernel_of area) slot (with_file (with_local own (e t)) (same t).file)))
 
   -- the bytes pushed above what the step keeps
   pushes : pushing own d.kept d.pc d.loopstart (about d) [] ≡ placed (take d.kept (stack_of p) ++ about d) d.pc d.loopstart
@@ -56,78 +56,78 @@ module _ {disc area : List ℕ} {slot : ℕ} {p : Process} {d : Step} (s : Carri
       ∙ ap (λ (l : List ℕ). placed l d.pc d.loopstart) (append-nil (take d.kept (stack_of p) ++ about d))
 
   -- a wait stays in the state that its process has
-  stays : {after : Left} (id : Number) → Bounds (Await id) p d → after ≡ does (asks (awaits id (localOf p) (keeping (stack_of p) d)))
+  stays : {after : Left} (id : Number) → Bounds (Await id) p d → after ≡ does (asks (awaits id (local_of p) (keeping (stack_of p) d)))
       → after ≡ does (effect (Await id))
   stays id b h = h ∙ ap (λ (l : Local). does (asks (awaits id l (keeping (stack_of p) d)))) (sym b)
 
 -- ---- Push and Print
 pub go_on-requires : goal.go_on-requires
 go_on-requires c =
-    let size : length c.args.d.bytes ≡ stackSize = search rules in
+    let size : length c.args.d.bytes ≡ stack_size = search rules in
     may-go-on c.requires.stepping (length (about c.args.d) + 0)
     (omega (arith, about-length c.requires.stepping size, bounds c.requires c.in-Push.is))
 
 pub returns-in-Push : goal.returns-in-Push
-unfolding carriedOut
-returns-in-Push c = done-as c.requires c.in-Push.is (went_on c.requires c.go_on.ensures (pushes c.requires))
+unfolding carried_out
+returns-in-Push c = done-as c.requires c.in-Push.is (went-on c.requires c.go_on.ensures (pushes c.requires))
 
 pub go_on-requires-in-Print : goal.go_on-requires-in-Print
 go_on-requires-in-Print c = may-keep c.requires.stepping
 
 pub returns-in-Print : goal.returns-in-Print
-unfolding carriedOut
-returns-in-Print c = done-as c.requires c.in-Print.is (went_on c.requires c.go_on-in-Print.ensures (own-keeping c.requires.stepping))
+unfolding carried_out
+returns-in-Print c = done-as c.requires c.in-Print.is (went-on c.requires c.go_on-in-Print.ensures (own-keeping c.requires.stepping))
 
 -- ---- SET
 pub set_variable-requires : goal.set_variable-requires
 set_variable-requires c = (c.requires.stepping, bounds c.requires c.in-Assign.is)
 
 pub returns-in-Assign : goal.returns-in-Assign
-unfolding carriedOut
+unfolding carried_out
 returns-in-Assign c = done-as c.requires c.in-Assign.is (c.set_variable.ensures c.args.disc.now)
 
 -- ---- the ends
 pub returns-in-Stop : goal.returns-in-Stop
-unfolding carriedOut
+unfolding carried_out
 returns-in-Stop c = done-as c.requires c.in-Stop.is (ap (left c.args.disc.now) c.finish.ensures)
 
 pub returns-in-Fault : goal.returns-in-Fault
-unfolding carriedOut
+unfolding carried_out
 returns-in-Fault c = done-as c.requires c.in-Fault.is (ap (left c.args.disc.now) c.finish-in-Fault.ensures)
 
 -- ---- what reaches beyond the process
 pub returns-in-Open : goal.returns-in-Open
-unfolding carriedOut
+unfolding carried_out
 returns-in-Open c = done-as c.requires c.in-Open.is c.open_file.ensures
 
 pub go_on-requires-in-Close : goal.go_on-requires-in-Close
 go_on-requires-in-Close c = may-keep c.requires.stepping
 
 pub returns-in-Close : goal.returns-in-Close
-unfolding carriedOut answered
-returns-in-Close c = done-as c.requires c.in-Close.is (went_on c.requires c.go_on-in-Close.ensures (own-keeping c.requires.stepping))
+unfolding carried_out answered
+returns-in-Close c = done-as c.requires c.in-Close.is (went-on c.requires c.go_on-in-Close.ensures (own-keeping c.requires.stepping))
 
 pub returns-in-Write : goal.returns-in-Write
-unfolding carriedOut
+unfolding carried_out
 returns-in-Write c = done-as c.requires c.in-Write.is c.write_file.ensures
 
 pub returns-in-Read : goal.returns-in-Read
-unfolding carriedOut
+unfolding carried_out
 returns-in-Read c = done-as c.requires c.in-Read.is c.read_number.ensures
 
 pub returns-in-ReadString : goal.returns-in-ReadString
-unfolding carriedOut
+unfolding carried_out
 returns-in-ReadString c = done-as c.requires c.in-ReadString.is c.read_string.ensures
 
 pub fork-requires : goal.fork-requires
 fork-requires c = (c.requires.stepping, c.requires.readable, bounds c.requires c.in-Fork.is, c.requires.next)
 
 pub returns-in-Fork : goal.returns-in-Fork
-unfolding carriedOut
+unfolding carried_out
 returns-in-Fork c = done-as c.requires c.in-Fork.is c.fork.ensures
 
 pub returns-in-Await : goal.returns-in-Await
-unfolding carriedOut
+unfolding carried_out
 returns-in-Await c =
     let own = c.in-Await.is in
     done-as c.requires own (stays c.requires c.in-Await.id (bounds c.requires own) (c.wait.ensures c.args.disc.now))

@@ -8,17 +8,17 @@ use lib.ListN.{length}
 use lib.Seq.{length-take-le}
 use Rattle.stack.specs.declared.Action.{Action}
 use Rattle.stack.specs.declared.Action.TheVariants.{Push, Print, Assign, Stop, Fault, Open, Close, Write, Read, ReadString, Fork, Await}
-use Rattle.machine.specs.Limits.{stackSize}
+use Rattle.machine.specs.Limits.{stack_size}
 use Rattle.buffer.specs.Buffer.{overwrite}
 use Rattle.stack.specs.Steps.{about}
-use Rattle.turn.specs.Turns.{printed, printedBy}
+use Rattle.turn.specs.Turns.{printed, printed_by}
 use Rattle.turn.proofs.take.print.Goals as goal
 
 pub returns-in-Print : goal.returns-in-Print
 returns-in-Print c =
     let d = c.args.d in
-    let size : length d.bytes ≡ stackSize = search rules in
-    let text : printedBy d ≡ about d = ap (λ a. printed a (about d)) c.in-Print.is in (
+    let size : length d.bytes ≡ stack_size = search rules in
+    let text : printed_by d ≡ about d = ap (λ a. printed a (about d)) c.in-Print.is in (
       sym (ap length text ∙ length-take-le d.len d.bytes (omega (arith, c.requires.0))),
       c.overwrite_at.ensures ∙ ap (overwrite c.args.out.now 0) (sym text),
     )
@@ -40,5 +40,5 @@ prints-nothing (Await id) bytes h = refl
 pub returns : goal.returns
 returns c =
     let d = c.args.d in
-    let text : printedBy d ≡ [] = prints-nothing d.action (about d) c.in_default.not-Print in
+    let text : printed_by d ≡ [] = prints-nothing d.action (about d) c.in_default.not-Print in
     (sym (ap length text), ap (overwrite c.args.out.now 0) (sym text))

@@ -2,7 +2,7 @@
 use mathlib.Core.Path.{ap, ◌∙◌}
 use mathlib.Core.List.{List}
 use lib.ListN.{get_or}
-use Rattle.machine.specs.State.{isRunning, noProcess}
+use Rattle.machine.specs.State.{is_running, no_process}
 use Rattle.machine.specs.declared.Process.{Process}
 use Rattle.turn.proofs.Passing.{area-size}
 use Rattle.turn.proofs.take.turn_slot.Goals as goal
@@ -12,5 +12,5 @@ processes_of-processes-requires c = area-size c.requires.0
 
 pub take_turn-requires : goal.take_turn-requires
 take_turn-requires c =
-    let copied = ap (λ (l : List Process). get_or l c.args.slot noProcess) c.processes_of-processes.ensures in
-    (c.requires.0, c.requires.1, c.requires.2, copied, ap isRunning copied ∙ c.requires.3)
+    let copied = ap (λ (l : List Process). get_or l c.args.slot no_process) c.processes_of-processes.ensures in
+    (c.requires.0, c.requires.1, c.requires.2, copied, ap is_running copied ∙ c.requires.3)

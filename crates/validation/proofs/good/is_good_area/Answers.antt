@@ -3,9 +3,9 @@ use mathlib.Core.Path.{sym, ap, ◌∙◌}
 use mathlib.Core.List.{List}
 use Prim.Native.Nat.{ℕ}
 use Rattle.buffer.specs.Lists.{keep, pairs}
-use Rattle.variable.specs.Good.{goodVariables}
-use Rattle.variable.specs.Bytes.{variablesOf}
-use Rattle.validation.specs.Columns.{differs, isId}
+use Rattle.variable.specs.Good.{good_variables}
+use Rattle.variable.specs.Bytes.{variables_of}
+use Rattle.validation.specs.Columns.{differs, is_id}
 use Rattle.validation.proofs.Goodness.{bad-header, bad-ids, bad-records, variables-left}
 use Rattle.validation.proofs.good.is_good_area.Goals as goal
 
@@ -30,6 +30,6 @@ returns c =
     let a = c.args in
     let ids = c.are_distinct.ensures ∙ ap (pairs differs) c.live_ids-ids.ensures in
     c.are_good-2.ensures
-    ∙ ap (λ (l : List ℕ). goodVariables (keep isId l) (variablesOf a.area.now)) c.live_ids-ids.ensures
+    ∙ ap (λ (l : List ℕ). good_variables (keep is_id l) (variables_of a.area.now)) c.live_ids-ids.ensures
     ∙ variables-left a.disc.now a.area.now (sym c.are_good.ensures ∙ c.if-not-are_good.false)
     (sym c.is_good_header.ensures ∙ c.if-not-is_good_header.false) (sym ids ∙ c.if-not-are_distinct.false)

@@ -5,10 +5,10 @@ use mathlib.Core.List.{List}
 use native.Mathlib.Omega.{arith}
 use borrow.Author.Rules.{rules}
 use lib.ListN.{get_or, length, take}
-use Rattle.variable.specs.Assign.{added, assigned, entryLimit, highEnd, low_end, newVariable, placeFor, placing, takenRuns, value_of}
-use Rattle.variable.specs.Bytes.{variablesBytes, variablesOf}
+use Rattle.variable.specs.Assign.{added, assigned, entry_limit, high_end, low_end, new_variable, place_for, placing, taken_runs, value_of}
+use Rattle.variable.specs.Bytes.{variables_bytes, variables_of}
 use Rattle.variable.specs.Closing.{Lists, SetLeaves}
-use Rattle.variable.specs.Limits.{maxVariables, memorySize, variablesSize}
+use Rattle.variable.specs.Limits.{max_variables, memory_size, variables_size}
 use Rattle.variable.specs.Table.{Shaped, freed, is_of}
 use Rattle.variable.specs.declared.Placing.{Placing}
 use Rattle.variable.specs.declared.Placing.TheVariants.{Address}
@@ -21,47 +21,47 @@ use Rattle.variable.proofs.Setting.{NotPlaced, set-done, set-refused, set_room}
 use Rattle.variable.proofs.assign.assign.Goals as goal
 
 -- ---- the bytes of the variables and of the value, the runs listed and the place found among them
-module _ (bytes : List ℕ) (size : length bytes ≡ variablesSize) (few : (variablesOf bytes).count ≤ maxVariables)
+module _ (bytes : List ℕ) (size : length bytes ≡ variables_size) (few : (variables_of bytes).count ≤ max_variables)
     (name owner kind : ℕ) (value : List ℕ) {t : Taken} {p : Placing}
-    (listed : Lists t (takenRuns (freed (variablesOf bytes) (is_of name owner))))
-    (found : p ≡ placing (take t.count t.runs) low_end highEnd t.count entryLimit (length value)) where
+    (listed : Lists t (taken_runs (freed (variables_of bytes) (is_of name owner))))
+    (found : p ≡ placing (take t.count t.runs) low_end high_end t.count entry_limit (length value)) where
   -- the variables without the old one
   abbrev rest : Variables
-  rest = freed (variablesOf bytes) (is_of name owner)
+  rest = freed (variables_of bytes) (is_of name owner)
 
-  shaped : Shaped (variablesOf bytes)
+  shaped : Shaped (variables_of bytes)
   shaped = decoded-shaped bytes (omega arith)
 
-  searched : p ≡ placeFor rest (length value)
-  searched = placed-beside (variablesOf bytes) (is_of name owner) listed (length value) few found
+  searched : p ≡ place_for rest (length value)
+  searched = placed-beside (variables_of bytes) (is_of name owner) listed (length value) few found
 
   -- nothing is written
   refused : ((i : ℕ) → get_or bytes i 0 < 256) → {q : Placing} → p ≡ q → NotPlaced q
-      → SetLeaves q bytes (assigned (variablesOf bytes) name owner (value_of kind value))
+      → SetLeaves q bytes (assigned (variables_of bytes) name owner (value_of kind value))
   refused known {q} e none =
-      set-refused (variablesOf bytes) shaped few name owner kind value q none (sym searched ∙ e) (sym (variables-whole bytes known size))
+      set-refused (variables_of bytes) shaped few name owner kind value q none (sym searched ∙ e) (sym (variables-whole bytes known size))
 
   module _ {a : ℕ} (placed : p ≡ Address a) where
     -- the new variable has an entry and lies inside memory
-    room : (rest.count < maxVariables) × (a + length value ≤ memorySize)
-    room = set_room (variablesOf bytes) shaped few name owner kind value a (sym searched ∙ placed)
+    room : (rest.count < max_variables) × (a + length value ≤ memory_size)
+    room = set_room (variables_of bytes) shaped few name owner kind value a (sym searched ∙ placed)
 
     -- once the old one is freed
-    room-freed : {left : List ℕ} → left ≡ variablesBytes rest
-        → ((variablesOf left).count < maxVariables) × (a + length value ≤ memorySize)
+    room-freed : {left : List ℕ} → left ≡ variables_bytes rest
+        → ((variables_of left).count < max_variables) × (a + length value ≤ memory_size)
     room-freed x =
-        let said = variables-said rest (freed-shaped (variablesOf bytes) (is_of name owner) few shaped) x in
+        let said = variables-said rest (freed-shaped (variables_of bytes) (is_of name owner) few shaped) x in
         rw said room
 
-    done : {one two : List ℕ} → one ≡ variablesBytes rest
-        → two ≡ variablesBytes (added (variablesOf one) (newVariable name owner (value_of kind value) a) value)
-        → SetLeaves (Address a) two (assigned (variablesOf bytes) name owner (value_of kind value))
-    done x y = set-done (variablesOf bytes) shaped few name owner kind value a (sym searched ∙ placed) x y
+    done : {one two : List ℕ} → one ≡ variables_bytes rest
+        → two ≡ variables_bytes (added (variables_of one) (new_variable name owner (value_of kind value) a) value)
+        → SetLeaves (Address a) two (assigned (variables_of bytes) name owner (value_of kind value))
+    done x y = set-done (variables_of bytes) shaped few name owner kind value a (sym searched ∙ placed) x y
 
 pub place_for-requires : goal.place_for-requires
 place_for-requires c =
     let a = c.args in
-    (listed-few (variablesOf a.variables.now) (is_of a.name a.owner) c.runs_beside-taken.ensures c.requires.1, omega arith, c.requires.2)
+    (listed-few (variables_of a.variables.now) (is_of a.name a.owner) c.runs_beside-taken.ensures c.requires.1, omega arith, c.requires.2)
 
 pub overflow_cast-e : goal.overflow_cast-e
 overflow_cast-e c =

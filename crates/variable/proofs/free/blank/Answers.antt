@@ -2,7 +2,7 @@
 use mathlib.Core.Path.{◌≡◌, sym, ◌∙◌}
 use native.Mathlib.Omega.{arith}
 use borrow.Author.Rules.{rules}
-use Rattle.variable.specs.Bytes.{variablesOf}
+use Rattle.variable.specs.Bytes.{variables_of}
 use Rattle.variable.proofs.Bytes.{decoded-shaped, variables-whole}
 use Rattle.variable.proofs.Closing.{blanked-next, blanked-none}
 use Rattle.variable.proofs.free.blank.Goals as goal
@@ -13,7 +13,7 @@ loop-i-init c =
       c.requires.0,
       omega arith,
       omega arith,
-      sym (blanked-none (variablesOf bytes) c.args.from
+      sym (blanked-none (variables_of bytes) c.args.from
           ∙ variables-whole bytes (λ i. search rules) c.requires.0),
     )
 
@@ -26,7 +26,7 @@ loop-i-preserved c =
       omega arith,
       omega arith,
       omega arith,
-      blanked-next (variablesOf bytes) (decoded-shaped bytes (omega arith)) c.args.from c.loop-i.i (omega arith) (omega arith)
+      blanked-next (variables_of bytes) (decoded-shaped bytes (omega arith)) c.args.from c.loop-i.i (omega arith) (omega arith)
           c.loop-i.invariant.3 c.no_variable.ensures c.put_entry.ensures,
     )
 

@@ -3,8 +3,8 @@ use mathlib.Core.Path.{◌≡◌, sym, ap, ◌∙◌}
 use mathlib.Core.Bool.{not}
 use native.Mathlib.Omega.{arith}
 use borrow.Author.Rules.{rules}
-use Rattle.variable.specs.Bytes.{variablesOf}
-use Rattle.variable.specs.Table.{isGone}
+use Rattle.variable.specs.Bytes.{variables_of}
+use Rattle.variable.specs.Table.{is_gone}
 use Rattle.variable.proofs.Bytes.{decoded-shaped, variables-whole}
 use Rattle.variable.proofs.Closing.{closed-gone, closed-kept, closed-moved, closed_none}
 use Rattle.variable.proofs.free.close_up.Goals as goal
@@ -16,7 +16,7 @@ loop-i-init c =
       c.requires.0,
       omega arith,
       omega arith,
-      closed_none (variablesOf bytes) (decoded-shaped bytes (omega arith)) (isGone a.every a.name a.owner)
+      closed_none (variables_of bytes) (decoded-shaped bytes (omega arith)) (is_gone a.every a.name a.owner)
           (variables-whole bytes (λ i. search rules) c.requires.0),
     )
 
@@ -34,7 +34,7 @@ loop-i-preserved-then-kept-i c =
       omega arith,
       omega arith,
       omega arith,
-      closed-moved (variablesOf bytes) (decoded-shaped bytes (omega arith)) (isGone a.every a.name a.owner) c.loop-i.invariant.3
+      closed-moved (variables_of bytes) (decoded-shaped bytes (omega arith)) (is_gone a.every a.name a.owner) c.loop-i.invariant.3
           (omega arith) c.entry_at-e.ensures (ap not (sym c.is_gone.ensures ∙ c.if-not-is_gone.true))
           c.put_entry.ensures,
     )
@@ -47,7 +47,7 @@ loop-i-preserved-else-kept-i c =
       omega arith,
       omega arith,
       omega arith,
-      closed-kept (variablesOf bytes) (decoded-shaped bytes (omega arith)) (isGone a.every a.name a.owner) c.loop-i.invariant.3
+      closed-kept (variables_of bytes) (decoded-shaped bytes (omega arith)) (is_gone a.every a.name a.owner) c.loop-i.invariant.3
           (omega arith) c.entry_at-e.ensures (ap not (sym c.is_gone.ensures ∙ c.if-not-is_gone.true))
           (omega arith),
     )
@@ -60,7 +60,7 @@ loop-i-preserved c =
       omega arith,
       omega arith,
       omega arith,
-      closed-gone (variablesOf bytes) (decoded-shaped bytes (omega arith)) (isGone a.every a.name a.owner) c.loop-i.invariant.3
+      closed-gone (variables_of bytes) (decoded-shaped bytes (omega arith)) (is_gone a.every a.name a.owner) c.loop-i.invariant.3
           (omega arith) c.entry_at-e.ensures (ap not (sym c.is_gone.ensures ∙ c.if-not-is_gone.false)),
     )
 

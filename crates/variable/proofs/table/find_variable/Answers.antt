@@ -3,8 +3,8 @@ use mathlib.Core.Path.{sym}
 use borrow.Author.Count.{below_more}
 use lib.ListN.{get_or}
 use Rattle.buffer.proofs.Tables.{index-tab-is, index-tab-miss}
-use Rattle.variable.specs.Bytes.{variablesOf}
-use Rattle.variable.specs.Table.{find, is_of, noVariable}
+use Rattle.variable.specs.Bytes.{variables_of}
+use Rattle.variable.specs.Table.{find, is_of, no_variable}
 use Rattle.variable.proofs.Bytes.{decoded-shaped}
 use Rattle.variable.proofs.Views.{take-tab}
 use native.Mathlib.Omega.{arith}
@@ -17,10 +17,10 @@ pub returns-then-is_of : goal.returns-then-is_of
 unfolding find
 returns-then-is_of c =
     let a = c.args in
-    let v = variablesOf a.variables.now in
+    let v = variables_of a.variables.now in
     let n = (decoded-shaped a.variables.now (omega arith)).entries in
-    rw (take-tab v.entries noVariable v.count (omega (arith, c.requires.1)))
-    (sym (index-tab-is (λ k. get_or v.entries k noVariable) v.count (is_of a.name a.owner) c.loop-i.i (omega arith)
+    rw (take-tab v.entries no_variable v.count (omega (arith, c.requires.1)))
+    (sym (index-tab-is (λ k. get_or v.entries k no_variable) v.count (is_of a.name a.owner) c.loop-i.i (omega arith)
     (cc) c.loop-i.invariant.1))
 
 pub loop-i-preserved : goal.loop-i-preserved
@@ -30,8 +30,8 @@ pub returns : goal.returns
 unfolding find
 returns c =
     let a = c.args in
-    let v = variablesOf a.variables.now in
+    let v = variables_of a.variables.now in
     let n = (decoded-shaped a.variables.now (omega arith)).entries in
-    rw (take-tab v.entries noVariable v.count (omega (arith, c.requires.1)))
-    (sym (index-tab-miss (λ k. get_or v.entries k noVariable) v.count (is_of a.name a.owner)
+    rw (take-tab v.entries no_variable v.count (omega (arith, c.requires.1)))
+    (sym (index-tab-miss (λ k. get_or v.entries k no_variable) v.count (is_of a.name a.owner)
     (λ k h. c.loop-i.invariant.1 k (omega arith))))

@@ -4,11 +4,11 @@ use Rattle.validation.specs.Columns.{places}
 use Rattle.area.proofs.Tables.{Filled}
 use Rattle.validation.proofs.good.columns.no_names.Given as goal
 
-abbrev pub noName : ℕ → ℕ
-noName i = 256 + i
+abbrev pub no_name : ℕ → ℕ
+no_name i = 256 + i
 
 abbrev pub invariant-loop-i : goal.invariant-loop-i
-invariant-loop-i l = Filled noName places l.names l.i
+invariant-loop-i l = Filled no_name places l.names l.i
 
 abbrev pub decreases-loop-i : goal.decreases-loop-i
 decreases-loop-i l = places - l.i

@@ -5,8 +5,8 @@ use native.Mathlib.Omega.{arith}
 use lib.ListN.{replicate}
 use Rattle.buffer.specs.Buffer.{overwrite}
 use Rattle.buffer.specs.Lists.{tab}
-use Rattle.disc.specs.Layout.{maxFiles}
-use Rattle.validation.specs.Columns.{fileRuns}
+use Rattle.disc.specs.Layout.{max_files}
+use Rattle.validation.specs.Columns.{file_runs}
 use Rattle.validation.proofs.Columns.{column-filled, column-next, column-none}
 use Rattle.validation.proofs.good.records.file_runs.Invariants.{run}
 use Rattle.validation.proofs.good.records.file_runs.Goals as goal
@@ -17,11 +17,11 @@ loop-i-init c = column-none _ _ _
 pub loop-i-preserved : goal.loop-i-preserved
 loop-i-preserved c =
     let p = c.requires in
-    let few : c.file_count-count.result ≤ maxFiles = omega (arith, c.file_count-count.ensures, p.few) in
+    let few : c.file_count-count.result ≤ max_files = omega (arith, c.file_count-count.ensures, p.few) in
     column-next _ _ _ c.loop-i.invariant few (omega arith) c.four_at-run.ensures
 
 pub returns : goal.returns
-unfolding fileRuns
+unfolding file_runs
 returns c =
     column-filled _ _ _ c.loop-i.invariant (omega arith)
-    ∙ ap (λ (k : ℕ). overwrite (replicate maxFiles 0) 0 (tab (run c.args.disc.now) k)) c.file_count-count.ensures
+    ∙ ap (λ (k : ℕ). overwrite (replicate max_files 0) 0 (tab (run c.args.disc.now) k)) c.file_count-count.ensures

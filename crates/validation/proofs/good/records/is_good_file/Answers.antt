@@ -5,18 +5,18 @@ use native.Mathlib.Omega.{arith}
 use borrow.Author.Tests.{eq-eqb, le-leb, lt-leb, ne_eqb}
 use lib.Dec.{eqb}
 use Rattle.buffer.specs.Buffer.{word_at}
-use Rattle.machine.specs.GoodArea.{goodFile}
+use Rattle.machine.specs.GoodArea.{good_file}
 use Rattle.validation.specs.Columns.{FileOf}
 use Rattle.validation.proofs.Files.{open-listed}
 use Rattle.validation.proofs.good.records.is_good_file.Goals as goal
 
 pub returns-then-len-eq0 : goal.returns-then-len-eq0
-unfolding goodFile
+unfolding good_file
 returns-then-len-eq0 c =
     rw (eq-eqb _ _ (sym c.word_at-len.ensures ∙ c.if-len-eq0.true)) (ap (λ (n : ℕ). eqb n 0) c.word_at-offset.ensures)
 
 pub returns-then-len-offset : goal.returns-then-len-offset
-unfolding goodFile
+unfolding good_file
 returns-then-len-offset c =
     let some : word_at c.args.bytes.now 26 ≡ 0 → ⊥ = λ z. c.if-len-eq0.false (c.word_at-len.ensures ∙ z) in
     rw (
@@ -25,7 +25,7 @@ returns-then-len-offset c =
     )
 
 pub returns : goal.returns
-unfolding goodFile
+unfolding good_file
 returns c =
     let a = c.args in
     let some : word_at a.bytes.now 26 ≡ 0 → ⊥ = λ z. c.if-len-eq0.false (c.word_at-len.ensures ∙ z) in

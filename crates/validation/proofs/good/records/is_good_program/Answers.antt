@@ -5,26 +5,26 @@ use mathlib.Core.Bool.{Bool}
 use mathlib.Core.List.{List}
 use native.Mathlib.Omega.{arith}
 use lib.ListN.{take}
-use Rattle.buffer.specs.Buffer.{fourAt}
+use Rattle.buffer.specs.Buffer.{four_at}
 use Rattle.buffer.specs.Lists.{same}
 use Rattle.buffer.proofs.Fours.{Bytes}
-use Rattle.disc.specs.Layout.{nameSize}
+use Rattle.disc.specs.Layout.{name_size}
 use Rattle.disc.specs.declared.Entry.{Entry}
 use Rattle.disc.proofs.InPlace.{name-in-place}
-use Rattle.machine.specs.GoodArea.{isProgram}
+use Rattle.machine.specs.GoodArea.{is_program}
 use Rattle.validation.specs.Columns.{FileOf}
 use Rattle.validation.proofs.Files.{empty-any, found-any, missed-any}
 use Rattle.validation.proofs.good.records.is_good_program.Goals as goal
 
 -- the name in the record against an entry's
 abbrev named : List ℕ → Entry → Bool
-named bytes e = same (take nameSize bytes) e.name
+named bytes e = same (take name_size bytes) e.name
 
-sought : (runs bytes : List ℕ) {run file : ℕ} → run ≡ fourAt bytes 16 → FileOf runs run file → FileOf runs (fourAt bytes 16) file
+sought : (runs bytes : List ℕ) {run file : ℕ} → run ≡ four_at bytes 16 → FileOf runs run file → FileOf runs (four_at bytes 16) file
 sought runs bytes {run} {file} e s = subst (λ (n : ℕ). FileOf runs n file) e s
 
 pub returns-then-run-eq0 : goal.returns-then-run-eq0
-unfolding isProgram
+unfolding is_program
 returns-then-run-eq0 c =
     let a = c.args in
     let known : Bytes a.disc.now = λ n. omega (arith, c.type_inv.disc n) in
@@ -32,7 +32,7 @@ returns-then-run-eq0 c =
     (named a.bytes.now) (sym c.four_at-run.ensures ∙ c.if-run-eq0.true))
 
 pub returns-then-file-ge-MAX_FILES : goal.returns-then-file-ge-MAX_FILES
-unfolding isProgram
+unfolding is_program
 returns-then-file-ge-MAX_FILES c =
     let a = c.args in
     let known : Bytes a.disc.now = λ n. omega (arith, c.type_inv.disc n) in
@@ -41,12 +41,12 @@ returns-then-file-ge-MAX_FILES c =
     (named a.bytes.now) c.if-file-ge-MAX_FILES.true)
 
 pub returns : goal.returns
-unfolding isProgram
+unfolding is_program
 returns c =
     let a = c.args in
     let known : Bytes a.disc.now = λ n. omega (arith, c.type_inv.disc n) in
     c.same_name.ensures
-    ∙ ap (same (take nameSize a.bytes.now)) (name-in-place a.disc.now c.file_of-file.result)
+    ∙ ap (same (take name_size a.bytes.now)) (name-in-place a.disc.now c.file_of-file.result)
     ∙ found-any a.disc.now a.runs.now c.requires.0 known a.bytes.now (λ n. omega (arith, c.type_inv.bytes n)) 16
     c.file_of-file.result (sought a.runs.now a.bytes.now c.four_at-run.ensures c.file_of-file.ensures) (named a.bytes.now)
     (λ z. c.if-run-eq0.false (c.four_at-run.ensures ∙ z)) c.if-file-ge-MAX_FILES.false

@@ -7,18 +7,18 @@ use native.Mathlib.Omega.{arith}
 use Rattle.buffer.specs.Buffer.{overwrite}
 use Rattle.buffer.specs.Lists.{any, tab}
 use Rattle.buffer.proofs.Fours.{Bytes}
-use Rattle.variable.specs.Limits.{maxVariables}
+use Rattle.variable.specs.Limits.{max_variables}
 use Rattle.validation.specs.Columns.{bytes_of, clash, places, reach}
-use Rattle.validation.proofs.Clashes.{clash-in-columns, clash-next, clash-none, clash-stops, clashBy, reach-enough}
-use Rattle.validation.proofs.Clashes.{endColumn, ownerColumn, startColumn}
+use Rattle.validation.proofs.Clashes.{clash-in-columns, clash-next, clash-none, clash-stops, clash_by, reach-enough}
+use Rattle.validation.proofs.Clashes.{end_column, owner_column, start_column}
 use Rattle.validation.proofs.good.variables.are_beside.Goals as goal
 
 -- what the test of a turn says of the variables
-module _ (area : List ℕ) (bytes : Bytes area) (count d : ℕ) (few : count ≤ maxVariables) (low : 1 ≤ d) (inside : d < count) where
-  tested : (starts ends none names owners : List ℕ) {hit : Bool} → starts ≡ startColumn area count → ends ≡ endColumn area count
-      → none ≡ tab (λ i. 256 + i) places → names ≡ overwrite none 0 (bytes_of area 0 count) → owners ≡ ownerColumn area count
+module _ (area : List ℕ) (bytes : Bytes area) (count d : ℕ) (few : count ≤ max_variables) (low : 1 ≤ d) (inside : d < count) where
+  tested : (starts ends none names owners : List ℕ) {hit : Bool} → starts ≡ start_column area count → ends ≡ end_column area count
+      → none ≡ tab (λ i. 256 + i) places → names ≡ overwrite none 0 (bytes_of area 0 count) → owners ≡ owner_column area count
       → hit ≡ any (λ i. clash starts ends names owners i (i + d)) (tab (λ i. i) (reach (count - d)))
-      → hit ≡ clashBy area count d
+      → hit ≡ clash_by area count d
   tested starts ends none names owners s e n m o h =
       let named = m ∙ ap (λ (l : List ℕ). overwrite l 0 (bytes_of area 0 count)) n in
       h ∙ clash-in-columns area count starts ends names owners s e named o d (reach (count - d))

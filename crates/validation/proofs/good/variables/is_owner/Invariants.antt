@@ -4,11 +4,11 @@ use mathlib.Core.Path.{◌≡◌}
 use lib.Dec.{eqb}
 use lib.ListN.{take}
 use Rattle.buffer.specs.Lists.{any}
-use Rattle.machine.specs.Limits.{slotCount}
+use Rattle.machine.specs.Limits.{slot_count}
 use Rattle.validation.proofs.good.variables.is_owner.Given as goal
 
 abbrev pub invariant-loop-i : goal.invariant-loop-i
-invariant-loop-i l = (l.i ≤ slotCount) × (l.hit ≡ any (eqb l.id) (take l.i l.ids))
+invariant-loop-i l = (l.i ≤ slot_count) × (l.hit ≡ any (eqb l.id) (take l.i l.ids))
 
 abbrev pub decreases-loop-i : goal.decreases-loop-i
-decreases-loop-i l = slotCount - l.i
+decreases-loop-i l = slot_count - l.i
