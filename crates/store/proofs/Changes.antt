@@ -135,12 +135,12 @@ module _ {disc : List ℕ} {i : ℕ} (file : Present disc i) where
   erased-count = erasing.new-count
 
   pub erased-data : (j : ℕ) → data_start ≤ j → get_or (erased disc i) j 0 ≡ get_or disc j 0
-  erased-data j h = erasing.same_bytes j (inr (omega (arith, moved_length, file.few))) (λ e. omega arith)
+  erased-data j h = erasing.same-bytes j (inr (omega (arith, moved_length, file.few))) (λ e. omega arith)
 
   -- every byte but the count and those from the erased entry to the last is as it was
   pub erased-byte : (j : ℕ) → (j < i * entry_size) ⊎ (file_count disc * entry_size ≤ j) → (j ≡ count_at → ⊥)
       → get_or (erased disc i) j 0 ≡ get_or disc j 0
-  erased-byte j o k = erasing.same_bytes j (rw moved_length o) k
+  erased-byte j o k = erasing.same-bytes j (rw moved_length o) k
 
   -- a part of what moved up
   moved : (at n : ℕ) → at + n ≤ (file_count disc - i) * entry_size
