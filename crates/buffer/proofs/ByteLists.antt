@@ -1,11 +1,10 @@
 -- Lists of bytes, and which lists made from them are bytes.
-use Prim.Native.Nat.{ℕ, suc, ◌+◌, ◌<◌}
+use Prim.Native.Nat.{ℕ, ◌+◌, ◌<◌}
 use mathlib.Core.List.{List, [], ◌∷◌, ◌++◌}
 use native.Mathlib.Omega.{arith}
 use lib.ListN.{drop, get_or, length, replicate, set, take}
 use Rattle.buffer.specs.Buffer.{overwrite, part, word_at, word_bytes}
-use Rattle.buffer.specs.Scattered.{gathered, scattered}
-use Rattle.buffer.proofs.Each.{Each, at_each, each_append, each_at, each-drop, each-replicate, each_set, each-tab, each_take}
+use Rattle.buffer.proofs.Each.{Each, at_each, each_append, each_at, each-drop, each-replicate, each_set, each_take}
 
 abbrev pub IsByte : ℕ → Type 0
 IsByte b = b < 256
@@ -55,16 +54,6 @@ byte_at l i h = are-bytes l h i
 
 pub set-bytes : (l : List ℕ) (i b : ℕ) → Bytes l → IsByte b → Bytes (set l i b)
 set-bytes = each_set IsByte
-
--- at places that a function gives
-pub gathered-bytes : (at : ℕ → ℕ) (l : List ℕ) (n : ℕ) → Bytes l → Bytes (gathered at l n)
-unfolding gathered
-gathered-bytes at l n h = each-tab IsByte (λ i. get_or l (at i) 0) n (λ i. byte_at l (at i) h)
-
-pub scattered-bytes : (at : ℕ → ℕ) (i : ℕ) (l xs : List ℕ) → Bytes l → Bytes xs → Bytes (scattered at i l xs)
-unfolding Each scattered
-scattered-bytes at i l [] h k = h
-scattered-bytes at i l (x ∷ xs) h k = scattered-bytes at (suc i) (set l (at i) x) xs (set-bytes l (at i) x h k.0) k.1
 
 -- ---- two-byte fields
 pub word-at : (l : List ℕ) (i : ℕ) → Bytes l → IsWord (word_at l i)

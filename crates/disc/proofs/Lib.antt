@@ -2,6 +2,7 @@
 pub mod Entries
 pub mod Fields
 pub mod Goodness
+pub mod InARow
 pub mod InPlace
 pub mod Lengths
 pub mod Locations

@@ -1,13 +1,14 @@
 -- Where the bytes of a file lie: on the disc, behind the directory, each at a place of its own and no two files at one.
 -- Where that is, is read here and in the proofs of the code that reads and writes them, nowhere else.
 use Prim.Native.Nat.{ℕ, ◌+◌, ◌≤◌, ◌<◌}
-use mathlib.Core.Path.{◌≡◌, refl, subst⁻¹}
+use mathlib.Core.Path.{◌≡◌, refl, subst⁻¹, sym}
 use mathlib.Core.Bool.{true}
 use mathlib.Core.List.{List}
 use mathlib.Core.Logic.{⊎_elim}
 use native.Mathlib.Omega.{arith}
 use lib.ListN.{length}
 use Rattle.buffer.specs.Buffer.{part}
+use Rattle.buffer.specs.Scattered.{gathered}
 use Rattle.buffer.proofs.Scattered.{Distinct, gathered-part}
 use Rattle.place.specs.declared.Run.{Run}
 use Rattle.place.proofs.Place.{apart-is}
@@ -18,6 +19,16 @@ use Rattle.disc.proofs.Goodness.{beside_at, good-entry-at}
 -- a file of a good disc
 pub file-held : (disc : List ℕ) → good_disc disc ≡ true → (i : ℕ) → i < file_count disc → Held disc (run_of (entry_at disc i))
 file-held disc good i h = record { sound = good; file = record { place = i; inside = h; run_is = refl } }
+
+-- ---- what a run within the disc holds: the bytes at its places, which lie one behind the other
+pub contents-gathered : (disc : List ℕ) (run : Run) → run.start + run.len ≤ length disc
+    → contents disc run ≡ gathered (location disc run) disc run.len
+unfolding contents location
+contents-gathered disc run h = sym (gathered-part disc run.start run.len h)
+
+pub contents-part : (disc : List ℕ) (run : Run) → contents disc run ≡ part disc run.start run.len
+unfolding contents
+contents-part disc run = refl
 
 -- ---- the bytes of one file
 -- between the directory and the disc's end
@@ -41,13 +52,8 @@ module _ {disc : List ℕ} {run : Run} (h : Held disc run) where
   unfolding location
   held-data i k = omega (arith, (between h).low)
 
-  -- one behind the other: the part of the disc that its start and length say
   pub held-inside : run.start + run.len ≤ length disc
   held-inside = (between h).high
-
-  pub contents-part : contents disc run ≡ part disc run.start run.len
-  unfolding contents location
-  contents-part = gathered-part disc run.start run.len held-inside
 
 -- ---- two files share no byte
 pub files-apart : (disc : List ℕ) → good_disc disc ≡ true → (i j : ℕ) → i < file_count disc → j < file_count disc → (i ≡ j → ⊥)

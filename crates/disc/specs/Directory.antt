@@ -3,7 +3,6 @@ use Rattle.std.specs.Prelude.{ℕ, ◌+◌, ◌*◌, ◌≤◌, ◌<◌, ◌≡�
 use Rattle.std.specs.Prelude.{leb, length, get_or, take}
 use Rattle.buffer.specs.Buffer.{part, word_at, word_bytes}
 use Rattle.buffer.specs.Lists.{all, index, pairs, same, tab}
-use Rattle.buffer.specs.Scattered.{gathered}
 use Rattle.buffer.specs.declared.Found.{Found}
 use Rattle.buffer.specs.declared.Found.TheVariants.{Nowhere}
 use Rattle.place.specs.Place.{apart}
@@ -51,12 +50,12 @@ abbrev pub taken : List ℕ → List Run
 taken disc = map run_of (files disc)
 
 -- ---- what a file holds
+unfoldable pub contents : List ℕ → Run → List ℕ
+contents disc run = part disc run.start run.len
+
 -- where the byte at an offset of a file lies
 unfoldable pub location : List ℕ → Run → ℕ → ℕ
 location disc run i = run.start + i
-
-unfoldable pub contents : List ℕ → Run → List ℕ
-contents disc run = gathered (location disc run) disc run.len
 
 -- ---- lookup
 abbrev pub named : List ℕ → Entry → Bool

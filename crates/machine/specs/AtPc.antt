@@ -5,7 +5,6 @@ use Rattle.machine.specs.Area.{kernel_of}
 use Rattle.machine.specs.Limits.{stack_size}
 use Rattle.machine.specs.Refusals.{MayTurn, state_of}
 use Rattle.machine.specs.State.{process_at, running}
-use Rattle.machine.specs.Turn.{program_of}
 use Rattle.machine.specs.declared.Kernel.{Kernel}
 use Rattle.machine.specs.declared.OpenFile.{OpenFile}
 use Rattle.machine.specs.declared.Process.{Process}
@@ -30,7 +29,7 @@ stack_in b slot = take (process_in b slot).sp (process_in b slot).stack
 
 -- the program's byte that far behind PC
 abbrev pub byte_ahead : Buffers → ℕ → ℕ → ℕ
-byte_ahead b slot n = get_or (program_of b.disc (process_in b slot)) ((process_in b slot).pc + n) 0
+byte_ahead b slot n = get_or b.disc ((process_in b slot).code.start + ((process_in b slot).pc + n)) 0
 
 -- nothing refuses the turn, and that byte is at PC
 pub record AtPc (b : Buffers) (slot byte : ℕ) : Type 0 where

@@ -1,5 +1,5 @@
 -- What disc and process table answer to an instruction that reaches beyond its process.
-use Rattle.std.specs.Prelude.{ℕ, ◌+◌, ◌/◌, ◌%◌, Bool, true, false, cond, ◌&&◌, List, [], ◌∷◌, ◌++◌, eqb, leb, pos}
+use Rattle.std.specs.Prelude.{ℕ, ◌+◌, ◌-◌, ◌/◌, ◌%◌, Bool, true, false, cond, ◌&&◌, List, [], ◌∷◌, ◌++◌, eqb, leb, pos}
 use Rattle.std.specs.Prelude.{length, drop}
 use Rattle.buffer.specs.Buffer.{zeros}
 use Rattle.buffer.specs.Lists.{any}
@@ -11,8 +11,9 @@ use Rattle.number.specs.Compare.{equals, size_within}
 use Rattle.number.specs.declared.Number.{Number}
 use Rattle.place.specs.declared.Run.{Run}
 use Rattle.disc.specs.Directory.{contents, entry_at, lookup}
+use Rattle.disc.specs.Layout.{data_start}
 use Rattle.disc.specs.Name.{trimmed}
-use Rattle.store.specs.File.{admission, read_at, size_limit, stored, written_at}
+use Rattle.store.specs.File.{admission, read_at, stored, written_at}
 use Rattle.store.specs.declared.Admission.{Admission}
 use Rattle.store.specs.declared.Admission.TheVariants.{Start, Denied}
 use Rattle.machine.specs.Effect.{Request, opens, closes, writes, reads, reads_string, forks, awaits}
@@ -49,9 +50,9 @@ pushed l stack = record { stack = stack; pc = l.pc; loopstart = l.loopstart }
 abbrev pub push_id : Local → ℕ → Local
 push_id l id = pushed l (push l.stack 2 (id / 256 ∷ id % 256 ∷ []))
 
--- the size that OPEN's new file may have
+-- the size that OPEN's new file may have: what fits between the data's start and the disc's end, 863 or 3,935
 abbrev pub new_file_size : List ℕ → Number → Size
-new_file_size disc size = size_within (size_limit disc) size
+new_file_size disc size = size_within (length disc - data_start) size
 
 module _ (k : Kernel) (slot : ℕ) (disc : List ℕ) where
   abbrev pub own_file : OpenFile

@@ -2,41 +2,40 @@
 -- set.
 use Rattle.std.specs.Prelude.{ℕ, ◌+◌, ◌≤◌, ◌<◌, ◌≡◌, true, List, [], ◌∷◌, ◌++◌, map, ◌⊎◌, length, get_or, replicate}
 use Rattle.buffer.specs.Buffer.{overwrite, part}
-use Rattle.place.specs.Place.{fits, run_from}
+use Rattle.place.specs.Place.{fits}
 use Rattle.place.specs.ShortestFit.{ShortestFit}
-use Rattle.disc.specs.Directory.{contents, file_count, location}
 use Rattle.disc.specs.Layout.{count_at, entry_size, name_size}
 use Rattle.disc.specs.Offsets.{entry_start, size_of, start_of}
 use Rattle.variable.specs.Limits.{memory_size}
 use Rattle.variable.specs.Table.{counted, run_of}
 use Rattle.variable.specs.declared.Variables.{Variables}
-use Rattle.machine.specs.Fields.{Ended, Lowest, Named, NoFile, Spells, next_id}
+use Rattle.machine.specs.Fields.{Ended, Lowest, Named, NoFile, Spells, files_on, next_id}
 use Rattle.machine.specs.Limits.{id_limit, stack_size}
 use Rattle.machine.specs.State.{no_loop, process_at, running}
 use Rattle.machine.specs.Suppositions.{others_than}
 use Rattle.machine.specs.declared.Kernel.{Kernel}
 
--- a file of these bytes enters last, under that start; every byte but its entry, the count and its own stays
+-- a file of these bytes enters last, from start on; every other byte stays
 pub record Enters (before after name bytes : List ℕ) (start : ℕ) : Type 0 where
-  pub count : file_count after ≡ file_count before + 1
-  pub spelled : Spells after (entry_start (file_count before)) name
-  pub starts : start_of after (file_count before) ≡ start
-  pub sized : size_of after (file_count before) ≡ length bytes
-  pub holds : contents after (run_from start (length bytes)) ≡ bytes
+  pub count : files_on after ≡ files_on before + 1
+  pub spelled : Spells after (entry_start (files_on before)) name
+  pub starts : start_of after (files_on before) ≡ start
+  pub sized : size_of after (files_on before) ≡ length bytes
+  pub holds : part after start (length bytes) ≡ bytes
   pub rest : (j : ℕ) → (j ≡ count_at → ⊥)
-      → (j < entry_start (file_count before)) ⊎ (entry_start (file_count before) + entry_size ≤ j)
-      → ((i : ℕ) → i < length bytes → j ≡ location after (run_from start (length bytes)) i → ⊥)
+      → (j < entry_start (files_on before)) ⊎ (entry_start (files_on before) + entry_size ≤ j)
+      → (j < start) ⊎ (start + length bytes ≤ j)
       → get_or after j 0 ≡ get_or before j 0
 
 -- Document 01: "Later entries move up, the vacated entry becomes zero, data bytes remain."
 pub record Leaves (before after : List ℕ) (i : ℕ) : Type 0 where
-  pub count : file_count after + 1 ≡ file_count before
+  pub count : files_on after + 1 ≡ files_on before
   pub earlier : (j : ℕ) → j < entry_start i → get_or after j 0 ≡ get_or before j 0
-  pub later : (j : ℕ) → entry_start i ≤ j → j < entry_start (file_count after) → get_or after j 0
+  pub later : (j : ℕ) → entry_start i ≤ j → j < entry_start (files_on after) → get_or after j 0
       ≡ get_or before (j + entry_size) 0
-  pub vacated : (j : ℕ) → entry_start (file_count after) ≤ j → j < entry_start (file_count before)
+  pub vacated : (j : ℕ) → entry_start (files_on after) ≤ j → j < entry_start (files_on before)
       → get_or after j 0 ≡ 0
-  pub rest : (j : ℕ) → entry_start (file_count before) ≤ j → (j ≡ count_at → ⊥) → get_or after j 0 ≡ get_or before j 0
+  pub rest : (j : ℕ) → entry_start (files_on before) ≤ j → (j ≡ count_at → ⊥) → get_or after j 0 ≡ get_or before j 0
 
 -- Document 01, run: "Takes the lowest ended slot: state 'r', no loop, name, ID and code filled in, all else of the
 -- record zero."

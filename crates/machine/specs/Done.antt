@@ -1,9 +1,10 @@
 -- What every done call answers and leaves, but for turns, which Reaching and Isolation speak of, and rounds, which are
 -- turns.
 use Rattle.std.specs.Prelude.{ℕ, ◌<◌, ◌≡◌, List, pos, length, get_or}
-use Rattle.buffer.specs.Buffer.{overwrite}
-use Rattle.store.specs.Room.{HasRoom, NoRoom, Placed}
-use Rattle.disc.specs.Offsets.{bytes_of, size_of}
+use Rattle.buffer.specs.Buffer.{overwrite, part}
+use Rattle.place.specs.ShortestFit.{ShortestFit}
+use Rattle.store.specs.Room.{Free}
+use Rattle.disc.specs.Offsets.{size_of, start_of}
 use Rattle.machine.specs.Answer.{Answer, Buffers, command, share, run, other, store, retrieve, erase, files}
 use Rattle.machine.specs.Answer.{free_space, list, answer, boot_answer, format_answer}
 use Rattle.machine.specs.Area.{kernel_of}
@@ -23,7 +24,7 @@ StoreDone =
     (b : Buffers) (name bytes : List ℕ) (n : ℕ) → let a = answer (other (store name bytes)) b in
     a.number ≡ pos n
     → (n ≡ 0)
-    × ((start : ℕ) × Placed b.disc (length bytes) start × Enters b.disc a.disc name bytes start)
+    × ((start : ℕ) × ShortestFit (Free b.disc) (length bytes) start × Enters b.disc a.disc name bytes start)
 
 -- "Returns the length, its bytes written."
 abbrev pub RetrieveDone : Type 0
@@ -31,7 +32,7 @@ RetrieveDone =
     (b : Buffers) (name : List ℕ) (n : ℕ) → let a = answer (other (retrieve name)) b in
     a.number ≡ pos n
     → (i : ℕ) × Named b.disc name i × (n ≡ size_of b.disc i)
-    × (a.out ≡ overwrite b.out 0 (bytes_of b.disc i))
+    × (a.out ≡ overwrite b.out 0 (part b.disc (start_of b.disc i) n))
 
 abbrev pub EraseDone : Type 0
 EraseDone =
@@ -45,11 +46,11 @@ Lists text b a = (n : ℕ) → a.number ≡ pos n → (n ≡ length text) × (a.
 abbrev pub FilesDone : Type 0
 FilesDone = (b : Buffers) → Lists (files_text b.disc) b (answer (other files) b)
 
--- a file that long has room, no longer one has
+-- a run that long is free, no longer one is
 abbrev pub FreeSpaceDone : Type 0
 FreeSpaceDone =
     (b : Buffers) (n : ℕ) → (answer (other free_space) b).number ≡ pos n
-    → (0 < n → HasRoom b.disc n) × ((m : ℕ) → n < m → NoRoom b.disc m)
+    → (0 < n → (start : ℕ) × Free b.disc n start) × ((m start : ℕ) → n < m → Free b.disc m start → ⊥)
 
 -- ---- processes
 -- "Returns the ID."

@@ -26,10 +26,13 @@ pub record IsName (name : List ℕ) : Type 0 where
 abbrev pub Spells : List ℕ → ℕ → List ℕ → Type 0
 Spells buffer at name = (j : ℕ) → j < name_size → get_or buffer (at + j) 0 ≡ get_or name j 0
 
--- ---- files
+-- ---- the disc
+abbrev pub files_on : List ℕ → ℕ
+files_on disc = file_count disc
+
 -- file i has that name
 pub record Named (disc name : List ℕ) (i : ℕ) : Type 0 where
-  pub counted : i < file_count disc
+  pub counted : i < files_on disc
   pub good : IsName name
   pub spelled : Spells disc (entry_start i) name
 
@@ -81,7 +84,7 @@ abbrev pub file_text : List ℕ → ℕ → List ℕ
 file_text disc i = trimmed (part disc (entry_start i) name_size) ++ (32 ∷ []) ++ decimal (size_of disc i) ++ (10 ∷ [])
 
 abbrev pub files_text : List ℕ → List ℕ
-files_text disc = flat (file_text disc) (tab (λ i. i) (file_count disc))
+files_text disc = flat (file_text disc) (tab (λ i. i) (files_on disc))
 
 -- "ID, space, 'r' or 'p', space, name, newline per live process in slot order"
 abbrev pub process_text : List ℕ → ℕ → List ℕ

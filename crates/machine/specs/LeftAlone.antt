@@ -1,6 +1,7 @@
 -- What a call leaves alone, done or refused.
 use Rattle.std.specs.Prelude.{ℕ, ◌≤◌, ◌≡◌, true, List, pos, get_or}
-use Rattle.disc.specs.Offsets.{bytes_of, size_of, start_of}
+use Rattle.buffer.specs.Buffer.{part}
+use Rattle.disc.specs.Offsets.{size_of, start_of}
 use Rattle.variable.specs.Table.{owned}
 use Rattle.machine.specs.Answer.{Answer, Buffers, Call, Other, turn, round, command, share, run, other, store}
 use Rattle.machine.specs.Answer.{retrieve, erase, files, free_space, list, answer, boot_answer, format_answer}
@@ -91,7 +92,8 @@ FilesKept =
     (c : Call) (b : Buffers) (name : List ℕ) (i : ℕ) → Named b.disc name i → (MayChange c b name i → ⊥)
     → let after = (answer c b).disc in
     (j : ℕ) × Named after name j × (start_of after j ≡ start_of b.disc i) × (size_of after j ≡ size_of b.disc i)
-    × (bytes_of after j ≡ bytes_of b.disc i)
+    × (part after (start_of b.disc i) (size_of b.disc i)
+    ≡ part b.disc (start_of b.disc i) (size_of b.disc i))
 
 unfoldable pub LeavesAlone : Type 0
 LeavesAlone = BuffersKept × OutputBehindKept × ProcessesKept × FilesKept

@@ -3,9 +3,9 @@ use Rattle.std.specs.Prelude.{ℕ, ◌+◌, ◌≡◌, Bool, true, false, ◌||�
 use Rattle.buffer.specs.Lists.{all}
 use Rattle.buffer.specs.declared.Found.{Found}
 use Rattle.buffer.specs.declared.Found.TheVariants.{At, Nowhere}
-use Rattle.disc.specs.Directory.{file_count}
 use Rattle.machine.specs.Answer.{Call, turn}
 use Rattle.machine.specs.Beyond.{advanced, file_run}
+use Rattle.machine.specs.Fields.{files_on}
 use Rattle.machine.specs.Observation.{place_in}
 use Rattle.machine.specs.Refusals.{Passes}
 use Rattle.machine.specs.State.{local_of, with_file, with_local, with_share}
@@ -24,7 +24,7 @@ pub record Executes (i slot byte : ℕ) (e : Event) : Type 0 where
 -- an OPEN that leaves a file more on the disc
 pub record OpensNew (i slot : ℕ) (e : Event) : Type 0 where
   pub opens : Executes i slot 53 e
-  pub more : file_count e.after.disc ≡ file_count e.before.disc + 1
+  pub more : files_on e.after.disc ≡ files_on e.before.disc + 1
 
 -- ---- what may not come between: an instruction of the process, and a write into the file that it has open
 abbrev pub turn_interferes : Found → ℕ → Event → Bool

@@ -5,11 +5,10 @@ use Rattle.float.specs.declared.whole.Size.TheVariants.{Is, Refused}
 use Rattle.place.specs.Place.{fits}
 use Rattle.place.specs.declared.Run.{Run}
 use Rattle.disc.specs.Layout.{max_files}
-use Rattle.disc.specs.Directory.{file_count}
-use Rattle.store.specs.Room.{NoRoom}
+use Rattle.store.specs.Room.{Free}
 use Rattle.variable.specs.Assign.{entry_limit, high_end, low_end, taken_runs}
 use Rattle.variable.specs.declared.Variables.{Variables}
-use Rattle.machine.specs.Fields.{IsName}
+use Rattle.machine.specs.Fields.{IsName, files_on}
 
 -- no start for n bytes among these runs between lo and hi
 abbrev pub NoneFits : List Run → ℕ → ℕ → ℕ → Type 0
@@ -23,5 +22,5 @@ Lacking v n = (entry_limit ≤ v.count) ⊎ NoneFits (taken_runs v) low_end high
 pub data NewFileRefused (disc name : List ℕ) (size : Size) : Type 0 where
   by_name : (IsName name → ⊥) → NewFileRefused disc name size
   by_size : size ≡ Refused → NewFileRefused disc name size
-  by-full : file_count disc ≡ max_files → NewFileRefused disc name size
-  by-no-run : (n : ℕ) → size ≡ Is n → NoRoom disc n → NewFileRefused disc name size
+  by-full : files_on disc ≡ max_files → NewFileRefused disc name size
+  by-no-run : (n : ℕ) → size ≡ Is n → ((start : ℕ) → Free disc n start → ⊥) → NewFileRefused disc name size

@@ -2,22 +2,22 @@
 -- and which fault comes of what.
 use Rattle.std.specs.Prelude.{ℕ, ◌+◌, ◌/◌, ◌%◌, ◌≤◌, ◌<◌, ◌≡◌, true, false, List, [], ◌∷◌, ◌++◌, ◌⊎◌, pos, length}
 use Rattle.std.specs.Prelude.{get_or}
-use Rattle.buffer.specs.Buffer.{part, zeros}
+use Rattle.buffer.specs.Buffer.{overwrite, part, zeros}
 use Rattle.float.specs.declared.whole.Size.TheVariants.{Is}
 use Rattle.number.specs.Compare.{equals}
 use Rattle.number.specs.Value.{number_of}
-use Rattle.disc.specs.Directory.{contents, file_count, location}
 use Rattle.disc.specs.Layout.{max_files}
 use Rattle.disc.specs.Offsets.{size_of, start_of}
-use Rattle.store.specs.Room.{Placed}
+use Rattle.place.specs.ShortestFit.{ShortestFit}
+use Rattle.store.specs.Room.{Free}
 use Rattle.machine.specs.Answer.{Buffers}
 use Rattle.machine.specs.AtPc.{AtPc, NumberOnTop, Onward, SameDisc, StringOnTop, ValueOnTop, ahead, byte_ahead}
 use Rattle.machine.specs.AtPc.{file_in, pc_in, process_in, stack_in, state_after, turn_answer}
-use Rattle.machine.specs.Beyond.{file_run, new_file_size}
+use Rattle.machine.specs.Beyond.{new_file_size}
 use Rattle.machine.specs.Changed.{Assigns, CannotStart, Enters, Starts}
 use Rattle.machine.specs.Demands.{EndedOnly}
 use Rattle.machine.specs.Faults.{FaultsBounded}
-use Rattle.machine.specs.Fields.{IsName, Live, Lowest, Named, NoFile, id_of, next_id}
+use Rattle.machine.specs.Fields.{IsName, Live, Lowest, Named, NoFile, files_on, id_of, next_id}
 use Rattle.machine.specs.Limits.{stack_size}
 use Rattle.machine.specs.NoPlace.{NewFileRefused}
 use Rattle.machine.specs.Refusals.{state_of}
@@ -59,8 +59,8 @@ module _ (b : Buffers) (slot clock : ℕ) where
   -- goes at the start of the shortest free run that fits, the lowest of equals."
   abbrev pub Creates : List ℕ → List ℕ → ℕ → Type 0
   Creates rest text n =
-      IsName text × (file_count b.disc < max_files)
-      × ((start : ℕ) × Placed b.disc n start
+      IsName text × (files_on b.disc < max_files)
+      × ((start : ℕ) × ShortestFit (Free b.disc) n start
       × Onward b slot clock (pc_in b slot + 1) rest (record { start = start; len = n; offset = 0 })
       × Enters b.disc (turn_answer b slot clock).disc text (zeros n) start)
 
@@ -83,22 +83,12 @@ module _ (b : Buffers) (slot clock : ℕ) where
       ⊎ ((0 < (file_in b slot).len) × ((((file_in b slot).len < (file_in b slot).offset + n) × Faults 12)
       ⊎ (((file_in b slot).offset + n ≤ (file_in b slot).len) × done)))
 
-  -- these bytes lie at their places in the file, and every other byte of the disc stays
-  pub record Writes (bytes : List ℕ) (after : List ℕ) : Type 0 where
-    pub long : length after ≡ length b.disc
-    pub there : (i : ℕ) → i < length bytes
-        → get_or after (location b.disc (file_run (file_in b slot)) ((file_in b slot).offset + i)) 0 ≡ get_or bytes i 0
-    pub others : (j : ℕ)
-        → ((i : ℕ) → i < length bytes
-        → j ≡ location b.disc (file_run (file_in b slot)) ((file_in b slot).offset + i) → ⊥)
-        → get_or after j 0 ≡ get_or b.disc j 0
-
   abbrev pub WriteExactly : Type 0
   WriteExactly =
       (rest : List ℕ) (kind : ℕ) (bytes : List ℕ) → AtPc b slot 55 → ValueOnTop (stack_in b slot) rest kind bytes
       → InFile (length bytes)
       (Onward b slot clock (pc_in b slot + 1) rest (ahead b slot (length bytes))
-      × Writes bytes (turn_answer b slot clock).disc)
+      × ((turn_answer b slot clock).disc ≡ overwrite b.disc ((file_in b slot).start + (file_in b slot).offset) bytes))
 
   -- n bytes are read and these are pushed, if the stack can take them
   abbrev pub Receives : ℕ → List ℕ → Type 0
@@ -107,14 +97,14 @@ module _ (b : Buffers) (slot clock : ℕ) where
       ⊎ (Onward b slot clock (pc_in b slot + 1) (stack_in b slot ++ value) (ahead b slot n) × SameDisc b slot clock)
 
   abbrev pub read : ℕ → List ℕ
-  read n = part (contents b.disc (file_run (file_in b slot))) (file_in b slot).offset n
+  read n = part b.disc ((file_in b slot).start + (file_in b slot).offset) n
 
   abbrev pub ReadExactly : (byte kind : ℕ) → Type 0
   ReadExactly byte kind = AtPc b slot byte → InFile kind (Receives kind (read kind ++ (kind ∷ [])))
 
   -- the file's byte that far ahead
   abbrev pub byte_in : ℕ → ℕ
-  byte_in j = get_or (contents b.disc (file_run (file_in b slot))) ((file_in b slot).offset + j) 0
+  byte_in j = get_or b.disc ((file_in b slot).start + ((file_in b slot).offset + j)) 0
 
   -- no zero lies ahead in the file, or the first comes behind n bytes
   abbrev pub ReadStringExactly : Type 0

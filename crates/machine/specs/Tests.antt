@@ -1,15 +1,14 @@
 -- The tests of every call, in document 01's order: the first that fails refuses it by its number, and a call that none
 -- fails is done.
-use Rattle.std.specs.Prelude.{ℕ, ◌≤◌, ◌<◌, ◌≡◌, true, List, ◌⊎◌, pos, neg_ℤ, length}
-use Rattle.disc.specs.Directory.{DiscLength, file_count, good_disc}
-use Rattle.disc.specs.Layout.{max_files}
+use Rattle.std.specs.Prelude.{ℕ, ◌+◌, ◌≤◌, ◌<◌, ◌≡◌, true, List, ◌⊎◌, pos, neg_ℤ, length}
+use Rattle.disc.specs.Directory.{DiscLength, good_disc}
+use Rattle.disc.specs.Layout.{data_start, max_files}
 use Rattle.disc.specs.Offsets.{size_of}
-use Rattle.store.specs.File.{size_limit}
-use Rattle.store.specs.Room.{HasRoom}
+use Rattle.store.specs.Room.{Free}
 use Rattle.machine.specs.Answer.{Answer, Buffers, Call, Other, turn, round, command, share, run, other, store}
 use Rattle.machine.specs.Answer.{retrieve, erase, files, free_space, list, answer, boot_answer, format_answer}
 use Rattle.machine.specs.Answer.{good_area}
-use Rattle.machine.specs.Fields.{Ended, HasId, IsName, Named, NoFile, Uses, files_text, next_id}
+use Rattle.machine.specs.Fields.{Ended, HasId, IsName, Named, NoFile, Uses, files_on, files_text, next_id}
 use Rattle.machine.specs.Fields.{processes_text, state_byte}
 use Rattle.machine.specs.Limits.{area_length, id_limit, max_share, round_room, slot_count, turn_room}
 use Rattle.machine.specs.Operations.{Command, suspend, resume, kill}
@@ -56,10 +55,10 @@ abbrev pub other_tests : Other → Buffers → Tests
 other_tests (store name bytes) b =
     on_disc b
     (test 5 (IsName name)
-    (test 6 ((1 ≤ length bytes) × (length bytes ≤ size_limit b.disc))
-    (test 8 (file_count b.disc < max_files)
+    (test 6 ((1 ≤ length bytes) × (data_start + length bytes ≤ length b.disc))
+    (test 8 (files_on b.disc < max_files)
     (test 7 (NoFile b.disc name)
-    (test 9 (HasRoom b.disc (length bytes))
+    (test 9 ((start : ℕ) × Free b.disc (length bytes) start)
     passed)))))
 other_tests (retrieve name) b =
     on_disc b

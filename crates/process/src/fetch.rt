@@ -1,6 +1,5 @@
 // The step that a process takes next.
-ghost use Rattle.std.specs.Prelude.{◌≡◌, ◌≤◌, length};
-ghost use Rattle.disc.specs.Directory.{Held};
+ghost use Rattle.std.specs.Prelude.{◌≡◌, ◌+◌, ◌≤◌, length};
 ghost use Rattle.instruction.specs.Readable.{Readable};
 ghost use Rattle.machine.specs.Area.{kernel_of};
 ghost use Rattle.machine.specs.Exec.{exec};
@@ -17,7 +16,7 @@ use stack::Step;
 // Document 01: "An instruction reads its argument bytes from the program's own part of the disc."; "PC and loop are
 // offsets from the code start."
 pub fn next_step(disc: &[u8], area: &[u8], p: Process, clock: u32) -> Step
-    requires { Held disc.now p.code × (p.sp ≤ stack_size)
+    requires { (p.code.start + p.code.len ≤ length disc.now) × (p.sp ≤ stack_size)
         × (length area.now ≡ area_length) × Readable (kernel_of area.now).variables }
     ensures { Means (stack_of p) result (exec (program_of disc.now p) clock (local_of p)
         (owned (kernel_of area.now).variables p.id)) }

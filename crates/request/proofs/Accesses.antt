@@ -28,7 +28,7 @@ use Rattle.disc.specs.Directory.{contents}
 use Rattle.disc.specs.Name.{trimmed}
 use Rattle.disc.proofs.Names.{text-with-zero, trimmed-short}
 use Rattle.store.specs.File.{read_at, written_at}
-use Rattle.store.proofs.Contents.{contents-length}
+use Rattle.store.proofs.Contents.{contents-length, contents-short}
 use Rattle.request.specs.Answers.{Ahead, Lies, access_to, text_read}
 use Rattle.request.specs.declared.Access.{Access}
 use Rattle.request.specs.declared.Access.TheVariants.{Inside, NoFile, PastEnd}
@@ -56,7 +56,7 @@ module _ (f : OpenFile) (n : ℕ) where
           → Ahead disc f n
       go true p b q e = absurd (let z : ◌≡◌ {A = ℕ} 0 1 = cc in omega arith)
       go false p false q e = absurd (let z : ◌≡◌ {A = ℕ} 0 1 = cc in omega arith)
-      go false p true q e = record { within = leb-true _ _ q; held = l.held (eqb-false _ _ p) }
+      go false p true q e = record { within = leb-true _ _ q; inside = l.inside (eqb-false _ _ p) }
 
 -- ---- the answer to an access: the fault, or the rest
 abbrev pub granted : Access → Answered → Answered
@@ -134,7 +134,7 @@ module _ {area : List ℕ} {slot : ℕ} {p : Process} {d : Step} (s : Stepping a
   unfolding read_at
   read_length =
       part_length (contents disc (file_run p.file)) p.file.offset n
-      (omega (arith, contents-length disc (file_run p.file), h.within))
+      (omega (arith, contents-length disc (file_run p.file) h.inside, h.within))
 
   -- with a tail behind what is read
   abbrev pub read_onto : List ℕ → List ℕ
@@ -177,7 +177,7 @@ module _ {area : List ℕ} {slot : ℕ} {p : Process} {d : Step} (s : Stepping a
 
   pub text-short : length text ≤ f.len
   text-short =
-      let n = contents-length disc (file_run f) in
+      let n = contents-short disc (file_run f) in
       omega (arith, trimmed-short (drop f.offset (contents disc (file_run f))), length-drop f.offset (contents disc (file_run f)))
 
   -- with its zero, as the bytes of the file
@@ -185,7 +185,7 @@ module _ {area : List ℕ} {slot : ℕ} {p : Process} {d : Step} (s : Stepping a
   unfolding read_at
   with-zero h =
       let rest = drop f.offset (contents disc (file_run f)) in
-      text-with-zero rest (simp length-drop (omega (arith, contents-length disc (file_run f), h.within)))
+      text-with-zero rest (simp length-drop (omega (arith, contents-length disc (file_run f) h.inside, h.within)))
 
   pub text-received : {n : ℕ} → n ≡ length text + 1 → (f.len ≡ 0 → ⊥) → Ahead disc f n
       → answered (kernel_of area) slot disc (reads_string (keeping (stack_of p) d))

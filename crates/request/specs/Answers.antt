@@ -1,6 +1,5 @@
 -- Requests in code: what disc and area are after an answer, and what the code needs of an open file.
 use Rattle.std.specs.Prelude.{ℕ, ◌+◌, ◌≤◌, ◌≡◌, Bool, cond, ◌&&◌, List, [], ◌∷◌, ◌++◌, eqb, leb, pos, length, take}
-use Rattle.disc.specs.Directory.{Held}
 use Rattle.machine.specs.Area.{kernel_of}
 use Rattle.machine.specs.Beyond.{Answered, file_run}
 use Rattle.machine.specs.Stack.{string_kind}
@@ -25,15 +24,15 @@ abbrev pub run_from : ℕ → ℕ → Run
 run_from start len = record { start = start; len = len }
 
 -- ---- open files
--- a good area's file: its offset within it, and one of the disc's where one is open
+-- a good area's file: its offset within it, and its bytes within the disc where one is open
 pub record Lies (disc : List ℕ) (f : OpenFile) : Type 0 where
   pub offset : f.offset ≤ f.len
-  pub held : (f.len ≡ 0 → ⊥) → Held disc (file_run f)
+  pub inside : (f.len ≡ 0 → ⊥) → f.start + f.len ≤ length disc
 
--- n bytes lie ahead of the offset, in a file of the disc
+-- n bytes lie ahead of the offset, in a file within the disc
 pub record Ahead (disc : List ℕ) (f : OpenFile) (n : ℕ) : Type 0 where
   pub within : f.offset + n ≤ f.len
-  pub held : Held disc (file_run f)
+  pub inside : f.start + f.len ≤ length disc
 
 -- Document 01: "11 no open file; 12 past the file's end"
 unfoldable pub access_to : OpenFile → ℕ → Access

@@ -1,5 +1,5 @@
 -- Why a file is admitted, and why it is not.
-use Prim.Native.Nat.{ℕ, ◌≤◌, ◌<◌}
+use Prim.Native.Nat.{ℕ, ◌-◌, ◌≤◌, ◌<◌}
 use mathlib.Core.Path.{◌≡◌, refl, subst, subst⁻¹}
 use mathlib.Core.Bool.{Bool, true, false}
 use mathlib.Core.List.{List}
@@ -12,10 +12,10 @@ use Rattle.buffer.specs.declared.Found.{Found}
 use Rattle.buffer.specs.declared.Found.TheVariants.{At, Nowhere}
 use Rattle.buffer.proofs.Bools.{and_left}
 use Rattle.disc.specs.Directory.{file_count, good_disc, is_disc_length, lookup}
-use Rattle.disc.specs.Layout.{max_files}
+use Rattle.disc.specs.Layout.{data_start, max_files}
 use Rattle.disc.specs.Name.{good_name}
 use Rattle.disc.proofs.Goodness.{good-disc-is}
-use Rattle.store.specs.File.{admission, deny_if_found, good_size, place_of, size_limit, start_or, unless}
+use Rattle.store.specs.File.{admission, deny_if_found, good_size, place_of, start_or, unless}
 use Rattle.store.specs.Room.{NoRoom, Placed}
 use Rattle.store.specs.declared.Admission.{Admission}
 use Rattle.store.specs.declared.Admission.TheVariants.{Start, Denied}
@@ -76,7 +76,7 @@ module _ (disc name : List ℕ) (n : ℕ) where
       go true p true q true r Nowhere t (At s) u =
           record {
             good = p;
-            some = leb-true 1 n (and_left (leb 1 n) (leb n (size_limit disc)) q);
+            some = leb-true 1 n (and_left (leb 1 n) (leb n (length disc - data_start)) q);
             few = ltb-true (file_count disc) max_files r;
             new = t;
             found = u;

@@ -9,12 +9,12 @@ use lib.ListN.{length, replicate}
 use borrow.Author.Tests.{leb-true}
 use Rattle.buffer.specs.Buffer.{overwrite, part, word_bytes}
 use Rattle.buffer.proofs.Bools.{and_right}
-use Rattle.buffer.proofs.ByteLists.{Bytes, IsByte, IsWord, append-bytes, byte_at, filled-bytes, gathered-bytes, one_byte, overwrite-bytes}
-use Rattle.buffer.proofs.ByteLists.{part_bytes, scattered-bytes, take-bytes, word-at, word-bytes}
+use Rattle.buffer.proofs.ByteLists.{Bytes, IsByte, IsWord, append-bytes, byte_at, filled-bytes, one_byte, overwrite-bytes}
+use Rattle.buffer.proofs.ByteLists.{part_bytes, take-bytes, word-at, word-bytes}
 use Rattle.buffer.proofs.Each.{all-each}
 use Rattle.place.specs.Place.{run_from}
 use Rattle.place.specs.declared.Run.{Run}
-use Rattle.disc.specs.Directory.{contents, entry_at, entry_bytes, file_count, is_disc_length, location}
+use Rattle.disc.specs.Directory.{contents, entry_at, entry_bytes, file_count, is_disc_length}
 use Rattle.disc.specs.Layout.{count_at, entry_size, name_size}
 use Rattle.disc.specs.Name.{good_name, is_name_byte, padded}
 use Rattle.disc.specs.declared.Entry.{Entry}
@@ -55,7 +55,7 @@ module _ (disc : List ℕ) (h : Bytes disc) where
 
   pub contents-bytes : (run : Run) → Bytes (contents disc run)
   unfolding contents
-  contents-bytes run = gathered-bytes (location disc run) disc run.len h
+  contents-bytes run = part_bytes disc run.start run.len h
 
   pub read-bytes : (run : Run) (offset n : ℕ) → Bytes (read_at disc run offset n)
   unfolding read_at
@@ -63,7 +63,7 @@ module _ (disc : List ℕ) (h : Bytes disc) where
 
   pub written-bytes : (run : Run) (offset : ℕ) (bytes : List ℕ) → Bytes bytes → Bytes (written_at disc run offset bytes)
   unfolding written_at
-  written-bytes run offset bytes b = scattered-bytes (location disc run) offset disc bytes h b
+  written-bytes run offset bytes b = overwrite-bytes disc (run.start + offset) bytes h b
 
   pub new-entry : (name : List ℕ) (n s : ℕ) → is_disc_length (length disc) ≡ true → Admitted disc name n s → ByteEntry (new_entry name n s)
   new-entry name n s long a =

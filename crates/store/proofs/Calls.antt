@@ -59,7 +59,7 @@ store-cases disc name bytes P refused done =
 -- ---- free space
 module _ (disc : List ℕ) (n : ℕ) where
   free-space-is : free_space_answer disc ≡ pos n → (is_disc_length (length disc) ≡ true) × (room_on disc ≡ n)
-  unfolding free_space_answer
+  unfolding free_space_answer room_on
   free-space-is =
       by-checks disc (λ z. z ≡ pos n → (is_disc_length (length disc) ≡ true) × (room_on disc ≡ n)) _ _
       (λ e h. absurd (refused-not-done WrongLength n h))

@@ -14,13 +14,14 @@ use Rattle.buffer.proofs.Buffer.{overwrite-length}
 use Rattle.buffer.proofs.Lists.{tab-more, tab-same}
 use Rattle.buffer.proofs.Parts.{byte-before, byte-behind, byte_inside, byte-of-part, part-before, part-inside, part_length}
 use Rattle.buffer.proofs.Parts.{part-of-append-left, part-of-append-right, part-of-part, same-part}
-use Rattle.buffer.proofs.Scattered.{scattered-before, scattered-byte, scattered-length, scattered-other}
+use Rattle.buffer.specs.Scattered.{scattered}
+use Rattle.buffer.proofs.Scattered.{scattered-before, scattered-byte, scattered-length, scattered-other, scattered-overwrite}
 use Rattle.buffer.proofs.Tables.{tab-without}
 use Rattle.place.specs.declared.Run.{Run}
 use Rattle.disc.specs.Directory.{Held, entry_at, entry_bytes, file_count, files, location}
 use Rattle.disc.specs.Layout.{count_at, data_start, entry_size, max_files, name_size}
 use Rattle.disc.proofs.Entries.{entry-bytes-length, entry-laid, same_count, same-entry, same-files}
-use Rattle.disc.proofs.Locations.{held-data, held-distinct}
+use Rattle.disc.proofs.Locations.{held-data, held-distinct, held-inside}
 use Rattle.disc.proofs.Names.{padded-length}
 use Rattle.store.specs.File.{entered, erased, new_entry, written_at}
 
@@ -212,14 +213,18 @@ pub record Inside (disc : List ℕ) (run : Run) (offset n : ℕ) : Type 0 where
   pub fits : offset + n ≤ run.len
 
 module _ {disc : List ℕ} {run : Run} {offset : ℕ} (bytes : List ℕ) (inside : Inside disc run offset (length bytes)) where
+  -- at their places, one behind the other
+  pub written-scattered : written_at disc run offset bytes ≡ scattered (location disc run) offset disc bytes
+  unfolding written_at location
+  written-scattered = sym (scattered-overwrite disc bytes run.start offset (omega (arith, held-inside inside.held, inside.fits)))
+
   pub written-length : length (written_at disc run offset bytes) ≡ length disc
-  unfolding written_at
-  written-length = scattered-length (location disc run) offset disc bytes
+  written-length = ap length written-scattered ∙ scattered-length (location disc run) offset disc bytes
 
   pub written-directory : take data_start (written_at disc run offset bytes) ≡ take data_start disc
-  unfolding written_at
   written-directory =
-      scattered-before (location disc run) offset disc bytes data_start
+      ap (take data_start) written-scattered
+      ∙ scattered-before (location disc run) offset disc bytes data_start
       (λ k h. held-data inside.held (offset + k) (omega (arith, inside.fits)))
 
   pub written_count : file_count (written_at disc run offset bytes) ≡ file_count disc
@@ -235,11 +240,11 @@ module _ {disc : List ℕ} {run : Run} {offset : ℕ} (bytes : List ℕ) (inside
   -- each byte lies at its place, and every other byte of the disc stays
   pub written-there : (i : ℕ) → i < length bytes
       → get_or (written_at disc run offset bytes) (location disc run (offset + i)) 0 ≡ get_or bytes i 0
-  unfolding written_at
   written-there i h =
-      scattered-byte (location disc run) run.len offset disc bytes (held-distinct inside.held) inside.fits i h
+      ap (λ (l : List ℕ). get_or l (location disc run (offset + i)) 0) written-scattered
+      ∙ scattered-byte (location disc run) run.len offset disc bytes (held-distinct inside.held) inside.fits i h
 
   pub written-other : (j : ℕ) → ((i : ℕ) → i < length bytes → j ≡ location disc run (offset + i) → ⊥)
       → get_or (written_at disc run offset bytes) j 0 ≡ get_or disc j 0
-  unfolding written_at
-  written-other j o = scattered-other (location disc run) offset disc bytes j o
+  written-other j o =
+      ap (λ (l : List ℕ). get_or l j 0) written-scattered ∙ scattered-other (location disc run) offset disc bytes j o

@@ -1,83 +1,102 @@
 -- Laws of what files hold: their length, what keeps them, what a write makes of them.
 use Prim.Native.Nat.{ℕ, ◌+◌, ◌≤◌, ◌<◌}
-use mathlib.Core.Path.{◌≡◌, ap, ◌∙◌}
+use mathlib.Core.Path.{◌≡◌, sym, ap, ◌∙◌}
 use mathlib.Core.Bool.{true}
 use mathlib.Core.List.{List}
 use native.Mathlib.Omega.{arith}
-use lib.ListN.{length, get_or}
+use lib.ListN.{drop, length, get_or, length-take}
 use lib.Seq.{take_all}
 use Rattle.buffer.specs.Buffer.{overwrite, part}
 use Rattle.buffer.proofs.Buffer.{overwrite-part}
 use Rattle.buffer.proofs.Parts.{part_length}
-use Rattle.buffer.proofs.Scattered.{gathered-length, gathered-same, scattered-elsewhere, scattered-gathered}
+use Rattle.buffer.specs.Scattered.{gathered}
+use Rattle.buffer.proofs.Scattered.{gathered-same, scattered-elsewhere, scattered-gathered}
 use Rattle.place.specs.declared.Run.{Run}
 use Rattle.disc.specs.Directory.{Held, contents, entry_at, file_count, good_disc, location, run_of}
 use Rattle.disc.specs.Layout.{data_start}
-use Rattle.disc.proofs.Locations.{file-held, files-apart, held-data, held-distinct, location-kept}
+use Rattle.disc.proofs.Locations.{contents-gathered, file-held, files-apart, held-data, held-distinct, held-inside, location-kept}
 use Rattle.store.specs.File.{entered, erased, read_at, written_at}
-use Rattle.store.proofs.Changes.{Inside, Room, entered-data, erased-data}
+use Rattle.store.proofs.Changes.{Inside, Room, entered-data, entered-length, erased-data, erased-length, written-length}
+use Rattle.store.proofs.Changes.{written-scattered}
 use Rattle.store.proofs.Invariant.{present}
 
 -- ---- lengths
-pub contents-length : (disc : List ℕ) (run : Run) → length (contents disc run) ≡ run.len
+pub contents-length : (disc : List ℕ) (run : Run) → run.start + run.len ≤ length disc → length (contents disc run) ≡ run.len
 unfolding contents
-contents-length disc run = gathered-length (location disc run) disc run.len
+contents-length disc run h = part_length disc run.start run.len h
 
-pub read_length : (disc : List ℕ) (run : Run) (offset n : ℕ) → offset + n ≤ run.len → length (read_at disc run offset n) ≡ n
+pub contents-short : (disc : List ℕ) (run : Run) → length (contents disc run) ≤ run.len
+unfolding contents
+contents-short disc run = omega (arith, length-take run.len (drop run.start disc))
+
+pub read_length : (disc : List ℕ) (run : Run) (offset n : ℕ) → run.start + run.len ≤ length disc → offset + n ≤ run.len
+    → length (read_at disc run offset n) ≡ n
 unfolding read_at
-read_length disc run offset n h = part_length (contents disc run) offset n (omega (arith, contents-length disc run))
+read_length disc run offset n inside h = part_length (contents disc run) offset n (omega (arith, contents-length disc run inside))
 
 -- read from end to end
 pub read_all : (disc : List ℕ) (run : Run) → read_at disc run 0 run.len ≡ contents disc run
 unfolding read_at
-read_all disc run = take_all run.len (contents disc run) (omega (arith, contents-length disc run))
+read_all disc run = take_all run.len (contents disc run) (contents-short disc run)
 
 -- ---- what leaves the data bytes as they are keeps what a file holds
-kept-contents : (d : List ℕ) {e : List ℕ} {run : Run} → Held e run → ((j : ℕ) → data_start ≤ j → get_or d j 0 ≡ get_or e j 0)
+kept-contents : (d : List ℕ) {e : List ℕ} {run : Run} → Held e run → length d ≡ length e
+    → ((j : ℕ) → data_start ≤ j → get_or d j 0 ≡ get_or e j 0)
     → contents d run ≡ contents e run
-unfolding contents
-kept-contents d {e} {run} h same =
-    gathered-same (location d run) (location e run) d e run.len
+kept-contents d {e} {run} h long same =
+    contents-gathered d run (omega (arith, long, held-inside h))
+    ∙ gathered-same (location d run) (location e run) d e run.len
     (λ i k. ap (λ (j : ℕ). get_or d j 0) (location-kept d e run i) ∙ same (location e run i) (held-data h i k))
+    ∙ sym (contents-gathered e run (held-inside h))
 
 module _ (disc : List ℕ) (good : good_disc disc ≡ true) (j : ℕ) (k : j < file_count disc) where
   pub entered-contents : {name : List ℕ} (n s : ℕ) → Room disc name
       → contents (entered disc name n s) (run_of (entry_at disc j)) ≡ contents disc (run_of (entry_at disc j))
-  entered-contents {name} n s room = kept-contents (entered disc name n s) (file-held disc good j k) (entered-data n s room)
+  entered-contents {name} n s room =
+      kept-contents (entered disc name n s) (file-held disc good j k) (entered-length n s room) (entered-data n s room)
 
   -- a file goes: every other keeps what it holds
   pub erased-other-file : (i : ℕ) → i < file_count disc → (i ≡ j → ⊥)
       → contents (erased disc i) (run_of (entry_at disc j)) ≡ contents disc (run_of (entry_at disc j))
-  erased-other-file i h d = kept-contents (erased disc i) (file-held disc good j k) (erased-data (present disc good i h))
+  erased-other-file i h d =
+      let gone = present disc good i h in
+      kept-contents (erased disc i) (file-held disc good j k) (erased-length gone) (erased-data gone)
 
   -- a write in one file leaves what every other file holds
   pub written-other-file : (i offset : ℕ) (bytes : List ℕ) → i < file_count disc → (i ≡ j → ⊥)
       → offset + length bytes ≤ (entry_at disc i).len
       → contents (written_at disc (run_of (entry_at disc i)) offset bytes) (run_of (entry_at disc j))
       ≡ contents disc (run_of (entry_at disc j))
-  unfolding contents written_at
   written-other-file i offset bytes h d fits =
       let own = run_of (entry_at disc i) in
       let other = run_of (entry_at disc j) in
       let after = written_at disc own offset bytes in
-      gathered-same (location after other) (location disc other) after after other.len
+      let inside = held-inside (file-held disc good j k) in
+      let within : Inside disc own offset (length bytes) = record { held = file-held disc good i h; fits = fits } in
+      contents-gathered after other (omega (arith, written-length bytes within, inside))
+      ∙ gathered-same (location after other) (location disc other) after after other.len
       (λ a m. ap (λ (p : ℕ). get_or after p 0) (location-kept after disc other a))
+      ∙ ap (λ (l : List ℕ). gathered (location disc other) l other.len) (written-scattered bytes within)
       ∙ scattered-elsewhere (location disc own) own.len offset disc bytes (held-distinct (file-held disc good i h)) fits
       (location disc other) other.len (λ a b p q. files-apart disc good i j h k d a b p q)
+      ∙ sym (contents-gathered disc other inside)
 
 -- ---- a write, and a read, inside a file
 module _ {disc : List ℕ} {run : Run} {offset : ℕ} (bytes : List ℕ) (inside : Inside disc run offset (length bytes)) where
   pub written-contents : contents (written_at disc run offset bytes) run ≡ overwrite (contents disc run) offset bytes
-  unfolding written_at contents
   written-contents =
       let after = written_at disc run offset bytes in
-      gathered-same (location after run) (location disc run) after after run.len
+      let own = held-inside inside.held in
+      contents-gathered after run (omega (arith, written-length bytes inside, own))
+      ∙ gathered-same (location after run) (location disc run) after after run.len
       (λ a m. ap (λ (p : ℕ). get_or after p 0) (location-kept after disc run a))
+      ∙ ap (λ (l : List ℕ). gathered (location disc run) l run.len) (written-scattered bytes inside)
       ∙ scattered-gathered (location disc run) run.len offset disc bytes (held-distinct inside.held) inside.fits
+      ∙ ap (λ (l : List ℕ). overwrite l offset bytes) (sym (contents-gathered disc run own))
 
   -- what was written is read
   pub written_read : read_at (written_at disc run offset bytes) run offset (length bytes) ≡ bytes
   unfolding read_at
   written_read =
       ap (λ (l : List ℕ). part l offset (length bytes)) written-contents
-      ∙ overwrite-part (contents disc run) bytes offset (omega (arith, contents-length disc run, inside.fits))
+      ∙ overwrite-part (contents disc run) bytes offset (omega (arith, contents-length disc run (held-inside inside.held), inside.fits))

@@ -14,7 +14,7 @@ use Rattle.place.specs.declared.Run.{Run}
 use Rattle.disc.specs.Directory.{contents, entry_at, file_count, good_disc, location, lookup, run_of}
 use Rattle.disc.specs.Layout.{count_at, entry_size}
 use Rattle.disc.specs.declared.Entry.{Entry}
-use Rattle.disc.proofs.Locations.{location-kept}
+use Rattle.disc.proofs.Locations.{held-inside, location-kept}
 use Rattle.store.specs.File.{entered, new_entry, stored, written_at}
 use Rattle.store.proofs.Admissions.{Admitted}
 use Rattle.store.proofs.Changes.{Inside, entered-byte, entered-count, entered-length, entered-new, entered-old, written_count}
@@ -58,7 +58,7 @@ module _ {disc name : List ℕ} {s : ℕ} (bytes : List ℕ) (good : good_disc d
   stored-data =
       written-contents bytes inside
       ∙ overwrite-whole (contents (entered disc name (length bytes) s) (run_from s (length bytes))) bytes
-      (contents-length (entered disc name (length bytes) s) (run_from s (length bytes)))
+      (contents-length (entered disc name (length bytes) s) (run_from s (length bytes)) (held-inside inside.held))
 
   pub stored-count : file_count (stored disc name bytes s) ≡ file_count disc + 1
   stored-count = written_count bytes inside ∙ entered-count (length bytes) s (room a)

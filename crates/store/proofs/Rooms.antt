@@ -11,7 +11,7 @@ use Rattle.buffer.specs.declared.Found.{Found}
 use Rattle.buffer.specs.declared.Found.TheVariants.{At, Nowhere}
 use Rattle.buffer.proofs.Bools.{true-not-false}
 use Rattle.buffer.proofs.Tables.{all_map, all-tab-at, all-tab-each}
-use Rattle.place.specs.Place.{apart, fits, is_at, run_from}
+use Rattle.place.specs.Place.{apart, fits, is_at, longest, run_from}
 use Rattle.place.specs.ShortestFit.{ShortestFit}
 use Rattle.place.proofs.Place.{Fits, apart-is, fits-is, is-apart, is-fits, longest-bound, longest-fits, longest-most}
 use Rattle.place.proofs.Place.{no-place-none-fits, place-fits}
@@ -91,6 +91,10 @@ place-placed disc n s some e =
 
 -- ---- free space: a file that long has room, no longer one has
 module _ (disc : List ℕ) where
+  pub room-on-is : room_on disc ≡ longest (taken disc) data_start (length disc)
+  unfolding room_on
+  room-on-is = refl
+
   pub room-on-small : room_on disc ≤ length disc
   unfolding room_on
   room-on-small = omega (arith, longest-bound (taken disc) data_start (length disc))

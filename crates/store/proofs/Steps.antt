@@ -1,6 +1,6 @@
 -- What the steps of the code come to: entering, erasing, writing.
 use Prim.Native.Nat.{ℕ, ◌+◌, ◌*◌, ◌-◌, ◌≤◌, ◌<◌}
-use mathlib.Core.Path.{◌≡◌, sym, ap, ◌∙◌}
+use mathlib.Core.Path.{◌≡◌, refl, sym, ap, ◌∙◌}
 use mathlib.Core.List.{List}
 use native.Mathlib.Nat.{add-zero}
 use native.Mathlib.Omega.{arith}
@@ -8,10 +8,9 @@ use lib.ListN.{length, set, replicate, length-replicate}
 use Rattle.buffer.specs.Buffer.{part, overwrite, zeros}
 use Rattle.buffer.proofs.Buffer.{overwrite-joined, overwrite-set}
 use Rattle.buffer.proofs.Parts.{part_length}
-use Rattle.buffer.proofs.Scattered.{scattered-overwrite}
 use Rattle.place.specs.Place.{run_from}
 use Rattle.place.specs.declared.Run.{Run}
-use Rattle.disc.specs.Directory.{entry_bytes, file_count, location}
+use Rattle.disc.specs.Directory.{entry_bytes, file_count}
 use Rattle.disc.specs.Layout.{count_at, data_start, entry_size, max_files}
 use Rattle.store.specs.File.{entered, erased, new_entry, stored, written_at}
 
@@ -32,16 +31,15 @@ module _ (d : List ℕ) (h : data_start ≤ length d) where
       overwrite-set z count_at last (omega arith) ∙ rw (f, e, laid, q)
 
 -- bytes that lie in a row
-pub written-steps : (d : List ℕ) (run : Run) (offset : ℕ) (bytes : List ℕ) → run.start + offset + length bytes ≤ length d
+pub written-steps : (d : List ℕ) (run : Run) (offset : ℕ) (bytes : List ℕ)
     → overwrite d (run.start + offset) bytes ≡ written_at d run offset bytes
-unfolding written_at location
-written-steps d run offset bytes h = sym (scattered-overwrite d bytes run.start offset h)
+unfolding written_at
+written-steps d run offset bytes = refl
 
 -- a file of zeros: entered, and its bytes zeroed
-pub created-steps : (d name : List ℕ) (n s : ℕ) → s + n ≤ length (entered d name n s)
-    → overwrite (entered d name n s) s (zeros n) ≡ stored d name (zeros n) s
-created-steps d name n s h =
+pub created-steps : (d name : List ℕ) (n s : ℕ) → overwrite (entered d name n s) s (zeros n) ≡ stored d name (zeros n) s
+created-steps d name n s =
     let zero-filled : length (zeros n) ≡ n = length-replicate n 0 in
     ap (λ (start : ℕ). overwrite (entered d name n s) start (zeros n)) (sym (add-zero s))
-    ∙ written-steps (entered d name n s) (run_from s n) 0 (zeros n) (omega arith)
+    ∙ written-steps (entered d name n s) (run_from s n) 0 (zeros n)
     ∙ ap (λ (m : ℕ). written_at (entered d name m s) (run_from s m) 0 (zeros n)) (sym zero-filled)

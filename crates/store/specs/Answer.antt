@@ -5,10 +5,12 @@ use Rattle.buffer.specs.Lists.{flat}
 use Rattle.buffer.specs.declared.Found.{Found}
 use Rattle.buffer.specs.declared.Found.TheVariants.{At, Nowhere}
 use Rattle.decimal.specs.Decimal.{decimal}
-use Rattle.disc.specs.Directory.{contents, entry_at, files, good_disc, is_disc_length, lookup, run_of}
+use Rattle.place.specs.Place.{longest}
+use Rattle.disc.specs.Directory.{contents, entry_at, files, good_disc, is_disc_length, lookup, run_of, taken}
+use Rattle.disc.specs.Layout.{data_start}
 use Rattle.disc.specs.Name.{trimmed}
 use Rattle.disc.specs.declared.Entry.{Entry}
-use Rattle.store.specs.File.{admission, room_on, stored, unless}
+use Rattle.store.specs.File.{admission, stored, unless}
 use Rattle.store.specs.declared.Admission.{Admission}
 use Rattle.store.specs.declared.Admission.TheVariants.{Start, Denied}
 use Rattle.store.specs.declared.Answer.{Answer}
@@ -102,6 +104,8 @@ files_answer disc out =
     if_usable (checked disc) (λ r. reported (Refused r) out)
     (text_answer (flat file_line (files disc)) out)
 
--- ---- free space
+-- ---- free space: "the longest free run, however many files there are"
 unfoldable pub free_space_answer : List ℕ → ℤ
-free_space_answer disc = if_usable (checked disc) (λ r. answer_number (Refused r)) (answer_number (Done (room_on disc)))
+free_space_answer disc =
+    if_usable (checked disc) (λ r. answer_number (Refused r))
+    (answer_number (Done (longest (taken disc) data_start (length disc))))

@@ -2,12 +2,11 @@
 use Rattle.std.specs.Prelude.{ℕ, ◌+◌, ◌*◌, ◌-◌, Bool, true, false, ◌&&◌, List, [], ◌∷◌, ◌++◌, leb, ltb, length}
 use Rattle.std.specs.Prelude.{replicate}
 use Rattle.buffer.specs.Buffer.{overwrite, part}
-use Rattle.buffer.specs.Scattered.{scattered}
 use Rattle.buffer.specs.declared.Found.{Found}
 use Rattle.buffer.specs.declared.Found.TheVariants.{At, Nowhere}
 use Rattle.place.specs.Place.{longest, place, run_from}
 use Rattle.place.specs.declared.Run.{Run}
-use Rattle.disc.specs.Directory.{contents, entry_bytes, file_count, location, lookup, taken}
+use Rattle.disc.specs.Directory.{contents, entry_bytes, file_count, lookup, taken}
 use Rattle.disc.specs.Layout.{count_at, data_start, entry_size, max_files}
 use Rattle.disc.specs.Name.{good_name, padded}
 use Rattle.disc.specs.declared.Entry.{Entry}
@@ -20,13 +19,14 @@ abbrev pub unless : {A : Type 0} → Bool → A → A → A
 unless true refusal rest = rest
 unless false refusal rest = refusal
 
--- the longest file that a disc can hold: what fits between 161 and its end, "863 or 3,935"
+-- the longest file that a disc can hold
 unfoldable pub size_limit : List ℕ → ℕ
 size_limit disc = length disc - data_start
 
--- Document 01: "data length 0 or above 863" is refused
+-- Document 01: "data length 0 or above 863" is refused, by Q-2 "863 or 3,935": what does not fit between 161 and the
+-- disc's end
 abbrev pub good_size : List ℕ → ℕ → Bool
-good_size disc n = leb 1 n && leb n (size_limit disc)
+good_size disc n = leb 1 n && leb n (length disc - data_start)
 
 -- Document 02, Q-10: "at the start of the shortest free run that fits, the lowest of equals"
 unfoldable pub place_of : List ℕ → ℕ → Found
@@ -71,7 +71,7 @@ erased disc i =
 
 -- bytes written at an offset of a file, and n bytes read there
 unfoldable pub written_at : List ℕ → Run → ℕ → List ℕ → List ℕ
-written_at disc run offset bytes = scattered (location disc run) offset disc bytes
+written_at disc run offset bytes = overwrite disc (run.start + offset) bytes
 
 unfoldable pub read_at : List ℕ → Run → ℕ → ℕ → List ℕ
 read_at disc run offset n = part (contents disc run) offset n

@@ -1,11 +1,10 @@
 // What becomes of files: a new one enters, one goes, bytes are written and read inside one.
 ghost use Rattle.std.specs.Prelude.{◌≡◌, ◌+◌, ◌<◌, ◌≤◌, drop, length};
 ghost use Rattle.buffer.specs.Buffer.{overwrite, part, zeros};
-ghost use Rattle.disc.specs.Directory.{Held, Readable, contents, file_count};
-ghost use Rattle.disc.specs.Layout.{entry_size};
+ghost use Rattle.disc.specs.Directory.{Readable, contents, file_count};
+ghost use Rattle.disc.specs.Layout.{data_start, entry_size, max_files, name_size};
 ghost use Rattle.disc.specs.Name.{trimmed};
 ghost use Rattle.store.specs.File.{admission, entered, erased, read_at, room_on, size_limit, stored, written_at};
-ghost use Rattle.store.specs.declared.Admission.TheVariants.{Start};
 
 use crate::{Admission, Refusal};
 use buffer::Found;
@@ -59,9 +58,11 @@ pub fn admit(disc: &[u8], name: &[u8], n: usize) -> Admission
     }
 }
 
-// Enters a file of n bytes that is admitted at start; its data bytes are for the caller to write.
+// Enters a file of n bytes at start; its data bytes are for the caller to write.
 pub fn enter(disc: &mut [u8], name: &[u8], n: usize, start: usize)
-    requires { Readable disc.old × (admission disc.old name.now n ≡ Start start) }
+    requires readable { Readable disc.old }
+    requires disc_bound { (file_count disc.old < max_files) × (length name.now ≤ name_size) × (n < 65536)
+        × (start < 65536) }
     ensures { disc.new ≡ entered disc.old name.now n start }
 {
     let count = disc::directory::file_count(disc);
@@ -75,9 +76,11 @@ pub fn enter(disc: &mut [u8], name: &[u8], n: usize, start: usize)
     disc[COUNT_AT] = (count + 1) as u8;
 }
 
-// Enters a file of n zeros that is admitted at start.
+// Enters a file of n zeros at start.
 pub fn create(disc: &mut [u8], name: &[u8], n: usize, start: usize)
-    requires { Readable disc.old × (admission disc.old name.now n ≡ Start start) }
+    requires readable { Readable disc.old }
+    requires disc_bound { (file_count disc.old < max_files) × (length name.now ≤ name_size) }
+    requires data_start_le_start { (data_start ≤ start) × (start + n ≤ length disc.old) }
     ensures { disc.new ≡ stored disc.old name.now (zeros n) start }
 {
     enter(disc, name, n, start);
@@ -112,7 +115,7 @@ pub fn erase_entry(disc: &mut [u8], i: usize)
 
 // Writes the bytes at an offset of a file.
 pub fn write_at(disc: &mut [u8], run: Run, offset: usize, bytes: &[u8])
-    requires { Held disc.old run × (offset + length bytes.now ≤ run.len) }
+    requires { (offset + length bytes.now ≤ run.len) × (run.start + run.len ≤ length disc.old) }
     ensures { disc.new ≡ written_at disc.old run offset bytes.now }
 {
     let start = run.start as usize;
@@ -121,7 +124,7 @@ pub fn write_at(disc: &mut [u8], run: Run, offset: usize, bytes: &[u8])
 
 // Fills out with the bytes at an offset of a file.
 pub fn read_at(disc: &[u8], run: Run, offset: usize, out: &mut [u8])
-    requires { Held disc.now run × (offset + length out.old ≤ run.len) }
+    requires { (offset + length out.old ≤ run.len) × (run.start + run.len ≤ length disc.now) }
     ensures { out.new ≡ read_at disc.now run offset (length out.old) }
 {
     let start = run.start as usize;
@@ -130,7 +133,7 @@ pub fn read_at(disc: &[u8], run: Run, offset: usize, out: &mut [u8])
 
 // How many bytes of a file lie from an offset to the next zero, or to its end where there is none.
 pub fn text_ahead(disc: &[u8], run: Run, offset: usize) -> usize
-    requires { Held disc.now run × (offset ≤ run.len) }
+    requires { (offset ≤ run.len) × (run.start + run.len ≤ length disc.now) }
     ensures { result ≡ length (trimmed (drop offset (contents disc.now run))) }
 {
     let start = run.start as usize;

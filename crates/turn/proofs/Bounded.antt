@@ -10,8 +10,8 @@ use lib.Seq.{length-take-le}
 use borrow.Author.Tests.{le-leb}
 use Rattle.buffer.proofs.Bools.{and_both}
 use Rattle.buffer.proofs.Lists.{all_weaker}
-use Rattle.place.specs.declared.Run.{Run}
-use Rattle.disc.specs.Directory.{Held, files}
+use Rattle.disc.specs.Directory.{files}
+use Rattle.disc.proofs.Locations.{held-inside}
 use Rattle.variable.specs.Good.{good_variable}
 use Rattle.variable.specs.Limits.{value_size}
 use Rattle.variable.specs.Table.{owned}
@@ -24,7 +24,6 @@ use Rattle.machine.specs.Limits.{area_length, slot_count, stack_size}
 use Rattle.machine.specs.Refusals.{Passes}
 use Rattle.machine.specs.State.{is_live, is_running, live_ids, local_of, process_at}
 use Rattle.machine.specs.Turn.{effect_at, program_of}
-use Rattle.machine.specs.declared.Kernel.{Kernel}
 use Rattle.machine.specs.declared.Process.{Process}
 use Rattle.machine.proofs.Changes.Change.{GoodState}
 use Rattle.machine.proofs.Changes.Directories.{live-record, open_at, program-at}
@@ -75,8 +74,8 @@ module _ (disc area : List ℕ) (passes : Passes disc area) where
     live : is_live p ≡ true
     live = running-live p running
 
-    program-held : Held disc p.code
-    program-held = record { sound = good.sound; file = program-at good slot live }
+    program-inside : p.code.start + p.code.len ≤ length disc
+    program-inside = held-inside (record { sound = good.sound; file = program-at good slot live })
 
     sp_low : p.sp ≤ stack_size
     sp_low = (live-record good slot live).registers.sp
@@ -85,10 +84,10 @@ module _ (disc area : List ℕ) (passes : Passes disc area) where
     file-lies = ⊎_elim closed opened (live-record good slot live).file
       where
         closed : Closed p.file → Lies disc p.file
-        closed c = record { offset = omega (arith, c.offset); held = λ some. absurd (some c.len) }
+        closed c = record { offset = omega (arith, c.offset); inside = λ some. absurd (some c.len) }
 
         opened : Opened (files disc) p.file → Lies disc p.file
-        opened o = record { offset = o.offset; held = λ some. record { sound = good.sound; file = open_at o } }
+        opened o = record { offset = o.offset; inside = λ some. held-inside (record { sound = good.sound; file = open_at o }) }
 
     module _ (clock : ℕ) (d : Step) (size : length d.bytes ≡ stack_size) (means : Steps disc area clock p d) where
       sound : Sound (program_of disc p) (local_of p) (effect_of (stack_of p) d)
@@ -142,12 +141,12 @@ module _ (disc area : List ℕ) (passes : Passes disc area) where
 
     -- of a process that was copied out
     module _ (q : Process) (copied : q ≡ p) where
-      pub may-step : Held disc q.code × (q.sp ≤ stack_size) × (length area ≡ area_length)
+      pub may-step : (q.code.start + q.code.len ≤ length disc) × (q.sp ≤ stack_size) × (length area ≡ area_length)
           × Readable (kernel_of area).variables
       may-step =
-          subst⁻¹ (λ (r : Process). Held disc r.code × (r.sp ≤ stack_size) × (length area ≡ area_length)
+          subst⁻¹ (λ (r : Process). (r.code.start + r.code.len ≤ length disc) × (r.sp ≤ stack_size) × (length area ≡ area_length)
           × Readable (kernel_of area).variables) copied
-          (program-held, sp_low, area-size passes, variables-readable)
+          (program-inside, sp_low, area-size passes, variables-readable)
 
       module _ (clock : ℕ) (d : Step) where
         pub carries : length d.bytes ≡ stack_size → Steps disc area clock q d → Carries disc area slot q d

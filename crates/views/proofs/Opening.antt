@@ -25,7 +25,7 @@ use Rattle.disc.specs.Layout.{max_files}
 use Rattle.disc.specs.Name.{good_name, padded}
 use Rattle.disc.proofs.Goodness.{good-entry-at}
 use Rattle.disc.proofs.Lookups.{lookup-at}
-use Rattle.store.specs.File.{admission, deny_if_found, good_size, place_of, size_limit, start_or, stored, unless, written_at}
+use Rattle.store.specs.File.{admission, deny_if_found, good_size, place_of, start_or, stored, unless, written_at}
 use Rattle.store.specs.declared.Admission.{Admission}
 use Rattle.store.specs.declared.Admission.TheVariants.{Start, Denied}
 use Rattle.store.specs.declared.Refusal.{Refusal}
@@ -210,7 +210,7 @@ module _ (k₁ k₂ : Kernel) (d₁ d₂ : List ℕ) (g₁ : GoodState k₁ d₁
     new-alike name size l Refused b e f = inl refl
     new-alike name size l (Is n) Refused e f = inl (or-true (new_lacks (Is n) d₁ name))
     new-alike name size l (Is n) (Is m) e f =
-        subst (λ (x : ℕ). Opens (Is n) (Is x) name l) (same-size (size_limit d₁) (size_limit d₂) size n m e f) (sized-alike name n l)
+        subst (λ (x : ℕ). Opens (Is n) (Is x) name l) (same-size _ _ size n m e f) (sized-alike name n l)
 
     pub opens-same : (name : List ℕ) (size : Number) (l : Local)
         → (request_lacks (opens name size l) d₁ || request_lacks (opens name size l) d₂ ≡ true)

@@ -6,6 +6,8 @@ use mathlib.Core.List.{List}
 use native.Mathlib.Omega.{arith}
 use lib.Dec.{eqb}
 use lib.ListN.{length}
+use Rattle.disc.specs.Directory.{Held}
+use Rattle.disc.proofs.Locations.{held-inside}
 use Rattle.store.proofs.Contents.{contents-length}
 use Rattle.variable.proofs.Views.{take_bound}
 use Rattle.machine.specs.State.{is_live, is_running, local_of, paused, process_at}
@@ -13,7 +15,7 @@ use Rattle.machine.specs.Turn.{program_of}
 use Rattle.machine.specs.declared.Kernel.{Kernel}
 use Rattle.machine.specs.declared.Process.{Process}
 use Rattle.machine.proofs.Changes.Change.{GoodState}
-use Rattle.machine.proofs.Changes.Directories.{live-record}
+use Rattle.machine.proofs.Changes.Directories.{live-record, program-at}
 use Rattle.buffer.proofs.Disjunctions.{or-first}
 use Rattle.machine.proofs.Instructions.Sound.{Within}
 
@@ -23,7 +25,9 @@ running-live p h = or-first (eqb p.state paused) h
 module _ {k : Kernel} {disc : List ℕ} (good : GoodState k disc) (slot : ℕ) (live : is_live (process_at k slot) ≡ true) where
   -- a program is as long as its record says, since it is a file of a good disc
   pub program-length : length (program_of disc (process_at k slot)) ≡ (process_at k slot).code.len
-  program-length = contents-length disc (process_at k slot).code
+  program-length =
+      let code : Held disc (process_at k slot).code = record { sound = good.sound; file = program-at good slot live } in
+      contents-length disc (process_at k slot).code (held-inside code)
 
   -- so the state it has lies within its program and its stack within its 32 bytes
   pub within-local : Within (length (program_of disc (process_at k slot))) (local_of (process_at k slot))

@@ -23,7 +23,7 @@ use Rattle.store.specs.declared.Refusal.TheVariants.{ShortOutput}
 use Rattle.store.proofs.Calls.{store-cases}
 use Rattle.store.proofs.Changes.{erased-length}
 use Rattle.store.proofs.Checks.{by-checks}
-use Rattle.store.proofs.Contents.{contents-length}
+use Rattle.store.proofs.Contents.{contents-short}
 use Rattle.store.proofs.Effects.{stored-length}
 use Rattle.store.proofs.Invariant.{present}
 use Rattle.machine.specs.Answer.{Answer, Buffers, Other, store, retrieve, erase, files, free_space, list, Call, turn, round}
@@ -230,7 +230,7 @@ module _ (b : Buffers) where
           (contents b.disc (run_of (entry_at b.disc i))) λ fit.
           omega (
             arith,
-            contents-length b.disc (run_of (entry_at b.disc i)),
+            contents-short b.disc (run_of (entry_at b.disc i)),
             leb-true (entry_at b.disc i).len (length b.out) fit,
           )
 

@@ -1,5 +1,5 @@
 -- OPEN: it goes on with some file, or its new file is refused, and then for one of document 01's four reasons.
-use Prim.Native.Nat.{ℕ, zero, suc, ◌*◌, ◌/◌}
+use Prim.Native.Nat.{ℕ, zero, suc, ◌-◌, ◌*◌, ◌/◌}
 use mathlib.Core.Path.{◌≡◌, refl, sym, subst}
 use mathlib.Core.Bool.{Bool, true, false, ◌&&◌, cond}
 use mathlib.Core.List.{List}
@@ -23,13 +23,15 @@ use Rattle.number.specs.declared.Number.{Number}
 use Rattle.number.specs.declared.Number.TheVariants.{Char, Int, Float}
 use Rattle.place.specs.Place.{run_from}
 use Rattle.disc.specs.Directory.{entry_at, good_disc, is_disc_length, lookup}
-use Rattle.store.specs.File.{admission, good_size, size_limit, stored}
+use Rattle.disc.specs.Layout.{data_start}
+use Rattle.store.specs.File.{admission, good_size, stored}
 use Rattle.store.specs.declared.Admission.{Admission}
 use Rattle.store.specs.declared.Admission.TheVariants.{Start, Denied}
 use Rattle.store.specs.declared.Refusal.{Refusal}
 use Rattle.store.specs.declared.Refusal.TheVariants.{WrongLength, BadDisc, ShortOutput, BadName, BadSize, NameExists, DirectoryFull, NoRun}
 use Rattle.store.specs.declared.Refusal.TheVariants.{NoSuchFile}
 use Rattle.store.proofs.Admissions.{Denial, denied, denied-full}
+use Rattle.store.proofs.Rooms.{free-room}
 use Rattle.machine.specs.Beyond.{Answered, answered, breaks, continues, created, created_at, new_file_size, opened, opened_at}
 use Rattle.machine.specs.Effect.{opens}
 use Rattle.machine.specs.NoPlace.{NewFileRefused, by_name, by_size, by-full, by-no-run}
@@ -74,14 +76,14 @@ module _ (disc name : List ℕ) (long : is_disc_length (length disc) ≡ true) (
   denial-refuses n size e fit new DirectoryFull a d = by-full (denied-full disc name n good a)
   denial-refuses n size e fit new NameExists a d = absurd (let found : lookup disc name ≡ At d.0 = d.1 in
       let z : ◌≡◌ {A = ℕ} 0 1 = cc in omega arith)
-  denial-refuses n size e fit new NoRun a d = by-no-run n e d
+  denial-refuses n size e fit new NoRun a d = by-no-run n e (λ s free. d (free-room disc n s free))
   denial-refuses n size e fit new ShortOutput a d = absurd d
   denial-refuses n size e fit new NoSuchFile a d = absurd d
 
   pub new-file-refused : (size : Number) (n : ℕ) → new_file_size disc size ≡ Is n → lookup disc name ≡ Nowhere → (r : Refusal)
       → admission disc name n ≡ Denied r → NewFileRefused disc name (new_file_size disc size)
   new-file-refused size n e new r a =
-      denial-refuses n _ e (size-within (size_limit disc) n size e) new r a (denied disc name n r a)
+      denial-refuses n _ e (size-within (length disc - data_start) n size e) new r a (denied disc name n r a)
 
   -- OPEN goes on with some file, or its new file is refused, which is fault 13
   pub open-cases : (k : Kernel) (slot : ℕ) (l : Local) (size : Number) (P : Answered → Type 0)

@@ -1,9 +1,10 @@
 -- The tests of every call decide it: the first that fails refuses it, and where none does it is done.
-use Prim.Native.Nat.{ℕ, ◌≤◌, ◌<◌}
+use Prim.Native.Nat.{ℕ, ◌+◌, ◌-◌, ◌≤◌, ◌<◌}
 use mathlib.Core.Path.{◌≡◌, refl, sym, ap, ◌∙◌, subst, subst⁻¹}
 use mathlib.Core.Bool.{Bool, true, false, ◌&&◌, not, cond}
 use mathlib.Core.List.{List}
 use mathlib.Core.Logic.{inl, inr}
+use native.Mathlib.Omega.{arith}
 use lib.Dec.{eqb, leb, ltb}
 use lib.IntN.{pos}
 use lib.ListN.{length}
@@ -13,14 +14,14 @@ use Rattle.buffer.specs.declared.Found.{Found}
 use Rattle.buffer.specs.declared.Found.TheVariants.{At, Nowhere}
 use Rattle.buffer.proofs.Bools.{and_both, and_left, and_right, not-is-true, not-true-is-false, true-not-false}
 use Rattle.disc.specs.Directory.{DiscLength, entry_at, file_count, files as entries, good_disc, is_disc_length, lookup}
-use Rattle.disc.specs.Layout.{max_files}
-use Rattle.disc.proofs.Lengths.{disc-length-is, is-disc-length}
+use Rattle.disc.specs.Layout.{data_start, max_files}
+use Rattle.disc.proofs.Lengths.{disc-bounds, disc-length-is, is-disc-length}
 use Rattle.disc.specs.Offsets.{size_of}
 use Rattle.disc.proofs.Offsets.{entry-size}
 use Rattle.store.specs.Answer.{checked, file_line, files_answer, free_space_answer, if_usable, reported, retrieve_answer, retrieve_at}
 use Rattle.store.specs.Answer.{store_answer}
 use Rattle.store.specs.Answer.{store_at}
-use Rattle.store.specs.File.{admission, deny_if_found, place_of, room_on, size_limit, start_or, unless}
+use Rattle.store.specs.File.{admission, deny_if_found, place_of, start_or, unless}
 use Rattle.store.specs.declared.Admission.{Admission}
 use Rattle.store.specs.declared.Admission.TheVariants.{Denied}
 use Rattle.store.specs.declared.Answer.TheVariants.{Refused}
@@ -28,8 +29,8 @@ use Rattle.store.specs.declared.Checked.{Checked}
 use Rattle.store.specs.declared.Checked.TheVariants.{Usable, Unusable}
 use Rattle.store.specs.declared.Refusal.{Refusal}
 use Rattle.store.specs.declared.Refusal.TheVariants.{WrongLength, BadDisc, ShortOutput, BadName, BadSize, DirectoryFull}
-use Rattle.store.specs.Room.{HasRoom}
-use Rattle.store.proofs.Rooms.{no-place-no-room, place-room}
+use Rattle.store.specs.Room.{Free}
+use Rattle.store.proofs.Rooms.{free-room, no-place-no-room, place-room, room-free}
 use Rattle.machine.specs.Answer.{Answer, Buffers, Other, store, retrieve, erase, files, free_space, list, Call, turn, round}
 use Rattle.machine.specs.Answer.{command, share, run, other}
 use Rattle.machine.specs.Answer.{answer, boot_answer, command_answer, erase_at, format_answer, good_area, on_disc, on_good, on_output}
@@ -159,6 +160,15 @@ module _ (b : Buffers) where
           back = λ h. le-leb _ _ (subst⁻¹ (λ (m : ℕ). m ≤ length b.out) size (h i (lookup-named b.disc name i e)));
         }
 
+  -- n bytes fit between the data's start and the disc's end
+  says-in-data : Fit → (n : ℕ) → Says (leb n (length b.disc - data_start)) (data_start + n ≤ length b.disc)
+  says-in-data fit n =
+      let low = (disc-bounds (length b.disc) fit.long).low in
+      record {
+        so = λ t. omega (arith, leb-true n (length b.disc - data_start) t, low);
+        back = λ h. le-leb n (length b.disc - data_start) (omega (arith, h));
+      }
+
   -- ---- operations on the disc alone
   store-decided : (name bytes : List ℕ) → Decided (other_tests (store name bytes) b) b (answer (other (store name bytes)) b)
   unfolding answer other_answer store_answer admission
@@ -166,7 +176,7 @@ module _ (b : Buffers) where
       on-disc (λ u. on_disc u b) _ _ refl refl λ fit.
       decided at (Denied BadName) _ refl (record { so = good-is-name name; back = is-name-good name }) λ good.
       decided at (Denied BadSize) _ refl
-      (says_both (says-at-most 1 (length bytes)) (says-at-most (length bytes) (size_limit b.disc))) λ size.
+      (says_both (says-at-most 1 (length bytes)) (says-in-data fit (length bytes))) λ size.
       decided at (Denied DirectoryFull) _ refl
       (record { so = ltb-true (file_count b.disc) max_files; back = lt-ltb (file_count b.disc) max_files }) λ few.
       new fit (lookup b.disc name) refl (place_of b.disc (length bytes)) refl
@@ -176,15 +186,15 @@ module _ (b : Buffers) where
 
       new : Fit → (f : Found) → lookup b.disc name ≡ f → (g : Found) → place_of b.disc (length bytes) ≡ g
           → Decided
-          (test 7 (NoFile b.disc name) (test 9 (HasRoom b.disc (length bytes)) passed)) b
+          (test 7 (NoFile b.disc name) (test 9 ((start : ℕ) × Free b.disc (length bytes) start) passed)) b
           (at (deny_if_found f (start_or g)))
       new fit (At i) e g q = fails refl (λ h. h i (lookup-named b.disc name i e))
       new fit Nowhere e Nowhere q =
           holds_then (lookup-no-file b.disc fit.long fit.good name e)
-          (fails refl (no-place-no-room b.disc (length bytes) q))
+          (fails refl (λ r. no-place-no-room b.disc (length bytes) q (free-room b.disc (length bytes) r.0 r.1)))
       new fit Nowhere e (At s) q =
           holds_then (lookup-no-file b.disc fit.long fit.good name e)
-          (holds_then (place-room b.disc (length bytes) s q) (done 0 refl))
+          (holds_then (room-free b.disc (length bytes) (place-room b.disc (length bytes) s q)) (done 0 refl))
 
   retrieve-decided : (name : List ℕ) → Decided (other_tests (retrieve name) b) b (answer (other (retrieve name)) b)
   unfolding answer other_answer retrieve_answer
@@ -217,7 +227,7 @@ module _ (b : Buffers) where
   unfolding answer other_answer free_space_answer
   free-space-decided =
       on-disc (λ z. record { number = z; disc = b.disc; area = b.area; out = b.out }) _ _ refl refl
-      λ fit. done (room_on b.disc) refl
+      λ fit. done _ refl
 
   -- ---- operations on both buffers
   abbrev k : Kernel

@@ -3,13 +3,17 @@ use Prim.Native.Nat.{ℕ, ◌+◌, ◌-◌, ◌≤◌, ◌<◌}
 use mathlib.Core.Path.{◌≡◌, sym, ap, ◌∙◌, subst}
 use mathlib.Core.Bool.{true}
 use mathlib.Core.List.{List}
-use mathlib.Core.Logic.{inl, inr}
+use mathlib.Core.Logic.{◌⊎◌, inl, inr}
 use native.Mathlib.Omega.{arith}
 use lib.ListN.{length, get_or, get_or-replicate}
+use Rattle.place.specs.Place.{run_from}
+use Rattle.place.specs.declared.Run.{Run}
 use Rattle.disc.specs.Directory.{file_count, good_disc}
 use Rattle.disc.specs.Layout.{entry_size}
 use Rattle.disc.specs.declared.Entry.{Entry}
 use Rattle.disc.specs.Offsets.{entry_start}
+use Rattle.disc.proofs.InARow.{location-is}
+use Rattle.disc.proofs.Locations.{contents-part}
 use Rattle.disc.proofs.Offsets.{entry-name, entry-size, entry-start}
 use Rattle.store.specs.File.{erased, stored}
 use Rattle.store.proofs.Admissions.{Admitted}
@@ -32,9 +36,17 @@ stored-enters {disc} {name} {s} bytes good a =
           (sym (entry-name after (file_count disc)) ∙ ap (λ (e : Entry). e.name) new);
       starts = sym (entry-start after (file_count disc)) ∙ ap (λ (e : Entry). e.start) new;
       sized = sym (entry-size after (file_count disc)) ∙ ap (λ (e : Entry). e.len) new;
-      holds = stored-data bytes good a;
-      rest = stored-byte bytes good a;
+      holds = sym (contents-part after run) ∙ stored-data bytes good a;
+      rest = λ j k e o. stored-byte bytes good a j k e (λ i h q. aside o (q ∙ location-is after run i) h);
     }
+  where
+    run : Run
+    run = run_from s (length bytes)
+
+    -- a byte before the file or behind it is none of its own
+    aside : {j i : ℕ} → (j < s) ⊎ (s + length bytes ≤ j) → j ≡ s + i → i < length bytes → ⊥
+    aside (inl h) q k = omega arith
+    aside (inr h) q k = omega arith
 
 -- ---- a file goes
 pub erased-leaves : {disc : List ℕ} {i : ℕ} → Present disc i → Leaves disc (erased disc i) i

@@ -1,20 +1,22 @@
 -- The file operations that are done: what they answer and leave.
 use Prim.Native.Nat.{ℕ}
-use mathlib.Core.Path.{◌≡◌, refl, ap, ◌∙◌, subst}
+use mathlib.Core.Path.{◌≡◌, refl, sym, ap, ◌∙◌, subst}
 use mathlib.Core.Bool.{Bool, true, false, not}
 use mathlib.Core.List.{List}
 use lib.Dec.{leb}
 use lib.IntN.{pos}
 use lib.ListN.{length}
-use Rattle.buffer.specs.Buffer.{overwrite}
+use Rattle.buffer.specs.Buffer.{overwrite, part}
 use Rattle.buffer.specs.Lists.{flat}
 use Rattle.buffer.specs.declared.Found.{Found}
 use Rattle.buffer.specs.declared.Found.TheVariants.{At, Nowhere}
+use Rattle.place.specs.ShortestFit.{ShortestFit}
 use Rattle.disc.specs.Directory.{contents, entry_at, files as entries, lookup, run_of}
 use Rattle.disc.specs.declared.Entry.{Entry}
 use Rattle.disc.proofs.Lookups.{lookup-at}
-use Rattle.disc.specs.Offsets.{bytes_of, size_of}
-use Rattle.disc.proofs.Offsets.{bytes-of, entry-size}
+use Rattle.disc.specs.Offsets.{size_of, start_of}
+use Rattle.disc.proofs.Locations.{contents-part}
+use Rattle.disc.proofs.Offsets.{entry-size, entry-start}
 use Rattle.store.specs.Answer.{Reported, file_line, files_answer, reported, retrieve_answer, retrieve_at}
 use Rattle.store.specs.File.{unless}
 use Rattle.store.specs.declared.Answer.TheVariants.{Done, Refused}
@@ -23,7 +25,8 @@ use Rattle.store.proofs.Admissions.{admitted-placed}
 use Rattle.store.proofs.Calls.{free-space-has, free-space-most, refused-not-done, store-cases}
 use Rattle.store.proofs.Checks.{by-checks}
 use Rattle.store.proofs.Invariant.{present}
-use Rattle.store.specs.Room.{Placed}
+use Rattle.store.proofs.Rooms.{free-room, placed-shortest, room-free}
+use Rattle.store.specs.Room.{Free}
 use Rattle.machine.specs.Answer.{Answer, answer, erase_at, other_answer}
 use Rattle.machine.specs.Changed.{Enters, Leaves}
 use Rattle.machine.specs.Done.{EraseDone, FilesDone, FreeSpaceDone, RetrieveDone, StoreDone}
@@ -40,11 +43,11 @@ unfolding answer other_answer
 store-done b name bytes n =
     store-cases b.disc name bytes
     (λ u. u.number ≡ pos n → (n ≡ 0)
-    × ((start : ℕ) × Placed b.disc (length bytes) start × Enters b.disc u.disc name bytes start))
+    × ((start : ℕ) × ShortestFit (Free b.disc) (length bytes) start × Enters b.disc u.disc name bytes start))
     (λ r d h. absurd (refused-not-done r n h))
     (λ s l g a h.
     let zero : n ≡ 0 = cc in
-    (zero, (s, admitted-placed a, stored-enters bytes g a)))
+    (zero, (s, placed-shortest b.disc (length bytes) s (admitted-placed a), stored-enters bytes g a)))
 
 -- ---- what is written into the output
 written : (fit : Bool) (m n : ℕ) (out after : List ℕ)
@@ -60,14 +63,16 @@ retrieve-done b name n =
     Retrieved : Reported → Type 0
     Retrieved r =
         r.number ≡ pos n → (i : ℕ) × Named b.disc name i × (n ≡ size_of b.disc i)
-        × (r.out ≡ overwrite b.out 0 (bytes_of b.disc i))
+        × (r.out ≡ overwrite b.out 0 (part b.disc (start_of b.disc i) n))
 
     found : (f : Found) → lookup b.disc name ≡ f → Retrieved (retrieve_at f b.disc b.out)
     found Nowhere e h = below-not-done h
     found (At i) e h =
         let d : Entry = entry_at b.disc i in
         let w = written (leb d.len (length b.out)) d.len n b.out (overwrite b.out 0 (contents b.disc (run_of d))) h in
-        (i, lookup-named b.disc name i e, w.0 ∙ entry-size b.disc i, w.1 ∙ ap (overwrite b.out 0) (bytes-of b.disc i))
+        let row : contents b.disc (run_of d) ≡ part b.disc (start_of b.disc i) n =
+        contents-part b.disc (run_of d) ∙ (λ z. part b.disc (entry-start b.disc i z) (sym w.0 z)) in
+        (i, lookup-named b.disc name i e, w.0 ∙ entry-size b.disc i, w.1 ∙ ap (overwrite b.out 0) row)
 
 pub files-done : FilesDone
 unfolding answer other_answer files_answer
@@ -103,4 +108,7 @@ erase-done b name n = done-tests Erased b n _ λ passes. found passes (lookup b.
 
 pub free-space-done : FreeSpaceDone
 unfolding answer other_answer
-free-space-done b n e = (free-space-has b.disc n e, free-space-most b.disc n e)
+free-space-done b n e = (
+  λ some. room-free b.disc n (free-space-has b.disc n e some),
+  λ m start h free. free-space-most b.disc n e m h (free-room b.disc m start free),
+)

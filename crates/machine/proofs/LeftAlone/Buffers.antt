@@ -19,7 +19,7 @@ use Rattle.store.specs.File.{unless}
 use Rattle.store.specs.declared.Answer.TheVariants.{Done, Refused}
 use Rattle.store.specs.declared.Refusal.TheVariants.{ShortOutput}
 use Rattle.store.proofs.Checks.{by-checks}
-use Rattle.store.proofs.Contents.{contents-length}
+use Rattle.store.proofs.Contents.{contents-short}
 use Rattle.machine.specs.Answer.{Answer, Buffers, Other, store, retrieve, erase, files, free_space, list, Call, turn, round}
 use Rattle.machine.specs.Answer.{command, share, run, other, answer, boot_answer, command_answer, erase_at, format_answer, on_good}
 use Rattle.machine.specs.Answer.{other_answer, refused, run_at}
@@ -79,7 +79,7 @@ module _ (b : Buffers) where
       found Nowhere = still _
       found (At i) =
           let e = entry_at b.disc i in
-          reports (leb e.len (length b.out)) e.len (contents b.disc (run_of e)) (omega (arith, contents-length b.disc (run_of e)))
+          reports (leb e.len (length b.out)) e.len (contents b.disc (run_of e)) (contents-short b.disc (run_of e))
 
   files-behind : Reports (files_answer b.disc b.out)
   unfolding files_answer

@@ -11,13 +11,17 @@ use borrow.Author.Tests.{ltb-true}
 use Rattle.buffer.specs.declared.Found.{Found}
 use Rattle.buffer.specs.declared.Found.TheVariants.{At, Nowhere}
 use Rattle.buffer.proofs.Bools.{and_left, and_right, true-not-false}
+use Rattle.place.specs.Place.{run_from}
 use Rattle.place.specs.declared.Run.{Run}
 use Rattle.disc.specs.Directory.{FileAt, contents, entry_at, file_count, good_disc, is_disc_length, lookup, run_of}
 use Rattle.disc.specs.declared.Entry.{Entry}
 use Rattle.disc.proofs.Lengths.{readable}
 use Rattle.disc.proofs.Goodness.{good-disc-is}
 use Rattle.disc.proofs.Lookups.{Located, located-once, lookup-at}
+use Rattle.buffer.specs.Buffer.{part}
 use Rattle.disc.specs.Offsets.{bytes_of, size_of, start_of}
+use Rattle.disc.proofs.InARow.{contents-byte, contents-some}
+use Rattle.disc.proofs.Locations.{contents-part}
 use Rattle.disc.proofs.Offsets.{bytes-of, entry-size, entry-start}
 use Rattle.store.specs.File.{erased, stored, written_at}
 use Rattle.store.proofs.Admissions.{Admitted}
@@ -139,7 +143,9 @@ module _ (b : Buffers) (name : List ℕ) (i : ℕ) (n : Named b.disc name i) whe
 
         byte : byte_ahead b slot 0 ≡ 55
         byte =
-            rw add-zero x.instruction
+            let pc = (process_at k slot).pc in
+            let inside = contents-some b.disc (process_at k slot).code pc 54 x.instruction in
+            rw add-zero (sym (contents-byte b.disc (process_at k slot).code pc inside) ∙ x.instruction)
 
         differ : file.place ≡ i → ⊥
         differ q =
@@ -190,10 +196,25 @@ module _ (b : Buffers) (name : List ℕ) (i : ℕ) (n : Named b.disc name i) whe
   other-remains free_space far = same-disc n (call-leaves b (other free_space)).0.0
   other-remains list far = same-disc n (call-leaves b (other list)).0.0
 
-  pub files-kept : (c : Call) → (MayChange c b name i → ⊥) → Kept (answer c b)
-  files-kept (turn slot clock) far = turn-remains slot clock far
-  files-kept (round clock) far = absurd (far tt)
-  files-kept (command c id) far = same-disc n (call-leaves b (command c id)).0.0
-  files-kept (share id turns) far = same-disc n (call-leaves b (share id turns)).0.0
-  files-kept (run title) far = same-disc n (call-leaves b (run title)).0.0
-  files-kept (other o) far = other-remains o far
+  held-kept : (c : Call) → (MayChange c b name i → ⊥) → Kept (answer c b)
+  held-kept (turn slot clock) far = turn-remains slot clock far
+  held-kept (round clock) far = absurd (far tt)
+  held-kept (command c id) far = same-disc n (call-leaves b (command c id)).0.0
+  held-kept (share id turns) far = same-disc n (call-leaves b (share id turns)).0.0
+  held-kept (run title) far = same-disc n (call-leaves b (run title)).0.0
+  held-kept (other o) far = other-remains o far
+
+  -- in the bytes of the disc
+  pub files-kept : (c : Call) → (MayChange c b name i → ⊥)
+      → (j : ℕ) × Named (answer c b).disc name j
+      × (start_of (answer c b).disc j ≡ start_of b.disc i)
+      × (size_of (answer c b).disc j ≡ size_of b.disc i)
+      × (part (answer c b).disc (start_of b.disc i) (size_of b.disc i) ≡ part b.disc (start_of b.disc i) (size_of b.disc i))
+  files-kept c far =
+      let after = (answer c b).disc in
+      let r = held-kept c far in
+      let place : run_from (start_of b.disc i) (size_of b.disc i) ≡ run_from (start_of after r.0) (size_of after r.0) =
+      λ z. run_from (sym r.2 z) (sym r.3 z) in
+      let own = run_from (start_of b.disc i) (size_of b.disc i) in
+      let row = sym (contents-part after own) ∙ ap (contents after) place ∙ r.4 ∙ contents-part b.disc own in
+      (r.0, r.1, r.2, r.3, row)

@@ -1,30 +1,33 @@
 -- WRITE and the READs: the bytes of the open file from its offset on.
 use Prim.Native.Nat.{ℕ, zero, suc, ◌+◌, ◌-◌, ◌≤◌, ◌<◌}
-use mathlib.Core.Path.{◌≡◌, refl, sym, ap, subst, subst⁻¹, ◌∙◌}
+use mathlib.Core.Path.{◌≡◌, refl, sym, ap, subst, ◌∙◌}
 use mathlib.Core.Bool.{Bool, true, false}
 use mathlib.Core.List.{List, [], ◌∷◌, ◌++◌, append_assoc}
-use mathlib.Core.Logic.{◌⊎◌, inl, inr, ⊎_elim}
+use mathlib.Core.Logic.{◌⊎◌, inl, inr}
 use native.Mathlib.Nat.{le_of_suc-le-suc, not-suc-le-zero}
 use native.Mathlib.Omega.{arith}
 use lib.Dec.{eqb, leb}
 use lib.ListN.{drop, get_or, length, length-append, length-drop}
 use lib.Seq.{get_or-drop}
 use borrow.Author.Tests.{eqb-false, leb-false}
+use Rattle.buffer.specs.Buffer.{part}
 use Rattle.disc.specs.Directory.{Held, contents, files}
 use Rattle.disc.specs.Name.{trimmed, unless_zero}
 use Rattle.disc.proofs.Names.{text-ends, text-with-zero}
-use Rattle.store.specs.File.{read_at, written_at}
-use Rattle.store.proofs.Changes.{Inside, written-length, written-other, written-there}
+use Rattle.disc.proofs.InARow.{contents-byte, contents-within}
+use Rattle.disc.proofs.Locations.{held-inside}
+use Rattle.store.specs.File.{read_at}
+use Rattle.store.proofs.Steps.{written-steps}
 use Rattle.store.proofs.Contents.{contents-length}
 use Rattle.machine.specs.Answer.{Buffers}
-use Rattle.machine.specs.AtPc.{Onward, SameDisc, ValueOnTop, process_in, stack_in}
+use Rattle.machine.specs.AtPc.{Onward, SameDisc, process_in, stack_in}
 use Rattle.machine.specs.Beyond.{advanced, answered, continues, file_run, pushed, received, unless_breaks}
 use Rattle.machine.specs.Effect.{Request, asks, reads, reads_string, writes}
 use Rattle.machine.specs.Fields.{Lowest}
 use Rattle.machine.specs.Instruction.{instruction_of}
 use Rattle.machine.specs.Limits.{stack_size}
 use Rattle.machine.specs.AtPc.{ahead}
-use Rattle.machine.specs.Reaching.{Faults, InFile, ReadExactly, ReadStringExactly, Receives, WriteExactly, Writes, read}
+use Rattle.machine.specs.Reaching.{Faults, InFile, ReadExactly, ReadStringExactly, Receives, WriteExactly, byte_in, read}
 use Rattle.machine.specs.Refusals.{MayTurn, state_of}
 use Rattle.machine.specs.Stack.{push_string}
 use Rattle.machine.specs.State.{Local}
@@ -51,13 +54,6 @@ text-no-zero (c ∷ l) i h e = go (eqb c 0) refl (text-no-zero l) i h e
     go false q more zero h e = eqb-false c 0 q e
     go false q more (suc i) h e = more i (le_of_suc-le-suc h) e
 
--- no value is without bytes
-value-some : (stack rest : List ℕ) (kind : ℕ) (bytes : List ℕ) → ValueOnTop stack rest kind bytes → 0 < length bytes
-value-some stack rest kind bytes (inl n) =
-    ⊎_elim (λ (e : kind ≡ 1). omega (arith, n.size))
-    (⊎_elim (λ (e : kind ≡ 2). omega (arith, n.size)) (λ (e : kind ≡ 4). omega (arith, n.size))) n.typed
-value-some stack rest kind bytes (inr s) = omega (arith, ap length s.whole, length-append s.text (0 ∷ []))
-
 module _ (b : Buffers) (slot clock : ℕ) where
   abbrev k : Kernel
   k = state_of b
@@ -79,16 +75,9 @@ module _ (b : Buffers) (slot clock : ℕ) where
       go (inl c) = absurd (some c.len)
       go (inr o) = record { sound = good.sound; file = open_at o }
 
-  written : MayTurn b slot → (bytes : List ℕ) → 0 < length bytes → f.offset + length bytes ≤ f.len
-      → Writes b slot clock bytes (written_at b.disc (file_run f) f.offset bytes)
-  written may bytes some fits =
-      let inside : Inside b.disc (file_run f) f.offset (length bytes) =
-      record { held = open-held may (λ z. omega arith); fits = fits } in
-      record {
-        long = written-length bytes inside;
-        there = written-there bytes inside;
-        others = written-other bytes inside;
-      }
+  -- its bytes lie in a row
+  in-a-row : (n : ℕ) → f.offset + n ≤ f.len → part (contents b.disc (file_run f)) f.offset n ≡ read b slot clock n
+  in-a-row n fits = contents-within b.disc (file_run f) f.offset n fits
 
   pub write-exactly : WriteExactly b slot clock
   unfolding answered
@@ -97,7 +86,7 @@ module _ (b : Buffers) (slot clock : ℕ) where
       in-file b slot clock a.may (writes bytes (at b slot pc rest)) does (length bytes) _ _ refl
       (λ fits e.
       let c = continued b slot clock a.may (writes bytes (at b slot pc rest)) does pc rest (advanced f (length bytes)) _ e in
-      (c.0, subst⁻¹ (Writes b slot clock bytes) c.1 (written a.may bytes (value-some (stack_in b slot) rest kind bytes top) fits)))
+      (c.0, c.1 ∙ sym (written-steps b.disc (file_run f) f.offset bytes)))
 
   -- n bytes further, with this stack if it can be that long
   receives : MayTurn b slot → (r : Request) → Does b slot clock (asks r) → (stack value : List ℕ) (n : ℕ) → stack ≡ stack_in b slot ++ value
@@ -124,7 +113,8 @@ module _ (b : Buffers) (slot clock : ℕ) where
       let does = read_found b slot clock byte kind i a in
       in-file b slot clock a.may (reads kind l) does kind _ _ refl
       (λ fits e. receives a.may (reads kind l) does _ (read b slot clock kind ++ (kind ∷ [])) kind
-      (append_assoc (stack_in b slot) _ (kind ∷ []))
+      (append_assoc (stack_in b slot) _ (kind ∷ [])
+      ∙ ap (λ (v : List ℕ). stack_in b slot ++ (v ++ (kind ∷ []))) (in-a-row kind fits))
       e)
 
   -- ---- READSTRING
@@ -134,18 +124,19 @@ module _ (b : Buffers) (slot clock : ℕ) where
   abbrev text : List ℕ
   text = trimmed bytes_ahead
 
-  byte-ahead : (j : ℕ) → get_or bytes_ahead j 0 ≡ get_or (contents b.disc (file_run f)) (f.offset + j) 0
-  byte-ahead j = get_or-drop f.offset (contents b.disc (file_run f)) j 0
+  byte-ahead : (j : ℕ) → f.offset + j < f.len → get_or bytes_ahead j 0 ≡ byte_in b slot clock j
+  byte-ahead j h = get_or-drop f.offset (contents b.disc (file_run f)) j 0 ∙ contents-byte b.disc (file_run f) (f.offset + j) h
 
-  no_zero : (j : ℕ) → j < length text → get_or (contents b.disc (file_run f)) (f.offset + j) 0 ≡ 0 → ⊥
-  no_zero j low e = text-no-zero bytes_ahead j low (byte-ahead j ∙ e)
+  no_zero : (j : ℕ) → j < length text → f.offset + j < f.len → byte_in b slot clock j ≡ 0 → ⊥
+  no_zero j low h e = text-no-zero bytes_ahead j low (byte-ahead j h ∙ e)
 
   -- the text and its zero
-  text-read : f.offset + (length text + 1) ≤ f.len → text ++ (0 ∷ []) ≡ read b slot clock (length text + 1)
-  text-read fits =
+  text-read : MayTurn b slot → f.offset + (length text + 1) ≤ f.len → text ++ (0 ∷ []) ≡ read b slot clock (length text + 1)
+  text-read may fits =
       let long : length bytes_ahead ≡ f.len - f.offset =
-      length-drop f.offset (contents b.disc (file_run f)) ∙ ap (λ (n : ℕ). n - f.offset) (contents-length b.disc (file_run f)) in
-      sym (text-with-zero bytes_ahead (omega arith))
+      length-drop f.offset (contents b.disc (file_run f))
+      ∙ ap (λ (n : ℕ). n - f.offset) (contents-length b.disc (file_run f) (held-inside (open-held may (λ z. omega arith)))) in
+      sym (text-with-zero bytes_ahead (omega arith)) ∙ in-a-row (length text + 1) fits
 
   pub read-string-exactly : ReadStringExactly b slot clock
   unfolding answered
@@ -165,18 +156,17 @@ module _ (b : Buffers) (slot clock : ℕ) where
       pushes : f.offset + (length text + 1) ≤ f.len → push_string (stack_in b slot) (text ++ (0 ∷ [])) ≡ stack_in b slot ++ value
       pushes fits =
           append_assoc (stack_in b slot) (text ++ (0 ∷ [])) (length (text ++ (0 ∷ [])) ∷ 3 ∷ [])
-          ∙ (λ z. stack_in b slot ++ (text-read fits z ++ (length-append text (0 ∷ []) z ∷ 3 ∷ [])))
+          ∙ (λ z. stack_in b slot ++ (text-read a.may fits z ++ (length-append text (0 ∷ []) z ∷ 3 ∷ [])))
 
       go : InFile b slot clock (length text + 1) (Receives b slot clock (length text + 1) value)
           → ((f.len ≡ 0) × Faults b slot clock 11)
           ⊎ ((0 < f.len)
-          × ((((j : ℕ) → f.offset + j < f.len → get_or (contents b.disc (file_run f)) (f.offset + j) 0 ≡ 0 → ⊥) × Faults b slot clock 12)
-          ⊎ ((n : ℕ) × (f.offset + n < f.len)
-          × Lowest (λ j. get_or (contents b.disc (file_run f)) (f.offset + j) 0 ≡ 0) n
+          × ((((j : ℕ) → f.offset + j < f.len → byte_in b slot clock j ≡ 0 → ⊥) × Faults b slot clock 12)
+          ⊎ ((n : ℕ) × (f.offset + n < f.len) × Lowest (λ j. byte_in b slot clock j ≡ 0) n
           × Receives b slot clock (n + 1) (read b slot clock (n + 1) ++ ((n + 1) ∷ 3 ∷ [])))))
       go (inl closed) = inl closed
-      go (inr (some, inl past)) = inr (some, inl (λ j h. no_zero j (omega (arith, past.0)), past.1))
+      go (inr (some, inl past)) = inr (some, inl (λ j h. no_zero j (omega (arith, past.0)) h, past.1))
       go (inr (some, inr (fits, done))) =
           let low : f.offset + length text < f.len = omega arith in
-          let zero = sym (byte-ahead (length text)) ∙ text-ends bytes_ahead in
-          inr (some, inr (length text, low, (zero, λ m h. no_zero m h), done))
+          let zero = sym (byte-ahead (length text) low) ∙ text-ends bytes_ahead in
+          inr (some, inr (length text, low, (zero, λ m h. no_zero m h (omega arith)), done))

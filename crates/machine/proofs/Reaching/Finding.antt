@@ -8,6 +8,7 @@ use borrow.Author.Tests.{le-leb, lt-ltb}
 use Rattle.operator.specs.Instruction.{lookup, operator_of}
 use Rattle.number.specs.Value.{number_of}
 use Rattle.variable.specs.Table.{Cell, owned}
+use Rattle.disc.proofs.InARow.{contents-byte}
 use Rattle.machine.specs.Answer.{Buffers}
 use Rattle.machine.specs.AtPc.{AtPc, NumberOnTop, StringOnTop, ValueOnTop, byte_ahead, process_in, stack_in}
 use Rattle.machine.specs.Effect.{Effect, assigns, asks, opens, closes, writes, reads, reads_string, forks, awaits}
@@ -46,7 +47,9 @@ module _ (b : Buffers) (slot clock : ℕ) where
     pub byte-found : get_or prog (process_in b slot).pc 0 ≡ byte
     byte-found =
         let same : (process_in b slot).pc ≡ (process_in b slot).pc + 0 = omega arith in
-        ap (λ (i : ℕ). get_or prog i 0) same ∙ a.found
+        contents-byte b.disc (process_in b slot).code (process_in b slot).pc a.inside
+        ∙ ap (λ (i : ℕ). get_or b.disc ((process_in b slot).code.start + i) 0) same
+        ∙ a.found
 
     pub at-performs : (i : Instruction) → instruction_of byte ≡ i
         → Does (performs prog (stack_in b slot) (process_in b slot).loopstart (process_in b slot).pc clock i own)
@@ -64,7 +67,12 @@ module _ (b : Buffers) (slot clock : ℕ) where
   set_found rest kind bytes a more top =
       let behind : pc + 1 + 1 ≡ pc + 2 = omega arith in
       at-performs a SetVariable refl
-      ∙ rw (behind, le-leb (pc + 2) (length prog) (omega (arith, code-length a, more)), value-top top)
+      ∙ rw (
+        behind,
+        le-leb (pc + 2) (length prog) (omega (arith, code-length a, more)),
+        value-top top,
+        contents-byte b.disc (process_in b slot).code (pc + 1) more,
+      )
 
   -- ---- the instructions that ask
   pub open-found : (below rest text : List ℕ) (kind : ℕ) (bytes : List ℕ) → AtPc b slot 53

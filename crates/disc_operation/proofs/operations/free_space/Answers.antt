@@ -3,7 +3,7 @@ use mathlib.Core.Path.{sym, ap, ◌∙◌}
 use native.Mathlib.Omega.{arith}
 use lib.IntN.{pos}
 use Rattle.store.specs.Answer.{free_space_answer}
-use Rattle.store.proofs.Rooms.{room-on-small}
+use Rattle.store.proofs.Rooms.{room-on-is, room-on-small}
 use Rattle.disc_operation.proofs.Checks.{usable}
 use Rattle.disc_operation.proofs.operations.free_space.Goals as goal
 
@@ -21,4 +21,4 @@ overflow_cast-result c =
 
 pub returns : goal.returns
 unfolding free_space_answer
-returns c = rw (sym c.check.ensures ∙ c.in_default.is) (ap pos c.room_on.ensures)
+returns c = rw (sym c.check.ensures ∙ c.in_default.is) (ap pos (c.room_on.ensures ∙ room-on-is c.args.disc.now))

@@ -11,7 +11,7 @@ use Rattle.buffer.specs.declared.Found.{Found}
 use Rattle.buffer.specs.declared.Found.TheVariants.{At}
 use Rattle.disc.specs.Directory.{Held, contents, entry_at, file_count, lookup, run_of}
 use Rattle.disc.specs.declared.Entry.{Entry}
-use Rattle.disc.proofs.Locations.{file-held}
+use Rattle.disc.proofs.Locations.{file-held, held-inside}
 use Rattle.disc.proofs.Lookups.{lookup-at}
 use Rattle.store.specs.Answer.{checked, retrieve_answer, retrieve_at, retrieve_file}
 use Rattle.store.specs.File.{read_at}
@@ -37,11 +37,11 @@ module _ (disc name : List ℕ) (passed : checked disc ≡ Usable) {found : Foun
       (ap (λ (e : Entry). retrieve_file e disc out) x ∙ ap (λ (f : Found). retrieve_at f disc out) (sym at ∙ sought))
 
 -- read whole into as many bytes as the file has
-read-whole : (disc : List ℕ) (e : Entry) (out got : List ℕ) → e.len ≤ length out
+read-whole : (disc : List ℕ) (e : Entry) (out got : List ℕ) → Held disc (run_of e) → e.len ≤ length out
     → got ≡ read_at disc (run_of e) 0 (length (take e.len out)) → got ++ drop e.len out ≡ overwrite out 0 (contents disc (run_of e))
-read-whole disc e out got room read =
+read-whole disc e out got h room read =
     let file = contents disc (run_of e) in
-    let long : length file ≡ e.len = contents-length disc (run_of e) in
+    let long : length file ≡ e.len = contents-length disc (run_of e) (held-inside h) in
     let whole : got ≡ file = read ∙ ap (read_at disc (run_of e) 0) (length-take-le e.len out room) ∙ read_all disc (run_of e) in
     rw (whole, zero-add, long)
 
@@ -76,14 +76,16 @@ slice_bounds-read_at-end-in-At c = sym (length-take-le c.entry_at-entry.result.l
 pub read_at-requires : goal.read_at-requires
 read_at-requires c =
     let a = c.args in (
-      file a.disc.now a.name.now (sym c.check.ensures ∙ c.in_default.is) c.find.ensures c.in-At.is c.entry_at-entry.ensures,
       omega (arith, length-take-le c.entry_at-entry.result.len a.out.now c.if-out-len.false),
+      held-inside (file a.disc.now a.name.now (sym c.check.ensures ∙ c.in_default.is) c.find.ensures c.in-At.is c.entry_at-entry.ensures),
     )
 
 pub returns-else-out-len : goal.returns-else-out-len
 returns-else-out-len c =
     let a = c.args in
     let e = c.entry_at-entry.result in
+    let passed = sym c.check.ensures ∙ c.in_default.is in
+    let held = file a.disc.now a.name.now passed c.find.ensures c.in-At.is c.entry_at-entry.ensures in
     file-done e a.disc.now a.out.now _ c.if-out-len.false
-    (read-whole a.disc.now e a.out.now c.read_at.new.out c.if-out-len.false c.read_at.ensures)
-    ∙ chosen a.disc.now a.name.now (sym c.check.ensures ∙ c.in_default.is) c.find.ensures c.in-At.is a.out.now c.entry_at-entry.ensures
+    (read-whole a.disc.now e a.out.now c.read_at.new.out held c.if-out-len.false c.read_at.ensures)
+    ∙ chosen a.disc.now a.name.now passed c.find.ensures c.in-At.is a.out.now c.entry_at-entry.ensures

@@ -1,19 +1,16 @@
 -- `operations::store` meets its contract: behind the tests of the disc and of the file, it is entered and written.
 use Prim.Native.Nat.{ℕ}
-use mathlib.Core.Path.{◌≡◌, sym, ap, subst⁻¹, ◌∙◌}
+use mathlib.Core.Path.{◌≡◌, sym, ap, ◌∙◌}
 use mathlib.Core.List.{List}
 use native.Mathlib.Omega.{arith}
 use lib.ListN.{length}
-use Rattle.place.specs.Place.{run_from}
-use Rattle.disc.specs.Directory.{Held}
 use Rattle.store.specs.Answer.{checked, store_answer, store_at, updated}
 use Rattle.store.specs.File.{admission, stored}
 use Rattle.store.specs.declared.Admission.{Admission}
 use Rattle.store.specs.declared.Answer.TheVariants.{Done}
 use Rattle.store.specs.declared.Checked.TheVariants.{Usable}
 use Rattle.store.proofs.Admissions.{admitted}
-use Rattle.store.proofs.Effects.{inside}
-use Rattle.store.proofs.Invariant.{admitted-small}
+use Rattle.store.proofs.Invariant.{admitted-small, placed, room}
 use Rattle.disc_operation.proofs.Checks.{usable}
 use Rattle.disc_operation.proofs.operations.store.Goals as goal
 
@@ -38,7 +35,11 @@ returns-in-Denied c =
 
 pub enter-requires : goal.enter-requires
 enter-requires c =
-    ((usable c.args.disc.now (sym c.check.ensures ∙ c.in_default.is)).ready, sym c.admit.ensures ∙ c.in-Start.is)
+    let a = c.args in
+    let e = admitted a.disc.now a.name.now (length a.«data».now) c.in-Start.start (sym c.admit.ensures ∙ c.in-Start.is) in
+    let r = (usable a.disc.now (sym c.check.ensures ∙ c.in_default.is)).ready in
+    let small = admitted-small e r.high in
+    record { readable = r; disc_bound = (e.few, (room e).short, small.1, small.0) }
 
 pub overflow_cast-run : goal.overflow_cast-run
 overflow_cast-run c =
@@ -52,16 +53,11 @@ overflow_cast-run-in-Start c =
     let e = admitted a.disc.now a.name.now (length a.«data».now) c.in-Start.start (sym c.admit.ensures ∙ c.in-Start.is) in
     omega (arith, (admitted-small e (usable a.disc.now (sym c.check.ensures ∙ c.in_default.is)).ready.high).1)
 
--- the file is one of the disc's once it has entered
 pub write_at-requires : goal.write_at-requires
 write_at-requires c =
     let a = c.args in
     let e = admitted a.disc.now a.name.now (length a.«data».now) c.in-Start.start (sym c.admit.ensures ∙ c.in-Start.is) in
-    let fit = usable a.disc.now (sym c.check.ensures ∙ c.in_default.is) in (
-      subst⁻¹ (λ (l : List ℕ). Held l (run_from c.in-Start.start (length a.«data».now))) c.enter.ensures
-          (inside a.«data».now fit.sound e).held,
-      omega arith,
-    )
+    (omega arith, omega (arith, (placed e).high))
 
 pub returns-in-Start : goal.returns-in-Start
 returns-in-Start c =

@@ -2,7 +2,7 @@
 use Rattle.std.proofs.Common.{◌≤◌, ◌≡◌, length, sym, arith, rules}
 use lib.Seq.{length-take-le}
 use Rattle.buffer.proofs.Parts.{part_length, part-to}
-use Rattle.disc.proofs.Locations.{contents-part, held-inside}
+use Rattle.disc.proofs.Locations.{contents-part}
 use Rattle.machine.specs.Limits.{stack_size}
 use Rattle.stack.specs.Steps.{max_code}
 use Rattle.process.proofs.fetch.next_step.Goals as goal
@@ -11,9 +11,6 @@ pub slice_bounds-stack-end : goal.slice_bounds-stack-end
 slice_bounds-stack-end c =
     let size : length c.args.p.stack ≡ stack_size = search rules in
     omega arith
-
-pub slice_bounds-execute-end : goal.slice_bounds-execute-end
-slice_bounds-execute-end c = omega (arith, held-inside c.requires.0)
 
 pub slice_bounds-execute-end-2 : goal.slice_bounds-execute-end-2
 slice_bounds-execute-end-2 c =
@@ -27,7 +24,7 @@ execute-requires c =
     let size : length p.stack ≡ stack_size = search rules in
     let short : p.code.len ≤ max_code = search rules in
     let below = length-take-le p.sp p.stack (omega arith) in (
-      rw (part-to disc p.code.start p.code.len) (omega (arith, part_length disc p.code.start p.code.len (held-inside c.requires.0))),
+      rw (part-to disc p.code.start p.code.len) (omega (arith, part_length disc p.code.start p.code.len c.requires.0)),
       omega arith,
       c.requires.2,
       c.requires.3,
@@ -36,4 +33,4 @@ execute-requires c =
 pub returns : goal.returns
 returns c =
     let a = c.args in
-    rw (part-to a.disc.now a.p.code.start a.p.code.len, ← contents-part c.requires.0) at c.execute.ensures
+    rw (part-to a.disc.now a.p.code.start a.p.code.len, ← contents-part a.disc.now a.p.code) at c.execute.ensures

@@ -71,7 +71,7 @@ pub read_at-requires : goal.read_at-requires
 read_at-requires c =
     let h = c.requires.2 in
     let n = lent-length c.args.n (omega arith) in
-    rw c.file_run.ensures (h.held, omega (arith, h.within))
+    rw c.file_run.ensures (omega (arith, h.within), h.inside)
 
 pub slice_bounds-bytes-end-2 : goal.slice_bounds-bytes-end-2
 slice_bounds-bytes-end-2 c =

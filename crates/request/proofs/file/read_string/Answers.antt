@@ -19,7 +19,7 @@ text-is : (disc : List ℕ) (f : OpenFile) {run : Run} {n : ℕ} → n ≡ lengt
 text-is disc f e r = e ∙ ap (λ (x : Run). length (trimmed (drop f.offset (contents disc x)))) r
 
 pub text_ahead-n-requires : goal.text_ahead-n-requires
-text_ahead-n-requires c = rw c.file_run.ensures (c.requires.1.held c.if-file-eq0.false, c.requires.1.offset)
+text_ahead-n-requires c = rw c.file_run.ensures (c.requires.1.offset, c.requires.1.inside c.if-file-eq0.false)
 
 pub overflow_add-n : goal.overflow_add-n
 overflow_add-n c =
@@ -35,7 +35,7 @@ overflow_add-file c =
 
 pub push_text-requires : goal.push_text-requires
 push_text-requires c =
-    (c.requires.0, record { within = omega (arith, c.if-file-n.false); held = c.requires.1.held c.if-file-eq0.false })
+    (c.requires.0, record { within = omega (arith, c.if-file-n.false); inside = c.requires.1.inside c.if-file-eq0.false })
 
 pub returns-then-file-eq0 : goal.returns-then-file-eq0
 returns-then-file-eq0 c =
@@ -56,6 +56,6 @@ returns c =
     let a = c.args in
     let n = text-is a.disc.now a.p.file c.text_ahead-n.ensures c.file_run.ensures in
     let ahead : Ahead a.disc.now a.p.file (c.text_ahead-n.result + 1) =
-    record { within = omega (arith, c.if-file-n.false); held = c.requires.1.held c.if-file-eq0.false } in
+    record { within = omega (arith, c.if-file-n.false); inside = c.requires.1.inside c.if-file-eq0.false } in
     answers c.requires.0 a.disc.now c.push_text.ensures
     (sym (text-received c.requires.0 a.disc.now (omega (arith, n)) c.if-file-eq0.false ahead))

@@ -21,7 +21,7 @@ write_at-requires c =
     let size : length a.d.bytes ≡ stack_size = search rules in
     let n = about-length c.requires.0 size in
     let h = ahead a.p.file a.d.len c.requires.1 (sym c.in-Inside.ensures) in
-    rw c.file_run.ensures (h.held, omega (arith, h.within))
+    rw c.file_run.ensures (omega (arith, h.within), h.inside)
 
 pub advanced-requires : goal.advanced-requires
 advanced-requires c = (ahead c.args.p.file c.args.d.len c.requires.1 (sym c.in-Inside.ensures)).within

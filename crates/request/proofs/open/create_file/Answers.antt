@@ -9,12 +9,19 @@ use Rattle.process.specs.Stepping.{left, stack_of}
 use Rattle.stack.specs.Steps.{about, keeping}
 use Rattle.store.specs.declared.Admission.{Admission}
 use Rattle.store.proofs.Admissions.{admitted}
-use Rattle.store.proofs.Invariant.{admitted-small}
+use Rattle.store.proofs.Invariant.{admitted-small, placed, room}
 use Rattle.request.proofs.Answering.{answers, breaks-off}
 use Rattle.request.proofs.open.create_file.Goals as goal
 
 pub create-requires : goal.create-requires
-create-requires c = (c.requires.1, sym c.in-Start.ensures)
+create-requires c =
+    let a = c.args in
+    let h = admitted a.disc.now (about a.d) a.n c.in-Start.start (sym c.in-Start.ensures) in
+    record {
+      readable = c.requires.1;
+      disc_bound = (h.few, (room h).short);
+      data_start_le_start = ((placed h).low, (placed h).high);
+    }
 
 pub overflow_cast-start : goal.overflow_cast-start
 overflow_cast-start c =

@@ -18,7 +18,7 @@ use Rattle.request.proofs.open.open_new.Goals as goal
 -- the size that the test gives is the one that the disc's limit gives
 size-is : (disc : List ℕ) (size : Number) {max : ℕ} {s t : Size} → t ≡ s → t ≡ size_within max size → max ≡ size_limit disc
     → s ≡ new_file_size disc size
-size-is disc size e f g = sym e ∙ f ∙ ap (λ (m : ℕ). size_within m size) g
+size-is disc size e f g = sym e ∙ f ∙ ap (λ (m : ℕ). size_within m size) (g ∙ size-limit-is disc)
 
 pub overflow_cast-max : goal.overflow_cast-max
 overflow_cast-max c = omega (arith, c.size_limit-max.ensures, size-limit-is c.args.disc.now, c.requires.1.high)

@@ -1,5 +1,5 @@
 -- `file::admit` meets its contract: its tests are those of `admission`, in their order.
-use Prim.Native.Nat.{ℕ, ◌<◌, ◌≤◌}
+use Prim.Native.Nat.{ℕ, ◌-◌, ◌<◌, ◌≤◌}
 use mathlib.Core.Path.{◌≡◌, sym, ap, ◌∙◌}
 use mathlib.Core.Bool.{true}
 use mathlib.Core.List.{List}
@@ -15,14 +15,18 @@ use Rattle.disc.specs.Layout.{data_start, max_files}
 use Rattle.disc.specs.Name.{good_name}
 use Rattle.disc.proofs.Entries.{taken-first}
 use Rattle.store.specs.File.{admission, deny_if_found, place_of, size_limit, start_or}
+use Rattle.store.proofs.Rooms.{size-limit-is}
 use Rattle.store.proofs.file.admit.Goals as goal
 
 module _ (d name : List ℕ) (n count : ℕ) (good : good_name name ≡ true) (some : 1 ≤ n) (fits : n ≤ size_limit d)
     (few : count < max_files) (counted : count ≡ file_count d) where
+  small : n ≤ length d - data_start
+  small = omega (arith, fits, size-limit-is d)
+
   -- what is left of the definition behind the first tests
   rest : (f : Found) → f ≡ lookup d name → admission d name n ≡ deny_if_found f (start_or (place_of d n))
   unfolding admission
-  rest f found = rw (good, le-leb _ _ some, le-leb _ _ fits, lt-ltb (file_count d) max_files (omega arith), found)
+  rest f found = rw (good, le-leb _ _ some, le-leb _ _ small, lt-ltb (file_count d) max_files (omega arith), found)
 
   -- and behind the lookup
   last : Nowhere ≡ lookup d name → (runs : List Run) → runs ≡ filled (taken d) → (f : Found)
@@ -46,7 +50,7 @@ returns-then-size_limit-n c =
     rw (
       sym c.is_good_name.ensures ∙ c.if-not-is_good_name.false,
       le-leb _ _ c.if-n-lt1.false,
-      lt-leb _ _ (rw c.size_limit.ensures at c.if-size_limit-n.true),
+      lt-leb _ _ (rw (c.size_limit.ensures, size-limit-is c.args.disc.now) at c.if-size_limit-n.true),
     )
 
 pub returns-then-count-ge-MAX_FILES : goal.returns-then-count-ge-MAX_FILES
@@ -55,7 +59,7 @@ returns-then-count-ge-MAX_FILES c =
     rw (
       sym c.is_good_name.ensures ∙ c.if-not-is_good_name.false,
       le-leb _ _ c.if-n-lt1.false,
-      le-leb _ _ (rw c.size_limit.ensures at c.if-size_limit-n.false),
+      le-leb _ _ (rw (c.size_limit.ensures, size-limit-is c.args.disc.now) at c.if-size_limit-n.false),
       le-ltb (file_count c.args.disc.now) max_files (omega arith),
     )
 

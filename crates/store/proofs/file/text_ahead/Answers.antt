@@ -8,31 +8,25 @@ use lib.Seq.{length-take-le, take_all}
 use Rattle.buffer.specs.Buffer.{part}
 use Rattle.buffer.proofs.Parts.{part_length, part-of-part}
 use Rattle.place.specs.declared.Run.{Run}
-use Rattle.disc.specs.Directory.{Held, contents}
+use Rattle.disc.specs.Directory.{contents}
 use Rattle.disc.specs.Name.{trimmed}
-use Rattle.disc.proofs.Locations.{contents-part, held-inside}
+use Rattle.disc.proofs.Locations.{contents-part}
 use Rattle.store.proofs.file.text_ahead.Goals as goal
 
 -- the part of the disc from the offset to the file's end is what is left of the file
-ahead : (disc : List ℕ) (run : Run) (offset : ℕ) → offset ≤ run.len → Held disc run
+ahead : (disc : List ℕ) (run : Run) (offset : ℕ) → offset ≤ run.len → run.start + run.len ≤ length disc
     → take (run.start + run.len - (run.start + offset)) (drop (run.start + offset) disc) ≡ drop offset (contents disc run)
-ahead disc run offset within h =
+ahead disc run offset within inside =
     let file = part disc run.start run.len in
-    let n = part_length disc run.start run.len (held-inside h) in
+    let n = part_length disc run.start run.len inside in
     let m : run.start + run.len - (run.start + offset) ≡ run.len - offset = omega arith in
     ap (λ (k : ℕ). part disc (run.start + offset) k) m
     ∙ sym (part-of-part disc run.start run.len offset (run.len - offset) (omega arith))
     ∙ take_all (run.len - offset) (drop offset file) (omega (arith, length-drop offset file))
-    ∙ ap (drop offset) (sym (contents-part h))
+    ∙ ap (drop offset) (sym (contents-part disc run))
 
 pub returns : goal.returns
 returns c =
     let found = c.text_length.ensures in
     sym (length-take-le c.text_length.result _ found.0) ∙ ap length found.1
-    ∙ ap (λ (l : List ℕ). length (trimmed l)) (ahead c.args.disc.now c.args.run c.args.offset c.requires.1 c.requires.0)
-
-pub slice_bounds-text_length-start : goal.slice_bounds-text_length-start
-slice_bounds-text_length-start c = omega (arith, held-inside c.requires.0)
-
-pub slice_bounds-text_length-end : goal.slice_bounds-text_length-end
-slice_bounds-text_length-end c = omega (arith, held-inside c.requires.0)
+    ∙ ap (λ (l : List ℕ). length (trimmed l)) (ahead c.args.disc.now c.args.run c.args.offset c.requires.0 c.requires.1)
