@@ -11,7 +11,8 @@ use Rattle.buffer.specs.Buffer.{zeros}
 use Rattle.buffer.specs.declared.Found.{Found}
 use Rattle.buffer.specs.declared.Found.TheVariants.{At, Nowhere}
 use Rattle.buffer.proofs.Bools.{and_left}
-use Rattle.disc.specs.Directory.{file_count, good_disc, is_disc_length, lookup}
+use Rattle.place.proofs.Place.{Fits}
+use Rattle.disc.specs.Directory.{file_count, good_disc, is_disc_length, lookup, taken}
 use Rattle.disc.specs.Layout.{data_start, max_files}
 use Rattle.disc.specs.Name.{good_name}
 use Rattle.disc.proofs.Goodness.{good-disc-is}
@@ -22,7 +23,7 @@ use Rattle.store.specs.declared.Admission.TheVariants.{Start, Denied}
 use Rattle.store.specs.declared.Refusal.{Refusal}
 use Rattle.store.specs.declared.Refusal.TheVariants.{WrongLength, BadDisc, ShortOutput, BadName, BadSize, NameExists, DirectoryFull}
 use Rattle.store.specs.declared.Refusal.TheVariants.{NoRun, NoSuchFile}
-use Rattle.store.proofs.Rooms.{no-place-no-room, place-placed}
+use Rattle.store.proofs.Rooms.{found-fits, no-place-no-room, place-placed}
 
 -- admitted at start s
 pub record Admitted (disc name : List ℕ) (n s : ℕ) : Type 0 where
@@ -31,6 +32,7 @@ pub record Admitted (disc name : List ℕ) (n s : ℕ) : Type 0 where
   pub few : file_count disc < max_files
   pub new : lookup disc name ≡ Nowhere
   pub found : place_of disc n ≡ At s
+  pub placed : Fits (taken disc) data_start (length disc) n s
 
 -- at the place that is its due
 pub admitted-placed : {disc name : List ℕ} {n s : ℕ} → Admitted disc name n s → Placed disc n s
@@ -80,6 +82,7 @@ module _ (disc name : List ℕ) (n : ℕ) where
             few = ltb-true (file_count disc) max_files r;
             new = t;
             found = u;
+            placed = found-fits disc n s u;
           }
 
   pub admitted : (s : ℕ) → admission disc name n ≡ Start s → Admitted disc name n s

@@ -9,9 +9,9 @@ use lib.IntN.{ℤ, pos}
 use lib.ListN.{length}
 use lib.Signed.{◌<ℤ◌}
 use Rattle.disc.specs.Directory.{good_disc, is_disc_length}
+use Rattle.buffer.specs.declared.Found.TheVariants.{At, Nowhere}
 use Rattle.store.specs.Answer.{Updated, answer_number, free_space_answer, store_answer, store_at, updated}
-use Rattle.store.specs.File.{admission, room_on, stored}
-use Rattle.store.specs.Room.{HasRoom, NoRoom}
+use Rattle.store.specs.File.{admission, place_of, room_on, stored}
 use Rattle.store.specs.declared.Admission.{Admission}
 use Rattle.store.specs.declared.Admission.TheVariants.{Start, Denied}
 use Rattle.store.specs.declared.Answer.TheVariants.{Done, Refused}
@@ -20,7 +20,7 @@ use Rattle.store.specs.declared.Refusal.TheVariants.{WrongLength, BadDisc, Short
 use Rattle.store.specs.declared.Refusal.TheVariants.{NoRun, NoSuchFile}
 use Rattle.store.proofs.Checks.{by-checks}
 use Rattle.store.proofs.Admissions.{Admitted, Denial, admitted, denied}
-use Rattle.store.proofs.Rooms.{room-on-has, room-on-most}
+use Rattle.store.proofs.Rooms.{room-on-fits, room-on-most}
 
 -- ---- numbers
 -- "0 or more is done [..], −n is refusal n"
@@ -66,9 +66,11 @@ module _ (disc : List ℕ) (n : ℕ) where
       (λ e h. absurd (refused-not-done BadDisc n h))
       (λ e f h. (e, cc))
 
-  -- a file of that length has room, no longer one has
-  pub free-space-has : free_space_answer disc ≡ pos n → 0 < n → HasRoom disc n
-  free-space-has e = subst (λ (k : ℕ). 0 < k → HasRoom disc k) (free-space-is e).1 (room-on-has disc)
+  -- a file of that length has a place
+  pub free-space-fits : free_space_answer disc ≡ pos n → 0 < n → (s : ℕ) × (place_of disc n ≡ At s)
+  free-space-fits e h =
+      subst (λ (k : ℕ). 0 < k → (s : ℕ) × (place_of disc k ≡ At s)) (free-space-is e).1 (room-on-fits disc) h
 
-  pub free-space-most : free_space_answer disc ≡ pos n → (m : ℕ) → n < m → NoRoom disc m
+  -- no longer one has
+  pub free-space-most : free_space_answer disc ≡ pos n → (m : ℕ) → n < m → place_of disc m ≡ Nowhere
   free-space-most e m h = let f = free-space-is e in room-on-most disc f.0 m (omega (arith, f.1))

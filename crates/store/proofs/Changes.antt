@@ -3,14 +3,14 @@ use Prim.Native.Nat.{ℕ, suc, ◌+◌, ◌*◌, ◌-◌, ◌≤◌, ◌<◌}
 use mathlib.Core.Path.{◌≡◌, refl, sym, ap, ◌∙◌}
 use mathlib.Core.Bool.{Bool, true, false}
 use mathlib.Core.List.{List, [], ◌∷◌, ◌++◌}
-use mathlib.Core.Logic.{◌⊎◌, inr, ⊎_elim}
+use mathlib.Core.Logic.{◌⊎◌, ⊎_elim}
 use native.Mathlib.Omega.{arith}
 use lib.Dec.{ltb}
-use lib.ListN.{length, get_or, take, replicate, length-append}
+use lib.ListN.{drop, length, get_or, take, replicate, length-append}
 use borrow.Author.Tests.{ltb-false, ltb-true}
 use Rattle.buffer.specs.Buffer.{overwrite, part}
 use Rattle.buffer.specs.Lists.{tab, without}
-use Rattle.buffer.proofs.Buffer.{overwrite-length}
+use Rattle.buffer.proofs.Buffer.{overwrite-drop, overwrite-length}
 use Rattle.buffer.proofs.Lists.{tab-more, tab-same}
 use Rattle.buffer.proofs.Parts.{byte-before, byte-behind, byte_inside, byte-of-part, part-before, part-inside, part_length}
 use Rattle.buffer.proofs.Parts.{part-of-append-left, part-of-append-right, part-of-part, same-part}
@@ -29,6 +29,7 @@ use Rattle.store.specs.File.{entered, erased, new_entry, written_at}
 record DirectoryChange (disc : List ℕ) (at : ℕ) (s : List ℕ) (count : ℕ) (after : List ℕ) : Type 0 where
   same_length : length after ≡ length disc
   new-count : file_count after ≡ count
+  same-data : drop data_start after ≡ drop data_start disc
   parts : (i n : ℕ) → i + n ≤ count_at → part after i n ≡ part (overwrite disc at s) i n
   same-bytes : (i : ℕ) → (i < at) ⊎ (at + length s ≤ i) → (i ≡ count_at → ⊥) → get_or after i 0 ≡ get_or disc i 0
 
@@ -42,6 +43,8 @@ directory-change disc s at count h l =
     record {
       same_length = overwrite-length (overwrite disc at s) (count ∷ []) count_at room ∙ same;
       new-count = byte_inside (overwrite disc at s) (count ∷ []) count_at room 0 (omega arith);
+      same-data = overwrite-drop (overwrite disc at s) (count ∷ []) count_at room data_start (omega arith)
+          ∙ overwrite-drop disc s at inside data_start (omega arith);
       parts = λ i n k. part-before (overwrite disc at s) (count ∷ []) count_at room i n k;
       same-bytes = λ i o k. byte-but (overwrite disc at s) count i room k
           ∙ ⊎_elim (byte-before disc s at inside i) (byte-behind disc s at inside i) o;
@@ -78,8 +81,8 @@ module _ {disc name : List ℕ} (n start : ℕ) (room : Room disc name) where
   pub entered-count : file_count (entered disc name n start) ≡ file_count disc + 1
   entered-count = entering.new-count
 
-  pub entered-data : (j : ℕ) → data_start ≤ j → get_or (entered disc name n start) j 0 ≡ get_or disc j 0
-  entered-data j h = entering.same-bytes j (inr (omega (arith, entry_length, room.few))) (λ e. omega arith)
+  pub entered-data : drop data_start (entered disc name n start) ≡ drop data_start disc
+  entered-data = entering.same-data
 
   -- every byte but the new entry's sixteen and the count is as it was
   pub entered-byte : (i : ℕ) → (i < file_count disc * entry_size) ⊎ (file_count disc * entry_size + entry_size ≤ i) → (i ≡ count_at → ⊥)
@@ -135,8 +138,8 @@ module _ {disc : List ℕ} {i : ℕ} (file : Present disc i) where
   pub erased-count : file_count (erased disc i) ≡ file_count disc - 1
   erased-count = erasing.new-count
 
-  pub erased-data : (j : ℕ) → data_start ≤ j → get_or (erased disc i) j 0 ≡ get_or disc j 0
-  erased-data j h = erasing.same-bytes j (inr (omega (arith, moved_length, file.few))) (λ e. omega arith)
+  pub erased-data : drop data_start (erased disc i) ≡ drop data_start disc
+  erased-data = erasing.same-data
 
   -- every byte but the count and those from the erased entry to the last is as it was
   pub erased-byte : (j : ℕ) → (j < i * entry_size) ⊎ (file_count disc * entry_size ≤ j) → (j ≡ count_at → ⊥)

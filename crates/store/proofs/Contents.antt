@@ -1,22 +1,23 @@
 -- Laws of what files hold: their length, what keeps them, what a write makes of them.
-use Prim.Native.Nat.{ℕ, ◌+◌, ◌≤◌, ◌<◌}
+use Prim.Native.Nat.{ℕ, ◌+◌, ◌-◌, ◌≤◌, ◌<◌}
 use mathlib.Core.Path.{◌≡◌, sym, ap, ◌∙◌}
 use mathlib.Core.Bool.{true}
 use mathlib.Core.List.{List}
 use native.Mathlib.Omega.{arith}
-use lib.ListN.{drop, length, get_or, length-take}
-use lib.Seq.{take_all}
+use lib.ListN.{drop, length, get_or, length-take, take}
+use lib.Seq.{drop-drop, take_all}
 use Rattle.buffer.specs.Buffer.{overwrite, part}
 use Rattle.buffer.proofs.Buffer.{overwrite-part}
 use Rattle.buffer.proofs.Parts.{part_length}
 use Rattle.buffer.specs.Scattered.{gathered}
 use Rattle.buffer.proofs.Scattered.{gathered-same, scattered-elsewhere, scattered-gathered}
 use Rattle.place.specs.declared.Run.{Run}
-use Rattle.disc.specs.Directory.{Held, contents, entry_at, file_count, good_disc, location, run_of}
+use Rattle.disc.specs.Directory.{contents, entry_at, file_count, good_disc, location, run_of}
 use Rattle.disc.specs.Layout.{data_start}
-use Rattle.disc.proofs.Locations.{contents-gathered, file-held, files-apart, held-data, held-distinct, held-inside, location-kept}
+use Rattle.disc.proofs.Goodness.{good-entry-at}
+use Rattle.disc.proofs.Locations.{contents-gathered, file-held, files-apart, held-distinct, held-inside, location-kept}
 use Rattle.store.specs.File.{entered, erased, read_at, written_at}
-use Rattle.store.proofs.Changes.{Inside, Room, entered-data, entered-length, erased-data, erased-length, written-length}
+use Rattle.store.proofs.Changes.{Inside, Present, Room, entered-data, erased-data, written-length}
 use Rattle.store.proofs.Changes.{written-scattered}
 use Rattle.store.proofs.Invariant.{present}
 
@@ -39,28 +40,31 @@ pub read_all : (disc : List ℕ) (run : Run) → read_at disc run 0 run.len ≡ 
 unfolding read_at
 read_all disc run = take_all run.len (contents disc run) (contents-short disc run)
 
--- ---- what leaves the data bytes as they are keeps what a file holds
-kept-contents : (d : List ℕ) {e : List ℕ} {run : Run} → Held e run → length d ≡ length e
-    → ((j : ℕ) → data_start ≤ j → get_or d j 0 ≡ get_or e j 0)
-    → contents d run ≡ contents e run
-kept-contents d {e} {run} h long same =
-    contents-gathered d run (omega (arith, long, held-inside h))
-    ∙ gathered-same (location d run) (location e run) d e run.len
-    (λ i k. ap (λ (j : ℕ). get_or d j 0) (location-kept d e run i) ∙ same (location e run i) (held-data h i k))
-    ∙ sym (contents-gathered e run (held-inside h))
+-- ---- what leaves the data bytes as they are keeps what a run of them holds
+same-contents : (d e : List ℕ) (run : Run) → drop data_start d ≡ drop data_start e → data_start ≤ run.start → contents d run ≡ contents e run
+unfolding contents
+same-contents d e run q h = sym (from d) ∙ ap (λ (l : List ℕ). part l (run.start - data_start) run.len) q ∙ from e
+  where
+    from : (l : List ℕ) → part (drop data_start l) (run.start - data_start) run.len ≡ part l run.start run.len
+    from l =
+        let m : data_start + (run.start - data_start) ≡ run.start = omega arith in
+        ap (λ (r : List ℕ). take run.len r) (drop-drop (run.start - data_start) data_start l) ∙ ap (λ (k : ℕ). part l k run.len) m
+
+pub erased-contents : {disc : List ℕ} {i : ℕ} → Present disc i → (run : Run) → data_start ≤ run.start
+    → contents (erased disc i) run ≡ contents disc run
+erased-contents {disc} {i} file run h = same-contents (erased disc i) disc run (erased-data file) h
 
 module _ (disc : List ℕ) (good : good_disc disc ≡ true) (j : ℕ) (k : j < file_count disc) where
   pub entered-contents : {name : List ℕ} (n s : ℕ) → Room disc name
       → contents (entered disc name n s) (run_of (entry_at disc j)) ≡ contents disc (run_of (entry_at disc j))
   entered-contents {name} n s room =
-      kept-contents (entered disc name n s) (file-held disc good j k) (entered-length n s room) (entered-data n s room)
+      same-contents (entered disc name n s) disc (run_of (entry_at disc j)) (entered-data n s room) (good-entry-at disc good j k).low
 
   -- a file goes: every other keeps what it holds
   pub erased-other-file : (i : ℕ) → i < file_count disc → (i ≡ j → ⊥)
       → contents (erased disc i) (run_of (entry_at disc j)) ≡ contents disc (run_of (entry_at disc j))
   erased-other-file i h d =
-      let gone = present disc good i h in
-      kept-contents (erased disc i) (file-held disc good j k) (erased-length gone) (erased-data gone)
+      erased-contents (present disc good i h) (run_of (entry_at disc j)) (good-entry-at disc good j k).low
 
   -- a write in one file leaves what every other file holds
   pub written-other-file : (i offset : ℕ) (bytes : List ℕ) → i < file_count disc → (i ≡ j → ⊥)

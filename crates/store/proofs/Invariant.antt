@@ -8,9 +8,8 @@ use lib.ListN.{length}
 use Rattle.buffer.proofs.Tables.{all_map, all-tab-at, all-tab-each}
 use Rattle.place.specs.Place.{apart, run_from}
 use Rattle.place.specs.declared.Run.{Run}
-use Rattle.place.proofs.Place.{Fits, apart-sym}
-use Rattle.disc.specs.Directory.{beside, entry_at, file_count, files, good_disc, run_of, taken}
-use Rattle.disc.specs.Layout.{data_start}
+use Rattle.place.proofs.Place.{apart-sym}
+use Rattle.disc.specs.Directory.{beside, entry_at, file_count, files, good_disc, run_of}
 use Rattle.disc.proofs.Goodness.{Beside, GoodEntry, good-disc-is, good-entry-at, good-files-less, good-files-more, is-beside}
 use Rattle.disc.proofs.Goodness.{is-good-disc, is-good-entry}
 use Rattle.disc.proofs.Locations.{file-held}
@@ -20,26 +19,22 @@ use Rattle.store.specs.File.{entered, erased, new_entry, written_at}
 use Rattle.store.proofs.Admissions.{Admitted}
 use Rattle.store.proofs.Changes.{Inside, Present, Room, entered-count, entered-files, entered-length, erased-count, erased-files}
 use Rattle.store.proofs.Changes.{erased-length, written_count, written-files, written-length}
-use Rattle.store.proofs.Rooms.{found-fits}
 
 -- ---- what enters
 module _ {disc name : List ℕ} {n s : ℕ} (a : Admitted disc name n s) where
-  pub placed : Fits (taken disc) data_start (length disc) n s
-  placed = found-fits disc n s a.found
-
   -- place and length fit 16 bits
   pub admitted-small : length disc ≤ 65535 → (s < 65536) × (n < 65536)
-  admitted-small h = omega (arith, placed.high)
+  admitted-small h = omega (arith, a.placed.high)
 
   pub room : Room disc name
   room = record {
-    low = omega (arith, placed.low, placed.high);
+    low = omega (arith, a.placed.low, a.placed.high);
     few = a.few;
     short = omega (arith, (good-name-is name a.good).short);
   }
 
   pub new-entry-good : GoodEntry (length disc) (new_entry name n s)
-  new-entry-good = record { field = padded-good name a.good; some = a.some; low = placed.low; high = placed.high }
+  new-entry-good = record { field = padded-good name a.good; some = a.some; low = a.placed.low; high = a.placed.high }
 
   pub new-entry-beside : (i : ℕ) → i < file_count disc → Beside (entry_at disc i) (new_entry name n s)
   new-entry-beside i h =
@@ -47,7 +42,7 @@ module _ {disc name : List ℕ} {n s : ℕ} (a : Admitted disc name n s) where
         differ = λ q. lookup-none a.new (record { good = a.good; inside = h; held = q });
         clear = apart-sym (run_from s n) (run_of (entry_at disc i))
             (all-tab-at (entry_at disc) (file_count disc) (λ e. apart (run_from s n) (run_of e)) i h
-            (sym (all_map (apart (run_from s n)) run_of (files disc)) ∙ placed.free));
+            (sym (all_map (apart (run_from s n)) run_of (files disc)) ∙ a.placed.free));
       }
 
   pub entered-good : good_disc disc ≡ true → good_disc (entered disc name n s) ≡ true

@@ -70,10 +70,13 @@ module _ (disc : List ℕ) (n : ℕ) where
   unfolding place_of HasRoom
   no-place-no-room e r = true-not-false (free-fits r.0 r.1) (no-place-none-fits (taken disc) data_start (length disc) n e r.0)
 
+  pub placed-free : (s : ℕ) → place_of disc n ≡ At s → Free disc n s
+  placed-free s e = fits-free s (is-fits (taken disc) data_start (length disc) n s (found-fits s e))
+
   -- ---- what the words mean
-  pub placed-shortest : (s : ℕ) → Placed disc n s → ShortestFit (Free disc) n s
+  pub placed-is : (s : ℕ) → Placed disc n s → ShortestFit (Free disc) n s
   unfolding Placed
-  placed-shortest s p = p
+  placed-is s p = p
 
   pub room-free : HasRoom disc n → (s : ℕ) × Free disc n s
   unfolding HasRoom
@@ -83,13 +86,19 @@ module _ (disc : List ℕ) (n : ℕ) where
   unfolding HasRoom
   free-room s f = (s, f)
 
+  pub no-place-none-free : place_of disc n ≡ Nowhere → (s : ℕ) → Free disc n s → ⊥
+  no-place-none-free e s f = no-place-no-room e (free-room s f)
+
 pub place-placed : (disc : List ℕ) (n s : ℕ) → 1 ≤ n → place_of disc n ≡ At s → Placed disc n s
 unfolding Placed place_of
 place-placed disc n s some e =
     shortest-fit-as (λ m t. fits (taken disc) data_start (length disc) m t ≡ true) (Free disc) (fits-free disc) (free-fits disc) n s
     (place-shortest-fit (taken disc) data_start (length disc) n s some e)
 
--- ---- free space: a file that long has room, no longer one has
+pub placed-shortest : (disc : List ℕ) (n s : ℕ) → 1 ≤ n → place_of disc n ≡ At s → ShortestFit (Free disc) n s
+placed-shortest disc n s some e = placed-is disc n s (place-placed disc n s some e)
+
+-- ---- free space: a file that long has a place, no longer one has
 module _ (disc : List ℕ) where
   pub room-on-is : room_on disc ≡ longest (taken disc) data_start (length disc)
   unfolding room_on
@@ -99,21 +108,20 @@ module _ (disc : List ℕ) where
   unfolding room_on
   room-on-small = omega (arith, longest-bound (taken disc) data_start (length disc))
 
-  pub room-on-has : 0 < room_on disc → HasRoom disc (room_on disc)
+  pub room-on-fits : 0 < room_on disc → (s : ℕ) × (place_of disc (room_on disc) ≡ At s)
   unfolding place_of room_on
-  room-on-has h = go (place_of disc (room_on disc)) refl
+  room-on-fits h = go (place_of disc (room_on disc)) refl
     where
       some : is_at (place_of disc (room_on disc)) ≡ true
       some = longest-fits (taken disc) data_start (length disc) h
 
-      go : (f : Found) → place_of disc (room_on disc) ≡ f → HasRoom disc (room_on disc)
-      go (At s) q = place-room disc (room_on disc) s q
+      go : (f : Found) → place_of disc (room_on disc) ≡ f → (s : ℕ) × (place_of disc (room_on disc) ≡ At s)
+      go (At s) q = (s, q)
       go Nowhere q = absurd (true-not-false some (ap is_at q))
 
-  pub room-on-most : is_disc_length (length disc) ≡ true → (m : ℕ) → room_on disc < m → NoRoom disc m
+  pub room-on-most : is_disc_length (length disc) ≡ true → (m : ℕ) → room_on disc < m → place_of disc m ≡ Nowhere
   unfolding place_of room_on
-  room-on-most long m h =
-      no-place-no-room disc m (longest-most (taken disc) data_start (length disc) (disc-bounds (length disc) long).low m h)
+  room-on-most long m h = longest-most (taken disc) data_start (length disc) (disc-bounds (length disc) long).low m h
 
 -- ---- the longest file
 pub size-limit-is : (disc : List ℕ) → size_limit disc ≡ length disc - data_start

@@ -30,7 +30,7 @@ use Rattle.store.specs.declared.Checked.TheVariants.{Usable, Unusable}
 use Rattle.store.specs.declared.Refusal.{Refusal}
 use Rattle.store.specs.declared.Refusal.TheVariants.{WrongLength, BadDisc, ShortOutput, BadName, BadSize, DirectoryFull}
 use Rattle.store.specs.Room.{Free}
-use Rattle.store.proofs.Rooms.{free-room, no-place-no-room, place-room, room-free}
+use Rattle.store.proofs.Rooms.{no-place-none-free, placed-free}
 use Rattle.machine.specs.Answer.{Answer, Buffers, Other, store, retrieve, erase, files, free_space, list, Call, turn, round}
 use Rattle.machine.specs.Answer.{command, share, run, other}
 use Rattle.machine.specs.Answer.{answer, boot_answer, command_answer, erase_at, format_answer, good_area, on_disc, on_good, on_output}
@@ -191,10 +191,10 @@ module _ (b : Buffers) where
       new fit (At i) e g q = fails refl (λ h. h i (lookup-named b.disc name i e))
       new fit Nowhere e Nowhere q =
           holds_then (lookup-no-file b.disc fit.long fit.good name e)
-          (fails refl (λ r. no-place-no-room b.disc (length bytes) q (free-room b.disc (length bytes) r.0 r.1)))
+          (fails refl (λ r. no-place-none-free b.disc (length bytes) q r.0 r.1))
       new fit Nowhere e (At s) q =
           holds_then (lookup-no-file b.disc fit.long fit.good name e)
-          (holds_then (room-free b.disc (length bytes) (place-room b.disc (length bytes) s q)) (done 0 refl))
+          (holds_then (s, placed-free b.disc (length bytes) s q) (done 0 refl))
 
   retrieve-decided : (name : List ℕ) → Decided (other_tests (retrieve name) b) b (answer (other (retrieve name)) b)
   unfolding answer other_answer retrieve_answer

@@ -21,11 +21,10 @@ use Rattle.store.specs.Answer.{Reported, file_line, files_answer, reported, retr
 use Rattle.store.specs.File.{unless}
 use Rattle.store.specs.declared.Answer.TheVariants.{Done, Refused}
 use Rattle.store.specs.declared.Refusal.TheVariants.{ShortOutput}
-use Rattle.store.proofs.Admissions.{admitted-placed}
-use Rattle.store.proofs.Calls.{free-space-has, free-space-most, refused-not-done, store-cases}
+use Rattle.store.proofs.Calls.{free-space-fits, free-space-most, refused-not-done, store-cases}
 use Rattle.store.proofs.Checks.{by-checks}
 use Rattle.store.proofs.Invariant.{present}
-use Rattle.store.proofs.Rooms.{free-room, placed-shortest, room-free}
+use Rattle.store.proofs.Rooms.{no-place-none-free, placed-free, placed-shortest}
 use Rattle.store.specs.Room.{Free}
 use Rattle.machine.specs.Answer.{Answer, answer, erase_at, other_answer}
 use Rattle.machine.specs.Changed.{Enters, Leaves}
@@ -47,7 +46,7 @@ store-done b name bytes n =
     (λ r d h. absurd (refused-not-done r n h))
     (λ s l g a h.
     let zero : n ≡ 0 = cc in
-    (zero, (s, placed-shortest b.disc (length bytes) s (admitted-placed a), stored-enters bytes g a)))
+    (zero, (s, placed-shortest b.disc (length bytes) s a.some a.found, stored-enters bytes g a)))
 
 -- ---- what is written into the output
 written : (fit : Bool) (m n : ℕ) (out after : List ℕ)
@@ -109,6 +108,6 @@ erase-done b name n = done-tests Erased b n _ λ passes. found passes (lookup b.
 pub free-space-done : FreeSpaceDone
 unfolding answer other_answer
 free-space-done b n e = (
-  λ some. room-free b.disc n (free-space-has b.disc n e some),
-  λ m start h free. free-space-most b.disc n e m h (free-room b.disc m start free),
+  λ some. let f = free-space-fits b.disc n e some in (f.0, placed-free b.disc n f.0 f.1),
+  λ m start h. no-place-none-free b.disc m (free-space-most b.disc n e m h) start,
 )

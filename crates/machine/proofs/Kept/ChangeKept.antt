@@ -8,14 +8,13 @@ use native.Mathlib.Omega.{arith}
 use lib.ListN.{get_or}
 use Rattle.buffer.specs.declared.Found.TheVariants.{At, Nowhere}
 use Rattle.place.specs.declared.Run.{Run}
-use Rattle.disc.specs.Directory.{contents}
+use Rattle.disc.specs.Directory.{FileAt, contents}
 use Rattle.variable.specs.Table.{owned}
 use Rattle.machine.specs.State.{is_live, process_at, slot_of}
 use Rattle.machine.specs.Turn.{program_of}
 use Rattle.machine.specs.declared.Kernel.{Kernel}
 use Rattle.machine.specs.declared.Process.{Process}
 use Rattle.machine.proofs.Changes.Change.{GoodState, Own, moves, Writes, Change, acts, writes}
-use Rattle.machine.proofs.Changes.Directories.{UsedAt}
 use Rattle.machine.proofs.Kept.Begun.{Begun}
 use Rattle.machine.proofs.Kept.EndedIds.{outside-begun, outside-gone}
 use Rattle.machine.proofs.Kept.Gone.{Gone}
@@ -73,12 +72,12 @@ module _ (name : List ℕ) (w : ℕ) (k : Kernel) (disc : List ℕ) (j : Kernel)
         record { process = own-process s other o; variables = own-variables s good live other o }
 
   -- ---- a file
-  pub change-contents : {file : Run} → UsedAt k disc file → NoWriteInto file w k disc j → Change name w k disc j after
+  pub change-contents : {file : Run} → FileAt disc file → NoWriteInto file w k disc j → Change name w k disc j after
       → contents after file ≡ contents disc file
   change-contents file safe (acts m o still x) = outside-contents good file o
   change-contents file safe (writes x) =
       let p : process_at j w ≡ x.process = ap (λ (h : Kernel). process_at h w) x.kernel ∙ put-at k w x.process x.goes.before in
-      writes-contents good x file.file (safe x.instruction (ap is_live p ∙ x.goes.live))
+      writes-contents good x file (safe x.instruction (ap is_live p ∙ x.goes.live))
 
   -- ---- IDs
   pub change-gone : (i : ℕ) → Gone i k → Change name w k disc j after → Gone i j

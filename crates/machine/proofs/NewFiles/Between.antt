@@ -13,7 +13,7 @@ use Rattle.buffer.specs.declared.Found.{Found}
 use Rattle.buffer.specs.declared.Found.TheVariants.{At}
 use Rattle.buffer.proofs.Bools.{and_both, and-false-right, and_left, and_right, true-not-false}
 use Rattle.buffer.proofs.Disjunctions.{or-false-left, or-false-right}
-use Rattle.disc.specs.Directory.{contents, files}
+use Rattle.disc.specs.Directory.{FileAt, contents, files}
 use Rattle.machine.specs.Answer.{Answer, Buffers, Call, turn, round, command, share, run, other, answer, command_answer}
 use Rattle.machine.specs.Area.{kernel_bytes, kernel_of}
 use Rattle.machine.specs.Beyond.{file_run}
@@ -31,7 +31,7 @@ use Rattle.machine.specs.declared.Kernel.{Kernel}
 use Rattle.machine.specs.declared.OpenFile.{OpenFile}
 use Rattle.machine.specs.declared.Process.{Process}
 use Rattle.machine.proofs.Changes.Change.{GoodState}
-use Rattle.machine.proofs.Changes.Directories.{UsedAt, live-record, open-used}
+use Rattle.machine.proofs.Changes.Directories.{live-record, open_at}
 use Rattle.machine.proofs.Changes.LiveRecords.{running-live}
 use Rattle.machine.proofs.Changes.Replaced.{put-at}
 use Rattle.machine.proofs.Changes.Slots.{live-below-ten, place-is-slot, slot_at, slot_is}
@@ -86,10 +86,10 @@ module _ (i slot : ℕ) (p : Process) (bytes : List ℕ) (named : p.id ≡ i) (s
       same-file : (process_at k slot).file ≡ p.file
       same-file = ap (λ (q : Process). q.file) here
 
-      file : UsedAt k s.disc (file_run p.file)
+      file : FileAt s.disc (file_run p.file)
       file =
-          subst (λ (f : OpenFile). UsedAt k s.disc (file_run f)) same-file
-          (open-used slot live (opened_of (files s.disc) (process_at k slot).file (live-record good slot live).file
+          subst (λ (f : OpenFile). FileAt s.disc (file_run f)) same-file
+          (open_at (opened_of (files s.disc) (process_at k slot).file (live-record good slot live).file
           (ne_eqb (process_at k slot).file.len 0
           (λ (z : (process_at k slot).file.len ≡ 0). omega (arith, some, ap (λ (f : OpenFile). f.len) same-file)))))
 

@@ -18,7 +18,7 @@ use Rattle.disc.proofs.Offsets.{entry-size, entry-start}
 use Rattle.store.specs.File.{admission, stored}
 use Rattle.store.specs.declared.Admission.{Admission}
 use Rattle.store.specs.declared.Admission.TheVariants.{Start, Denied}
-use Rattle.store.proofs.Admissions.{admitted, admitted-placed, zeros-admitted}
+use Rattle.store.proofs.Admissions.{admitted, zeros-admitted}
 use Rattle.store.proofs.Rooms.{placed-shortest}
 use Rattle.machine.specs.Answer.{Buffers}
 use Rattle.machine.specs.AtPc.{process_in, stack_in}
@@ -91,7 +91,7 @@ module _ (b : Buffers) (slot clock : ℕ) where
           let on = continued b slot clock a.may r does pc rest (opened (run_from s n)) (stored b.disc text (zeros n) s) h in
           let enters = subst⁻¹ (λ (after : List ℕ). Enters b.disc after text (zeros n) s) on.1
           (stored-enters (zeros n) good.sound (zeros-admitted d)) in
-          let placed = placed-shortest b.disc n s (admitted-placed d) in
+          let placed = placed-shortest b.disc n s d.some d.found in
           inr (n, fit, (good-is-name text d.good, d.few, (s, placed, on.0, enters)))
 
       sized : lookup b.disc text ≡ Nowhere → (s : Size) → new_file_size b.disc size ≡ s

@@ -13,7 +13,7 @@ use Rattle.buffer.specs.declared.Found.{Found}
 use Rattle.buffer.specs.declared.Found.TheVariants.{At, Nowhere}
 use Rattle.buffer.proofs.Bools.{and_right, true-not-false}
 use Rattle.place.specs.declared.Run.{Run}
-use Rattle.disc.specs.Directory.{contents, entry_at, lookup}
+use Rattle.disc.specs.Directory.{FileAt, contents, entry_at, lookup}
 use Rattle.disc.proofs.Lookups.{lookup-at}
 use Rattle.store.proofs.Calls.{store-cases}
 use Rattle.variable.specs.Table.{owned}
@@ -31,7 +31,6 @@ use Rattle.machine.specs.Trace.{Storage, lending}
 use Rattle.machine.specs.declared.Kernel.{Kernel}
 use Rattle.machine.proofs.Operations.Tests.{tried}
 use Rattle.machine.proofs.Changes.Change.{GoodState, Outside, stores, erases, begins, Own, Change}
-use Rattle.machine.proofs.Changes.Directories.{UsedAt}
 use Rattle.machine.proofs.Kept.ChangeKept.{NoWriteInto, Untouched, change-begun, change-contents, change-gone, change-untouched}
 use Rattle.machine.proofs.Kept.ChangeKept.{gone-after}
 use Rattle.machine.proofs.Demands.GoodCalls.{good-back, on-good, passes-good, turn-good, turn-is-change}
@@ -221,7 +220,7 @@ module _ {s : Storage} {k j : Kernel} {after : List ℕ} (g : GoodState k s.disc
   effects-untouched own live (turn slot clock) away (takes r x) = change-untouched _ slot k s.disc j after g own live away.turns x
 
   -- a file keeps its bytes
-  pub effects-contents : {file : Run} → UsedAt k s.disc file → (c : Call) → Unwritten c file s k j → Effects s k j after c
+  pub effects-contents : {file : Run} → FileAt s.disc file → (c : Call) → Unwritten c file s k j → Effects s k j after c
       → contents after file ≡ contents s.disc file
   effects-contents {file} f c safe (none e d) = ap (λ (l : List ℕ). contents l file) d
   effects-contents f c safe (outside o) = outside-contents g f o

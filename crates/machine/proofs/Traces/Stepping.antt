@@ -30,7 +30,7 @@ use Rattle.machine.specs.declared.Process.{Process}
 use Rattle.machine.proofs.Traces.CallEffects.{Effects, Elsewhere, OfCommand, OfTurn, Unwritten, is_round, call-effects, effects-gone}
 use Rattle.machine.proofs.Traces.CallEffects.{effects-contents, effects-untouched}
 use Rattle.machine.proofs.Changes.Change.{GoodState}
-use Rattle.machine.proofs.Changes.Directories.{program-used}
+use Rattle.machine.proofs.Changes.Directories.{program-at}
 use Rattle.machine.proofs.Kept.ChangeKept.{NoWriteInto, Untouched}
 use Rattle.buffer.proofs.Disjunctions.{or-false-left, or-false-right}
 use Rattle.machine.proofs.Traces.Following.{Follows, Holds, Tracks, on, off, share-follows}
@@ -125,7 +125,7 @@ module _ (i : ℕ) (prog : List ℕ) (s : Storage) (out : List ℕ) (q : Single)
       → Follows i prog (after c) (answer c b).disc q
   others x c h away safe =
       untouched-follows x (effects-untouched good x.slot x.live c away (effects c h))
-      (effects-contents good (program-used good x.slot x.live) c safe (effects c h))
+      (effects-contents good (program-at good x.slot x.live) c safe (effects c h))
 
   gone : (c : Call) → is_round c ≡ false → Gone i k → q.state ≡ 0 → Tracks i prog (after c) (answer c b).disc q
   gone c h g over = off (effects-gone good i c g (effects c h)) over

@@ -10,7 +10,7 @@ use Rattle.store.specs.declared.Admission.{Admission}
 use Rattle.store.specs.declared.Answer.TheVariants.{Done}
 use Rattle.store.specs.declared.Checked.TheVariants.{Usable}
 use Rattle.store.proofs.Admissions.{admitted}
-use Rattle.store.proofs.Invariant.{admitted-small, placed, room}
+use Rattle.store.proofs.Invariant.{admitted-small, room}
 use Rattle.disc_operation.proofs.Checks.{usable}
 use Rattle.disc_operation.proofs.operations.store.Goals as goal
 
@@ -57,7 +57,7 @@ pub write_at-requires : goal.write_at-requires
 write_at-requires c =
     let a = c.args in
     let e = admitted a.disc.now a.name.now (length a.«data».now) c.in-Start.start (sym c.admit.ensures ∙ c.in-Start.is) in
-    (omega arith, omega (arith, (placed e).high))
+    (omega arith, omega (arith, e.placed.high))
 
 pub returns-in-Start : goal.returns-in-Start
 returns-in-Start c =

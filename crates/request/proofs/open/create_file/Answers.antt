@@ -9,7 +9,7 @@ use Rattle.process.specs.Stepping.{left, stack_of}
 use Rattle.stack.specs.Steps.{about, keeping}
 use Rattle.store.specs.declared.Admission.{Admission}
 use Rattle.store.proofs.Admissions.{admitted}
-use Rattle.store.proofs.Invariant.{admitted-small, placed, room}
+use Rattle.store.proofs.Invariant.{admitted-small, room}
 use Rattle.request.proofs.Answering.{answers, breaks-off}
 use Rattle.request.proofs.open.create_file.Goals as goal
 
@@ -20,7 +20,7 @@ create-requires c =
     record {
       readable = c.requires.1;
       disc_bound = (h.few, (room h).short);
-      data_start_le_start = ((placed h).low, (placed h).high);
+      data_start_le_start = (h.placed.low, h.placed.high);
     }
 
 pub overflow_cast-start : goal.overflow_cast-start
