@@ -41,7 +41,8 @@ unfolding read_at
 read_all disc run = take_all run.len (contents disc run) (contents-short disc run)
 
 -- ---- what leaves the data bytes as they are keeps what a run of them holds
-same-contents : (d e : List ℕ) (run : Run) → drop data_start d ≡ drop data_start e → data_start ≤ run.start → contents d run ≡ contents e run
+same-contents : (d e : List ℕ) (run : Run) → drop data_start d ≡ drop data_start e → data_start ≤ run.start
+    → contents d run ≡ contents e run
 unfolding contents
 same-contents d e run q h = sym (from d) ∙ ap (λ (l : List ℕ). part l (run.start - data_start) run.len) q ∙ from e
   where
