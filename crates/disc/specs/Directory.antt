@@ -98,7 +98,7 @@ pub record FileAt (disc : List ℕ) (run : Run) : Type 0 where
   pub inside : place < file_count disc
   pub run_is : run ≡ run_of (entry_at disc place)
 
--- what code needs to know of a file to read and write its bytes
+-- a file of a good disc
 pub record Held (disc : List ℕ) (run : Run) : Type 0 where
   pub sound : good_disc disc ≡ true
   pub file : FileAt disc run

@@ -17,13 +17,13 @@ use Rattle.disc.specs.Layout.{data_start, max_files}
 use Rattle.disc.specs.Name.{good_name}
 use Rattle.disc.proofs.Goodness.{good-disc-is}
 use Rattle.store.specs.File.{admission, deny_if_found, good_size, place_of, start_or, unless}
-use Rattle.store.specs.Room.{NoRoom, Placed}
+use Rattle.store.specs.Room.{NoRoom}
 use Rattle.store.specs.declared.Admission.{Admission}
 use Rattle.store.specs.declared.Admission.TheVariants.{Start, Denied}
 use Rattle.store.specs.declared.Refusal.{Refusal}
 use Rattle.store.specs.declared.Refusal.TheVariants.{WrongLength, BadDisc, ShortOutput, BadName, BadSize, NameExists, DirectoryFull}
 use Rattle.store.specs.declared.Refusal.TheVariants.{NoRun, NoSuchFile}
-use Rattle.store.proofs.Rooms.{found-fits, no-place-no-room, place-placed}
+use Rattle.store.proofs.Rooms.{found-fits, no-place-no-room}
 
 -- admitted at start s
 pub record Admitted (disc name : List ℕ) (n s : ℕ) : Type 0 where
@@ -33,10 +33,6 @@ pub record Admitted (disc name : List ℕ) (n s : ℕ) : Type 0 where
   pub new : lookup disc name ≡ Nowhere
   pub found : place_of disc n ≡ At s
   pub placed : Fits (taken disc) data_start (length disc) n s
-
--- at the place that is its due
-pub admitted-placed : {disc name : List ℕ} {n s : ℕ} → Admitted disc name n s → Placed disc n s
-admitted-placed {disc} {name} {n} {s} a = place-placed disc n s a.some a.found
 
 -- where n bytes are admitted, n zeros are
 pub zeros-admitted : {disc name : List ℕ} {n s : ℕ} → Admitted disc name n s → Admitted disc name (length (zeros n)) s

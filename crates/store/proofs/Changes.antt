@@ -15,13 +15,13 @@ use Rattle.buffer.proofs.Lists.{tab-more, tab-same}
 use Rattle.buffer.proofs.Parts.{byte-before, byte-behind, byte_inside, byte-of-part, part-before, part-inside, part_length}
 use Rattle.buffer.proofs.Parts.{part-of-append-left, part-of-append-right, part-of-part, same-part}
 use Rattle.buffer.specs.Scattered.{scattered}
-use Rattle.buffer.proofs.Scattered.{scattered-before, scattered-byte, scattered-length, scattered-other, scattered-overwrite}
+use Rattle.buffer.proofs.Scattered.{scattered-before, scattered-length, scattered-other, scattered-overwrite}
 use Rattle.buffer.proofs.Tables.{tab-without}
 use Rattle.place.specs.declared.Run.{Run}
 use Rattle.disc.specs.Directory.{Held, entry_at, entry_bytes, file_count, files, location}
 use Rattle.disc.specs.Layout.{count_at, data_start, entry_size, max_files, name_size}
 use Rattle.disc.proofs.Entries.{entry-bytes-length, entry-laid, same_count, same-entry, same-files}
-use Rattle.disc.proofs.Locations.{held-data, held-distinct, held-inside}
+use Rattle.disc.proofs.Locations.{held-data, held-inside}
 use Rattle.disc.proofs.Names.{padded-length}
 use Rattle.store.specs.File.{entered, erased, new_entry, written_at}
 
@@ -240,13 +240,7 @@ module _ {disc : List ℕ} {run : Run} {offset : ℕ} (bytes : List ℕ) (inside
   written_entry i h = same-entry (written_at disc run offset bytes) disc i i
       (same-part (written_at disc run offset bytes) disc data_start (i * entry_size) entry_size written-directory (omega arith))
 
-  -- each byte lies at its place, and every other byte of the disc stays
-  pub written-there : (i : ℕ) → i < length bytes
-      → get_or (written_at disc run offset bytes) (location disc run (offset + i)) 0 ≡ get_or bytes i 0
-  written-there i h =
-      ap (λ (l : List ℕ). get_or l (location disc run (offset + i)) 0) written-scattered
-      ∙ scattered-byte (location disc run) run.len offset disc bytes (held-distinct inside.held) inside.fits i h
-
+  -- a byte at none of their places stays
   pub written-other : (j : ℕ) → ((i : ℕ) → i < length bytes → j ≡ location disc run (offset + i) → ⊥)
       → get_or (written_at disc run offset bytes) j 0 ≡ get_or disc j 0
   written-other j o =

@@ -22,7 +22,7 @@ use Rattle.disc.specs.declared.Entry.{Entry}
 use Rattle.disc.proofs.Lengths.{disc-bounds}
 use Rattle.disc.proofs.Offsets.{entry-size, entry-start}
 use Rattle.store.specs.File.{place_of, room_on, size_limit}
-use Rattle.store.specs.Room.{Free, HasRoom, NoRoom, Placed}
+use Rattle.store.specs.Room.{Free, HasRoom, NoRoom}
 
 -- ---- bytes that are no file's, as the search tests them
 module _ (disc : List ℕ) (n : ℕ) where
@@ -62,10 +62,6 @@ module _ (disc : List ℕ) (n : ℕ) where
   found-fits s e = place-fits (taken disc) data_start (length disc) n s e
 
   -- ---- what the search says
-  pub place-room : (s : ℕ) → place_of disc n ≡ At s → HasRoom disc n
-  unfolding HasRoom
-  place-room s e = (s, fits-free s (is-fits (taken disc) data_start (length disc) n s (found-fits s e)))
-
   pub no-place-no-room : place_of disc n ≡ Nowhere → NoRoom disc n
   unfolding place_of HasRoom
   no-place-no-room e r = true-not-false (free-fits r.0 r.1) (no-place-none-fits (taken disc) data_start (length disc) n e r.0)
@@ -74,10 +70,6 @@ module _ (disc : List ℕ) (n : ℕ) where
   placed-free s e = fits-free s (is-fits (taken disc) data_start (length disc) n s (found-fits s e))
 
   -- ---- what the words mean
-  pub placed-is : (s : ℕ) → Placed disc n s → ShortestFit (Free disc) n s
-  unfolding Placed
-  placed-is s p = p
-
   pub room-free : HasRoom disc n → (s : ℕ) × Free disc n s
   unfolding HasRoom
   room-free r = r
@@ -89,14 +81,11 @@ module _ (disc : List ℕ) (n : ℕ) where
   pub no-place-none-free : place_of disc n ≡ Nowhere → (s : ℕ) → Free disc n s → ⊥
   no-place-none-free e s f = no-place-no-room e (free-room s f)
 
-pub place-placed : (disc : List ℕ) (n s : ℕ) → 1 ≤ n → place_of disc n ≡ At s → Placed disc n s
-unfolding Placed place_of
-place-placed disc n s some e =
+pub placed-shortest : (disc : List ℕ) (n s : ℕ) → 1 ≤ n → place_of disc n ≡ At s → ShortestFit (Free disc) n s
+unfolding place_of
+placed-shortest disc n s some e =
     shortest-fit-as (λ m t. fits (taken disc) data_start (length disc) m t ≡ true) (Free disc) (fits-free disc) (free-fits disc) n s
     (place-shortest-fit (taken disc) data_start (length disc) n s some e)
-
-pub placed-shortest : (disc : List ℕ) (n s : ℕ) → 1 ≤ n → place_of disc n ≡ At s → ShortestFit (Free disc) n s
-placed-shortest disc n s some e = placed-is disc n s (place-placed disc n s some e)
 
 -- ---- free space: a file that long has a place, no longer one has
 module _ (disc : List ℕ) where

@@ -1,7 +1,5 @@
--- Where a new file can go, and where it goes. The demands speak of places on the disc in these words; no answer is made
--- of them.
+-- Where a new file can go. The demands speak of places on the disc in these words; no answer is made of them.
 use Rattle.std.specs.Prelude.{ℕ, ◌+◌, ◌≤◌, ◌<◌, List, ◌⊎◌, length}
-use Rattle.place.specs.ShortestFit.{ShortestFit}
 use Rattle.disc.specs.Directory.{file_count}
 use Rattle.disc.specs.Layout.{data_start}
 use Rattle.disc.specs.Offsets.{size_of, start_of}
@@ -18,7 +16,3 @@ HasRoom disc n = (start : ℕ) × Free disc n start
 
 abbrev pub NoRoom : List ℕ → ℕ → Type 0
 NoRoom disc n = HasRoom disc n → ⊥
-
--- Document 02, Q-10: "at the start of the shortest free run that fits, the lowest of equals"
-unfoldable pub Placed : List ℕ → ℕ → ℕ → Type 0
-Placed disc n start = ShortestFit (Free disc) n start
