@@ -10,10 +10,20 @@ use lib.ListN.{length, get_or, set, take, length-set}
 use lib.Seq.{ext_get_or, get_or-set_other, get_or-set_same, take-set-le}
 use borrow.Author.Tests.{ltb-false, ltb-true}
 use Rattle.buffer.specs.Buffer.{overwrite, part}
-use Rattle.buffer.specs.Scattered.{gathered, scattered}
+use Rattle.buffer.specs.Lists.{tab}
 use Rattle.buffer.proofs.Buffer.{overwrite-length}
 use Rattle.buffer.proofs.Lists.{tab-at, tab-length, tab-same}
 use Rattle.buffer.proofs.Parts.{byte-before, byte-behind, byte_inside, part-byte, part_length}
+
+-- ---- bytes of a buffer at places that a function gives, one for each offset
+-- those at the first n places
+unfoldable pub gathered : (ℕ → ℕ) → List ℕ → ℕ → List ℕ
+gathered at l n = tab (λ i. get_or l (at i) 0) n
+
+-- these bytes laid over those at the places from offset i on
+unfoldable pub scattered : (ℕ → ℕ) → ℕ → List ℕ → List ℕ → List ℕ
+scattered at i l [] = l
+scattered at i l (x ∷ xs) = scattered at (suc i) (set l (at i) x) xs
 
 -- ---- gathered
 pub gathered-length : (at : ℕ → ℕ) (l : List ℕ) (n : ℕ) → length (gathered at l n) ≡ n

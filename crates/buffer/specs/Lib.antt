@@ -1,4 +1,3 @@
 pub mod Buffer
 pub mod Laid
 pub mod Lists
-pub mod Scattered

@@ -75,7 +75,6 @@ entry-laid d i e h k =
     ∙ entry-back e h
 
 pub same_count : (d e : List ℕ) → take data_start d ≡ take data_start e → file_count d ≡ file_count e
-unfolding file_count
 same_count d e h = same_byte d e data_start count_at h (omega arith)
 
 pub same-files : (d e : List ℕ) → take data_start d ≡ take data_start e → file_count e ≤ max_files → files d ≡ files e

@@ -11,7 +11,8 @@ use borrow.Author.Tests.{ltb-false, ltb-true}
 use Rattle.buffer.specs.Buffer.{part}
 use Rattle.buffer.proofs.Parts.{part-byte, part-of-part}
 use Rattle.place.specs.declared.Run.{Run}
-use Rattle.disc.specs.Directory.{contents, location}
+use Rattle.disc.specs.Directory.{contents}
+use Rattle.disc.proofs.Locations.{location}
 
 module _ (disc : List ℕ) (run : Run) where
   pub location-is : (i : ℕ) → location disc run i ≡ run.start + i

@@ -8,15 +8,29 @@ use mathlib.Core.Logic.{⊎_elim}
 use native.Mathlib.Omega.{arith}
 use lib.ListN.{length}
 use Rattle.buffer.specs.Buffer.{part}
-use Rattle.buffer.specs.Scattered.{gathered}
-use Rattle.buffer.proofs.Scattered.{Distinct, gathered-part}
+use Rattle.buffer.proofs.Scattered.{Distinct, gathered, gathered-part}
 use Rattle.place.specs.declared.Run.{Run}
 use Rattle.place.proofs.Place.{apart-is}
-use Rattle.disc.specs.Directory.{Held, contents, entry_at, file_count, good_disc, location, run_of}
+use Rattle.disc.specs.Directory.{contents, entry_at, file_count, good_disc, run_of}
 use Rattle.disc.specs.Layout.{data_start}
 use Rattle.disc.proofs.Goodness.{beside_at, good-entry-at}
 
+-- where the byte at an offset of a file lies
+unfoldable pub location : List ℕ → Run → ℕ → ℕ
+location disc run i = run.start + i
+
+-- ---- files
+-- the directory has a file of that start and length
+pub record FileAt (disc : List ℕ) (run : Run) : Type 0 where
+  pub place : ℕ
+  pub inside : place < file_count disc
+  pub run_is : run ≡ run_of (entry_at disc place)
+
 -- a file of a good disc
+pub record Held (disc : List ℕ) (run : Run) : Type 0 where
+  pub sound : good_disc disc ≡ true
+  pub file : FileAt disc run
+
 pub file-held : (disc : List ℕ) → good_disc disc ≡ true → (i : ℕ) → i < file_count disc → Held disc (run_of (entry_at disc i))
 file-held disc good i h = record { sound = good; file = record { place = i; inside = h; run_is = refl } }
 
@@ -29,6 +43,15 @@ contents-gathered disc run h = sym (gathered-part disc run.start run.len h)
 pub contents-part : (disc : List ℕ) (run : Run) → contents disc run ≡ part disc run.start run.len
 unfolding contents
 contents-part disc run = refl
+
+-- each at a place of its own, behind the directory where the run is
+pub run-distinct : (disc : List ℕ) (run : Run) → run.start + run.len ≤ length disc → Distinct (location disc run) disc run.len
+unfolding location
+run-distinct disc run h = record { inside = λ i k. omega arith; once = λ i j k m e. omega arith }
+
+pub location-low : (disc : List ℕ) (run : Run) (i : ℕ) → data_start ≤ run.start → data_start ≤ location disc run i
+unfolding location
+location-low disc run i h = omega arith
 
 -- ---- the bytes of one file
 -- between the directory and the disc's end
@@ -43,14 +66,10 @@ between {disc} h =
 
 module _ {disc : List ℕ} {run : Run} (h : Held disc run) where
   pub held-distinct : Distinct (location disc run) disc run.len
-  unfolding location
-  held-distinct =
-      let b = between h in
-      record { inside = λ i k. omega (arith, b.high); once = λ i j k m e. omega arith }
+  held-distinct = run-distinct disc run (between h).high
 
-  pub held-data : (i : ℕ) → i < run.len → data_start ≤ location disc run i
-  unfolding location
-  held-data i k = omega (arith, (between h).low)
+  pub held-low : data_start ≤ run.start
+  held-low = (between h).low
 
   pub held-inside : run.start + run.len ≤ length disc
   held-inside = (between h).high

@@ -8,7 +8,11 @@ use Rattle.buffer.proofs.Parts.{part-first, part-word}
 use Rattle.place.specs.Place.{run_from}
 use Rattle.disc.specs.Directory.{contents, entry_at, run_of}
 use Rattle.disc.specs.Layout.{entry_size, name_size}
-use Rattle.disc.specs.Offsets.{bytes_of, entry_start, size_of, start_of}
+use Rattle.disc.specs.Offsets.{entry_start, size_of, start_of}
+
+-- what file i holds
+abbrev pub bytes_of : List ℕ → ℕ → List ℕ
+bytes_of disc i = contents disc (run_from (start_of disc i) (size_of disc i))
 
 module _ (disc : List ℕ) (i : ℕ) where
   pub entry-name : (entry_at disc i).name ≡ part disc (entry_start i) name_size

@@ -1,5 +1,5 @@
 -- The disc: its directory and its files.
-use Rattle.std.specs.Prelude.{ℕ, ◌+◌, ◌*◌, ◌≤◌, ◌<◌, ◌≡◌, Bool, true, false, ◌&&◌, ◌||◌, not, List, ◌++◌, map, ◌⊎◌, eqb}
+use Rattle.std.specs.Prelude.{ℕ, ◌+◌, ◌*◌, ◌≤◌, ◌≡◌, Bool, true, false, ◌&&◌, ◌||◌, not, List, ◌++◌, map, ◌⊎◌, eqb}
 use Rattle.std.specs.Prelude.{leb, length, get_or, take}
 use Rattle.buffer.specs.Buffer.{part, word_at, word_bytes}
 use Rattle.buffer.specs.Lists.{all, index, pairs, same, tab}
@@ -35,7 +35,7 @@ unfoldable pub entry_at : List ℕ → ℕ → Entry
 entry_at disc i = entry_of (part disc (i * entry_size) entry_size)
 
 -- Document 01: "Byte 160 is the file count"
-unfoldable pub file_count : List ℕ → ℕ
+abbrev pub file_count : List ℕ → ℕ
 file_count disc = get_or disc count_at 0
 
 -- Document 01: "The first count entries are files in order of storing."
@@ -52,10 +52,6 @@ taken disc = map run_of (files disc)
 -- ---- what a file holds
 unfoldable pub contents : List ℕ → Run → List ℕ
 contents disc run = part disc run.start run.len
-
--- where the byte at an offset of a file lies
-unfoldable pub location : List ℕ → Run → ℕ → ℕ
-location disc run i = run.start + i
 
 -- ---- lookup
 abbrev pub named : List ℕ → Entry → Bool
@@ -91,14 +87,3 @@ pub record Readable (disc : List ℕ) : Type 0 where
   pub low : data_start ≤ length disc
   pub high : length disc ≤ 65535
   pub few : file_count disc ≤ max_files
-
--- the directory has a file of that start and length
-pub record FileAt (disc : List ℕ) (run : Run) : Type 0 where
-  pub place : ℕ
-  pub inside : place < file_count disc
-  pub run_is : run ≡ run_of (entry_at disc place)
-
--- a file of a good disc
-pub record Held (disc : List ℕ) (run : Run) : Type 0 where
-  pub sound : good_disc disc ≡ true
-  pub file : FileAt disc run

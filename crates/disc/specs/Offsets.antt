@@ -2,8 +2,6 @@
 -- words; no answer is made of them.
 use Rattle.std.specs.Prelude.{ℕ, ◌+◌, ◌*◌, List}
 use Rattle.buffer.specs.Buffer.{word_at}
-use Rattle.place.specs.Place.{run_from}
-use Rattle.disc.specs.Directory.{contents}
 use Rattle.disc.specs.Layout.{entry_size}
 
 abbrev pub entry_start : ℕ → ℕ
@@ -14,7 +12,3 @@ start_of disc i = word_at disc (entry_start i + 12)
 
 abbrev pub size_of : List ℕ → ℕ → ℕ
 size_of disc i = word_at disc (entry_start i + 14)
-
--- what file i holds
-abbrev pub bytes_of : List ℕ → ℕ → List ℕ
-bytes_of disc i = contents disc (run_from (start_of disc i) (size_of disc i))

@@ -10,7 +10,6 @@ use lib.Count.{count_trailing_zeros}
 use lib.IntN.{negsuc, pos}
 use lib.Ieee.{of_bits, of_fields}
 use borrow.Author.Tests.{ltb-true}
-use Rattle.buffer.specs.Scattered.{gathered, scattered}
 use Rattle.buffer.specs.Lists.{all, any, flat, index, keep, pairs, same, tab}
 use Rattle.decimal.specs.Decimal.{last_digits}
 use Rattle.float.specs.Print.{printed_of}
@@ -24,12 +23,11 @@ use Rattle.number.specs.Text.{text_of}
 use Rattle.operator.specs.Unary.{unary}
 use Rattle.number.specs.Value.{number_of}
 use Rattle.place.specs.Place.{apart, begins, fits, free_from, greatest, least, place}
-use Rattle.disc.specs.Directory.{beside as beside_entry, contents, entry_at, file_count, good_disc, good_entry, good_files, is_disc_length}
+use Rattle.disc.specs.Directory.{beside as beside_entry, contents, entry_at, good_disc, good_entry, good_files, is_disc_length}
 use Rattle.disc.specs.Directory.{lookup}
-use Rattle.disc.specs.Directory.{location}
 use Rattle.disc.specs.Name.{good_field, good_name, trimmed}
 use Rattle.store.specs.Answer.{checked, store_answer}
-use Rattle.store.specs.File.{admission, entered, erased, place_of, read_at, room_on, size_limit, written_at}
+use Rattle.store.specs.File.{admission, entered, erased, place_of, read_at, written_at}
 use Rattle.variable.specs.Assign.{assigned_cells, added, assigned, place_for, placing}
 use Rattle.variable.specs.Good.{beside as beside_variable, good_size, good_variable, good_variables}
 use Rattle.variable.specs.Table.{freed, owned}
@@ -83,7 +81,7 @@ started i n calls rest c =
 
 runs : Computed 1 1 alone rest_alone × Computed 5 21 beside rest_beside × (length (watch 1 rest_alone) ≡ 11)
     × (get_or (observations (not_refused (watch 1 rest_alone))) 7 (declined (pos 0)) ≡ printed)
-unfolding contents gathered location scattered size_limit room_on file_count none rest_alone rest_beside place_in gives_out lacks_space
+unfolding contents none rest_alone rest_beside place_in gives_out lacks_space
     turn_disturbs write_lands events turn_events share_events last_storage
     total watch answer other_answer store_answer checked is_disc_length lookup index entry_at tab good_disc good_files good_entry good_field
     good_name beside_entry all pairs apart begins fits free_from greatest least place place_of admission entered erased written_at read_at

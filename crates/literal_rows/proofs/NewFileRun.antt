@@ -6,17 +6,15 @@ use lib.Dec.{ltb}
 use lib.ListN.{drop, length, take}
 use lib.Seq.{split_at}
 use borrow.Author.Tests.{ltb-true}
-use Rattle.buffer.specs.Scattered.{gathered, scattered}
 use Rattle.buffer.specs.Lists.{all, any, flat, index, keep, pairs, same, tab}
 use Rattle.operator.specs.Instruction.{lookup as lookup_operator, operator_of, includes}
 use Rattle.number.specs.Value.{number_of}
 use Rattle.place.specs.Place.{apart, begins, fits, free_from, greatest, least, place}
-use Rattle.disc.specs.Directory.{beside as beside_entry, contents, entry_at, file_count, good_disc, good_entry, good_files, is_disc_length}
+use Rattle.disc.specs.Directory.{beside as beside_entry, contents, entry_at, good_disc, good_entry, good_files, is_disc_length}
 use Rattle.disc.specs.Directory.{lookup}
-use Rattle.disc.specs.Directory.{location}
 use Rattle.disc.specs.Name.{good_field, good_name, trimmed}
 use Rattle.store.specs.Answer.{checked, store_answer}
-use Rattle.store.specs.File.{admission, entered, erased, place_of, room_on, size_limit, written_at}
+use Rattle.store.specs.File.{admission, entered, erased, place_of, written_at}
 use Rattle.variable.specs.Good.{good_variables}
 use Rattle.variable.specs.Table.{owned}
 use Rattle.variable.specs.Bytes.{variables_of}
@@ -44,7 +42,7 @@ use Rattle.literal_rows.specs.NewFileExample.{NewFileExample, between, calls, no
 
 computed : Passes formatted.disc formatted.area × (ltb 6 (length trace) ≡ true) × (ltb 6 (length (drop 7 trace)) ≡ true)
     × OpensNew 1 0 opening × NoneInterferes 1 between × Executes 1 0 59 reading
-unfolding contents gathered location scattered size_limit room_on file_count trace events turn_events share_events last_storage total
+unfolding contents trace events turn_events share_events last_storage total
     place_in
     write_lands in_order share_of_turns turn_if_running answer
     other_answer format_answer store_answer checked is_disc_length lookup index entry_at tab good_disc good_files good_entry good_field

@@ -2,7 +2,6 @@
 use mathlib.Core.Path.{refl}
 use lib.Count.{count_trailing_zeros}
 use lib.Ieee.{of_bits, of_fields}
-use Rattle.buffer.specs.Scattered.{gathered, scattered}
 use Rattle.buffer.specs.Lists.{all, any, flat, index, keep, pairs, same, tab}
 use Rattle.decimal.specs.Decimal.{last_digits}
 use Rattle.float.specs.Print.{printed_of}
@@ -16,12 +15,11 @@ use Rattle.number.specs.Text.{text_of}
 use Rattle.operator.specs.Unary.{unary}
 use Rattle.number.specs.Value.{number_of}
 use Rattle.place.specs.Place.{apart, begins, fits, free_from, greatest, least, place}
-use Rattle.disc.specs.Directory.{beside as beside_entry, contents, entry_at, file_count, good_disc, good_entry, good_files, is_disc_length}
+use Rattle.disc.specs.Directory.{beside as beside_entry, contents, entry_at, good_disc, good_entry, good_files, is_disc_length}
 use Rattle.disc.specs.Directory.{lookup}
-use Rattle.disc.specs.Directory.{location}
 use Rattle.disc.specs.Name.{good_field, good_name, trimmed}
 use Rattle.store.specs.Answer.{checked, file_line, files_answer, store_answer}
-use Rattle.store.specs.File.{admission, entered, erased, place_of, read_at, room_on, size_limit, written_at}
+use Rattle.store.specs.File.{admission, entered, erased, place_of, read_at, written_at}
 use Rattle.variable.specs.Assign.{added, assigned, place_for, placing}
 use Rattle.variable.specs.Good.{beside as beside_variable, good_size, good_variable, good_variables}
 use Rattle.variable.specs.Table.{freed, owned}
@@ -47,7 +45,7 @@ use Rattle.literal_rows.specs.Programs.{BenchOnBytes, WaitsOnBytes}
 use Rattle.literal_rows.specs.Run.{Listings, RunOnBytes}
 
 rows : RunOnBytes × Listings × AreaRows × DiscRows × LongDiscRows × BenchOnBytes × WaitsOnBytes × NewFilesOnBytes
-unfolding contents gathered location scattered size_limit room_on file_count RunOnBytes Listings AreaRows DiscRows LongDiscRows BenchOnBytes
+unfolding contents RunOnBytes Listings AreaRows DiscRows LongDiscRows BenchOnBytes
     WaitsOnBytes NewFilesOnBytes laid left_by numbers turns
     answer other_answer format_answer
     store_answer checked is_disc_length files_answer file_line lookup index entry_at tab good_disc good_files good_entry good_field

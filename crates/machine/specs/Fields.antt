@@ -4,8 +4,7 @@ use Rattle.std.specs.Prelude.{ℕ, ◌+◌, ◌*◌, ◌≤◌, ◌<◌, ◌≡�
 use Rattle.buffer.specs.Buffer.{part, word_at}
 use Rattle.buffer.specs.Lists.{flat, tab}
 use Rattle.decimal.specs.Decimal.{decimal}
-use Rattle.disc.specs.Directory.{file_count}
-use Rattle.disc.specs.Layout.{max_name, name_size}
+use Rattle.disc.specs.Layout.{count_at, max_name, name_size}
 use Rattle.disc.specs.Name.{trimmed}
 use Rattle.disc.specs.Offsets.{entry_start, size_of, start_of}
 use Rattle.machine.specs.Limits.{next_at, record_size, records_at, slot_count}
@@ -28,7 +27,7 @@ Spells buffer at name = (j : ℕ) → j < name_size → get_or buffer (at + j) 0
 
 -- ---- the disc
 abbrev pub files_on : List ℕ → ℕ
-files_on disc = file_count disc
+files_on disc = get_or disc count_at 0
 
 -- file i has that name
 pub record Named (disc name : List ℕ) (i : ℕ) : Type 0 where

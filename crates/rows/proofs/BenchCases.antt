@@ -3,7 +3,6 @@ use mathlib.Core.Path.{refl}
 use lib.Count.{count_trailing_zeros}
 use lib.Ieee.{of_bits, of_fields}
 use lib.IntN.{one, pow}
-use Rattle.buffer.specs.Scattered.{gathered, scattered}
 use Rattle.buffer.specs.Lists.{all, any, flat, index, keep, pairs, same, tab}
 use Rattle.decimal.specs.Decimal.{last_digits}
 use Rattle.float.specs.Print.{printed_of}
@@ -20,11 +19,10 @@ use Rattle.number.specs.Text.{text_of}
 use Rattle.operator.specs.Unary.{unary}
 use Rattle.number.specs.Value.{number_of}
 use Rattle.place.specs.Place.{apart, begins, fits, free_from, greatest, least, place}
-use Rattle.disc.specs.Directory.{beside, contents, entry_at, file_count, good_disc, good_entry, good_files, is_disc_length, lookup}
-use Rattle.disc.specs.Directory.{location}
+use Rattle.disc.specs.Directory.{beside, contents, entry_at, good_disc, good_entry, good_files, is_disc_length, lookup}
 use Rattle.disc.specs.Name.{good_field, good_name, trimmed}
 use Rattle.store.specs.Answer.{checked, store_answer}
-use Rattle.store.specs.File.{admission, entered, erased, place_of, room_on, size_limit, written_at}
+use Rattle.store.specs.File.{admission, entered, erased, place_of, written_at}
 use Rattle.variable.specs.Assign.{assigned_cells, added, assigned, place_for, placing}
 use Rattle.variable.specs.Bytes.{variables_of}
 use Rattle.variable.specs.Good.{good_variables}
@@ -44,7 +42,7 @@ use Rattle.rows.specs.Bench.{Every, RowHolds, after, turns}
 use Rattle.rows.specs.Cases.{Bench, Delays, Misreadings, Scalings, cases, delays, misreadings, scalings, waits}
 
 rows-hold : Every RowHolds cases × Every RowHolds misreadings × Every RowHolds waits × Every RowHolds delays × Every RowHolds scalings
-unfolding contents gathered location scattered size_limit room_on file_count turns after single exec instruction_of operator_of
+unfolding contents turns after single exec instruction_of operator_of
     lookup_operator
     includes operates settle pop well_formed trimmed same unary binary
     constrained ordered mapped map_exact power pow one

@@ -1,7 +1,6 @@
 -- The rows of rounds with shares hold: by computing the definitions.
 use mathlib.Core.Path.{refl}
-use Rattle.disc.specs.Directory.{contents, file_count, location}
-use Rattle.buffer.specs.Scattered.{gathered}
+use Rattle.disc.specs.Directory.{contents}
 use Rattle.buffer.specs.Lists.{all, any, flat, index, keep, tab}
 use Rattle.decimal.specs.Decimal.{last_digits}
 use Rattle.integer.specs.Modular.{wrapped}
@@ -28,7 +27,7 @@ use Rattle.rows.specs.Bench.{Every}
 use Rattle.rows.specs.ShareRows.{ShareRowHolds, Shares, loading, rounds, share_rows}
 
 rows-hold : Every ShareRowHolds share_rows
-unfolding contents gathered location file_count loading rounds in_order share_of_turns shared slot_of turn_if_running exec instruction_of
+unfolding contents loading rounds in_order share_of_turns shared slot_of turn_if_running exec instruction_of
     operator_of lookup_operator includes
     operates settle pop well_formed unary binary whole wrapped number_of text_of last_digits index tab flat all apart begins fits
     free_from greatest least place kernel_of variables_of any keep ended turned owned freed assigned place_for placing added

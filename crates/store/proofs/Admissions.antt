@@ -11,19 +11,19 @@ use Rattle.buffer.specs.Buffer.{zeros}
 use Rattle.buffer.specs.declared.Found.{Found}
 use Rattle.buffer.specs.declared.Found.TheVariants.{At, Nowhere}
 use Rattle.buffer.proofs.Bools.{and_left}
+use Rattle.place.specs.Place.{fits}
 use Rattle.place.proofs.Place.{Fits}
 use Rattle.disc.specs.Directory.{file_count, good_disc, is_disc_length, lookup, taken}
 use Rattle.disc.specs.Layout.{data_start, max_files}
 use Rattle.disc.specs.Name.{good_name}
 use Rattle.disc.proofs.Goodness.{good-disc-is}
 use Rattle.store.specs.File.{admission, deny_if_found, good_size, place_of, start_or, unless}
-use Rattle.store.specs.Room.{NoRoom}
 use Rattle.store.specs.declared.Admission.{Admission}
 use Rattle.store.specs.declared.Admission.TheVariants.{Start, Denied}
 use Rattle.store.specs.declared.Refusal.{Refusal}
 use Rattle.store.specs.declared.Refusal.TheVariants.{WrongLength, BadDisc, ShortOutput, BadName, BadSize, NameExists, DirectoryFull}
 use Rattle.store.specs.declared.Refusal.TheVariants.{NoRun, NoSuchFile}
-use Rattle.store.proofs.Rooms.{found-fits, no-place-no-room}
+use Rattle.store.proofs.Rooms.{found-fits, no-place-none-fit}
 
 -- admitted at start s
 pub record Admitted (disc name : List ℕ) (n s : ℕ) : Type 0 where
@@ -47,7 +47,7 @@ Denial disc name n BadName = good_name name ≡ false
 Denial disc name n BadSize = good_size disc n ≡ false
 Denial disc name n DirectoryFull = max_files ≤ file_count disc
 Denial disc name n NameExists = (i : ℕ) × (lookup disc name ≡ At i)
-Denial disc name n NoRun = NoRoom disc n
+Denial disc name n NoRun = (s : ℕ) → fits (taken disc) data_start (length disc) n s ≡ false
 Denial disc name n ShortOutput = ⊥
 Denial disc name n NoSuchFile = ⊥
 
@@ -70,7 +70,7 @@ module _ (disc name : List ℕ) (n : ℕ) where
       go true p false q c r f t g u = q
       go true p true q false r f t g u = ltb-false (file_count disc) max_files r
       go true p true q true r (At i) t g u = (i, t)
-      go true p true q true r Nowhere t Nowhere u = no-place-no-room disc n u
+      go true p true q true r Nowhere t Nowhere u = no-place-none-fit disc n u
       go true p true q true r Nowhere t (At s) u =
           record {
             good = p;

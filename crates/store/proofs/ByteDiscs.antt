@@ -81,7 +81,7 @@ module _ (disc : List ℕ) (h : Bytes disc) where
       (one_byte (file_count disc + 1) (omega (arith, a.few)))
 
   pub erased-bytes : (i : ℕ) → Bytes (erased disc i)
-  unfolding erased file_count
+  unfolding erased
   erased-bytes i =
       overwrite-bytes (overwrite disc (i * entry_size) (later ++ replicate entry_size 0)) count_at ((file_count disc - 1) ∷ [])
       (overwrite-bytes disc (i * entry_size) (later ++ replicate entry_size 0) h

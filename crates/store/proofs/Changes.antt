@@ -14,14 +14,13 @@ use Rattle.buffer.proofs.Buffer.{overwrite-drop, overwrite-length}
 use Rattle.buffer.proofs.Lists.{tab-more, tab-same}
 use Rattle.buffer.proofs.Parts.{byte-before, byte-behind, byte_inside, byte-of-part, part-before, part-inside, part_length}
 use Rattle.buffer.proofs.Parts.{part-of-append-left, part-of-append-right, part-of-part, same-part}
-use Rattle.buffer.specs.Scattered.{scattered}
-use Rattle.buffer.proofs.Scattered.{scattered-before, scattered-length, scattered-other, scattered-overwrite}
+use Rattle.buffer.proofs.Scattered.{scattered, scattered-before, scattered-length, scattered-other, scattered-overwrite}
 use Rattle.buffer.proofs.Tables.{tab-without}
 use Rattle.place.specs.declared.Run.{Run}
-use Rattle.disc.specs.Directory.{Held, entry_at, entry_bytes, file_count, files, location}
+use Rattle.disc.specs.Directory.{entry_at, entry_bytes, file_count, files}
+use Rattle.disc.proofs.Locations.{location, location-low}
 use Rattle.disc.specs.Layout.{count_at, data_start, entry_size, max_files, name_size}
 use Rattle.disc.proofs.Entries.{entry-bytes-length, entry-laid, same_count, same-entry, same-files}
-use Rattle.disc.proofs.Locations.{held-data, held-inside}
 use Rattle.disc.proofs.Names.{padded-length}
 use Rattle.store.specs.File.{entered, erased, new_entry, written_at}
 
@@ -35,7 +34,6 @@ record DirectoryChange (disc : List ℕ) (at : ℕ) (s : List ℕ) (count : ℕ)
 
 directory-change : (disc s : List ℕ) (at count : ℕ) → at + length s ≤ count_at → data_start ≤ length disc
     → DirectoryChange disc at s count (overwrite (overwrite disc at s) count_at (count ∷ []))
-unfolding file_count
 directory-change disc s at count h l =
     let inside : at + length s ≤ length disc = omega arith in
     let same : length (overwrite disc at s) ≡ length disc = overwrite-length disc s at inside in
@@ -210,16 +208,17 @@ module _ {disc : List ℕ} {i : ℕ} (file : Present disc i) where
       ∙ ap (λ (m : ℕ). without i (tab (entry_at disc) m)) q
 
 -- ---- bytes are written inside a file
--- n bytes from an offset on lie in a file of the disc
+-- n bytes from an offset on lie in the run, and that among the data bytes
 pub record Inside (disc : List ℕ) (run : Run) (offset n : ℕ) : Type 0 where
-  pub held : Held disc run
+  pub low : data_start ≤ run.start
+  pub high : run.start + run.len ≤ length disc
   pub fits : offset + n ≤ run.len
 
 module _ {disc : List ℕ} {run : Run} {offset : ℕ} (bytes : List ℕ) (inside : Inside disc run offset (length bytes)) where
   -- at their places, one behind the other
   pub written-scattered : written_at disc run offset bytes ≡ scattered (location disc run) offset disc bytes
   unfolding written_at location
-  written-scattered = sym (scattered-overwrite disc bytes run.start offset (omega (arith, held-inside inside.held, inside.fits)))
+  written-scattered = sym (scattered-overwrite disc bytes run.start offset (omega (arith, inside.high, inside.fits)))
 
   pub written-length : length (written_at disc run offset bytes) ≡ length disc
   written-length = ap length written-scattered ∙ scattered-length (location disc run) offset disc bytes
@@ -228,7 +227,7 @@ module _ {disc : List ℕ} {run : Run} {offset : ℕ} (bytes : List ℕ) (inside
   written-directory =
       ap (take data_start) written-scattered
       ∙ scattered-before (location disc run) offset disc bytes data_start
-      (λ k h. held-data inside.held (offset + k) (omega (arith, inside.fits)))
+      (λ k h. location-low disc run (offset + k) inside.low)
 
   pub written_count : file_count (written_at disc run offset bytes) ≡ file_count disc
   written_count = same_count (written_at disc run offset bytes) disc written-directory

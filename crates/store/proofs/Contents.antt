@@ -9,17 +9,17 @@ use lib.Seq.{drop-drop, take_all}
 use Rattle.buffer.specs.Buffer.{overwrite, part}
 use Rattle.buffer.proofs.Buffer.{overwrite-part}
 use Rattle.buffer.proofs.Parts.{part_length}
-use Rattle.buffer.specs.Scattered.{gathered}
-use Rattle.buffer.proofs.Scattered.{gathered-same, scattered-elsewhere, scattered-gathered}
+use Rattle.buffer.proofs.Scattered.{gathered, gathered-same, scattered-elsewhere, scattered-gathered}
 use Rattle.place.specs.declared.Run.{Run}
-use Rattle.disc.specs.Directory.{contents, entry_at, file_count, good_disc, location, run_of}
+use Rattle.disc.specs.Directory.{contents, entry_at, file_count, good_disc, run_of}
+use Rattle.disc.proofs.Locations.{location, contents-gathered, file-held, files-apart, held-distinct, held-inside}
+use Rattle.disc.proofs.Locations.{location-kept, run-distinct}
 use Rattle.disc.specs.Layout.{data_start}
 use Rattle.disc.proofs.Goodness.{good-entry-at}
-use Rattle.disc.proofs.Locations.{contents-gathered, file-held, files-apart, held-distinct, held-inside, location-kept}
 use Rattle.store.specs.File.{entered, erased, read_at, written_at}
 use Rattle.store.proofs.Changes.{Inside, Present, Room, entered-data, erased-data, written-length}
 use Rattle.store.proofs.Changes.{written-scattered}
-use Rattle.store.proofs.Invariant.{present}
+use Rattle.store.proofs.Invariant.{file-inside, present}
 
 -- ---- lengths
 pub contents-length : (disc : List ℕ) (run : Run) → run.start + run.len ≤ length disc → length (contents disc run) ≡ run.len
@@ -55,12 +55,11 @@ pub erased-contents : {disc : List ℕ} {i : ℕ} → Present disc i → (run : 
     → contents (erased disc i) run ≡ contents disc run
 erased-contents {disc} {i} file run h = same-contents (erased disc i) disc run (erased-data file) h
 
-module _ (disc : List ℕ) (good : good_disc disc ≡ true) (j : ℕ) (k : j < file_count disc) where
-  pub entered-contents : {name : List ℕ} (n s : ℕ) → Room disc name
-      → contents (entered disc name n s) (run_of (entry_at disc j)) ≡ contents disc (run_of (entry_at disc j))
-  entered-contents {name} n s room =
-      same-contents (entered disc name n s) disc (run_of (entry_at disc j)) (entered-data n s room) (good-entry-at disc good j k).low
+pub entered-contents : {disc name : List ℕ} (n s : ℕ) → Room disc name → (run : Run) → data_start ≤ run.start
+    → contents (entered disc name n s) run ≡ contents disc run
+entered-contents {disc} {name} n s room run h = same-contents (entered disc name n s) disc run (entered-data n s room) h
 
+module _ (disc : List ℕ) (good : good_disc disc ≡ true) (j : ℕ) (k : j < file_count disc) where
   -- a file goes: every other keeps what it holds
   pub erased-other-file : (i : ℕ) → i < file_count disc → (i ≡ j → ⊥)
       → contents (erased disc i) (run_of (entry_at disc j)) ≡ contents disc (run_of (entry_at disc j))
@@ -77,7 +76,7 @@ module _ (disc : List ℕ) (good : good_disc disc ≡ true) (j : ℕ) (k : j < f
       let other = run_of (entry_at disc j) in
       let after = written_at disc own offset bytes in
       let inside = held-inside (file-held disc good j k) in
-      let within : Inside disc own offset (length bytes) = record { held = file-held disc good i h; fits = fits } in
+      let within : Inside disc own offset (length bytes) = file-inside disc good i h offset (length bytes) fits in
       contents-gathered after other (omega (arith, written-length bytes within, inside))
       ∙ gathered-same (location after other) (location disc other) after after other.len
       (λ a m. ap (λ (p : ℕ). get_or after p 0) (location-kept after disc other a))
@@ -91,17 +90,16 @@ module _ {disc : List ℕ} {run : Run} {offset : ℕ} (bytes : List ℕ) (inside
   pub written-contents : contents (written_at disc run offset bytes) run ≡ overwrite (contents disc run) offset bytes
   written-contents =
       let after = written_at disc run offset bytes in
-      let own = held-inside inside.held in
-      contents-gathered after run (omega (arith, written-length bytes inside, own))
+      contents-gathered after run (omega (arith, written-length bytes inside, inside.high))
       ∙ gathered-same (location after run) (location disc run) after after run.len
       (λ a m. ap (λ (p : ℕ). get_or after p 0) (location-kept after disc run a))
       ∙ ap (λ (l : List ℕ). gathered (location disc run) l run.len) (written-scattered bytes inside)
-      ∙ scattered-gathered (location disc run) run.len offset disc bytes (held-distinct inside.held) inside.fits
-      ∙ ap (λ (l : List ℕ). overwrite l offset bytes) (sym (contents-gathered disc run own))
+      ∙ scattered-gathered (location disc run) run.len offset disc bytes (run-distinct disc run inside.high) inside.fits
+      ∙ ap (λ (l : List ℕ). overwrite l offset bytes) (sym (contents-gathered disc run inside.high))
 
   -- what was written is read
   pub written_read : read_at (written_at disc run offset bytes) run offset (length bytes) ≡ bytes
   unfolding read_at
   written_read =
       ap (λ (l : List ℕ). part l offset (length bytes)) written-contents
-      ∙ overwrite-part (contents disc run) bytes offset (omega (arith, contents-length disc run (held-inside inside.held), inside.fits))
+      ∙ overwrite-part (contents disc run) bytes offset (omega (arith, contents-length disc run inside.high, inside.fits))

@@ -11,10 +11,11 @@ use Rattle.buffer.specs.declared.Found.TheVariants.{At}
 use Rattle.buffer.proofs.Buffer.{overwrite-whole}
 use Rattle.place.specs.Place.{run_from}
 use Rattle.place.specs.declared.Run.{Run}
-use Rattle.disc.specs.Directory.{contents, entry_at, file_count, good_disc, location, lookup, run_of}
+use Rattle.disc.specs.Directory.{contents, entry_at, file_count, good_disc, lookup, run_of}
+use Rattle.disc.proofs.Goodness.{good-entry-at}
+use Rattle.disc.proofs.Locations.{location, location-kept}
 use Rattle.disc.specs.Layout.{count_at, entry_size}
 use Rattle.disc.specs.declared.Entry.{Entry}
-use Rattle.disc.proofs.Locations.{held-inside, location-kept}
 use Rattle.store.specs.File.{entered, new_entry, stored, written_at}
 use Rattle.store.proofs.Admissions.{Admitted}
 use Rattle.store.proofs.Changes.{Inside, entered-byte, entered-count, entered-length, entered-new, entered-old, written_count}
@@ -28,28 +29,21 @@ module _ {disc name : List ℕ} {s : ℕ} (bytes : List ℕ) (good : good_disc d
   well : good_disc (entered disc name (length bytes) s) ≡ true
   well = entered-good a good
 
-  -- the new file is one of the disc's once it has entered
-  pub inside : Inside (entered disc name (length bytes) s) (run_from s (length bytes)) 0 (length bytes)
+  inside : Inside (entered disc name (length bytes) s) (run_from s (length bytes)) 0 (length bytes)
   inside = record {
-    held = record {
-      sound = well;
-      file = record {
-        place = file_count disc;
-        inside = omega (arith, entered-count (length bytes) s (room a));
-        run_is = sym (ap run_of (entered-new (length bytes) s (room a)));
-      };
-    };
+    low = a.placed.low;
+    high = omega (arith, entered-length (length bytes) s (room a), a.placed.high);
     fits = omega arith;
   }
 
   pub stored-good : good_disc (stored disc name bytes s) ≡ true
-  stored-good = written-good bytes inside
+  stored-good = written-good bytes inside well
 
   pub stored-length : length (stored disc name bytes s) ≡ length disc
   stored-length = written-length bytes inside ∙ entered-length (length bytes) s (room a)
 
   pub stored-found : lookup (stored disc name bytes s) name ≡ At (file_count disc)
-  stored-found = written-lookup bytes inside name ∙ entered-found good a
+  stored-found = written-lookup bytes inside well name ∙ entered-found good a
 
   pub stored-new : entry_at (stored disc name bytes s) (file_count disc) ≡ new_entry name (length bytes) s
   stored-new = written_entry bytes inside (file_count disc) a.few ∙ entered-new (length bytes) s (room a)
@@ -58,7 +52,7 @@ module _ {disc name : List ℕ} {s : ℕ} (bytes : List ℕ) (good : good_disc d
   stored-data =
       written-contents bytes inside
       ∙ overwrite-whole (contents (entered disc name (length bytes) s) (run_from s (length bytes))) bytes
-      (contents-length (entered disc name (length bytes) s) (run_from s (length bytes)) (held-inside inside.held))
+      (contents-length (entered disc name (length bytes) s) (run_from s (length bytes)) inside.high)
 
   pub stored-count : file_count (stored disc name bytes s) ≡ file_count disc + 1
   stored-count = written_count bytes inside ∙ entered-count (length bytes) s (room a)
@@ -88,4 +82,4 @@ module _ {disc name : List ℕ} {s : ℕ} (bytes : List ℕ) (good : good_disc d
       ∙ written-other-file before well i (omega (arith, count)) (file_count disc) 0 bytes (omega (arith, count)) (λ q. omega arith)
       (omega (arith, ap (λ (r : Run). r.len) new))
       ∙ ap (λ (e : Entry). contents before (run_of e)) old
-      ∙ entered-contents disc good i h (length bytes) s (room a)
+      ∙ entered-contents (length bytes) s (room a) (run_of (entry_at disc i)) (good-entry-at disc good i h).low

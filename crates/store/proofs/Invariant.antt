@@ -12,7 +12,6 @@ use Rattle.place.proofs.Place.{apart-sym}
 use Rattle.disc.specs.Directory.{beside, entry_at, file_count, files, good_disc, run_of}
 use Rattle.disc.proofs.Goodness.{Beside, GoodEntry, good-disc-is, good-entry-at, good-files-less, good-files-more, is-beside}
 use Rattle.disc.proofs.Goodness.{is-good-disc, is-good-entry}
-use Rattle.disc.proofs.Locations.{file-held}
 use Rattle.disc.proofs.Lookups.{lookup-none}
 use Rattle.disc.proofs.Names.{good-name-is, padded-good}
 use Rattle.store.specs.File.{entered, erased, new_entry, written_at}
@@ -76,12 +75,14 @@ module _ (disc : List ℕ) (good : good_disc disc ≡ true) (i : ℕ) (h : i < f
 
   -- ---- what is written, and read, in a file
   pub file-inside : (offset n : ℕ) → offset + n ≤ (entry_at disc i).len → Inside disc (run_of (entry_at disc i)) offset n
-  file-inside offset n k = record { held = file-held disc good i h; fits = k }
+  file-inside offset n k =
+      let e = good-entry-at disc good i h in
+      record { low = e.low; high = e.high; fits = k }
 
-pub written-good : {disc : List ℕ} {run : Run} {offset : ℕ} (bytes : List ℕ) → Inside disc run offset (length bytes)
+pub written-good : {disc : List ℕ} {run : Run} {offset : ℕ} (bytes : List ℕ) → Inside disc run offset (length bytes) → good_disc disc ≡ true
     → good_disc (written_at disc run offset bytes) ≡ true
-written-good {disc} {run} {offset} bytes inside =
-    let g = good-disc-is disc inside.held.sound in
+written-good {disc} {run} {offset} bytes inside good =
+    let g = good-disc-is disc good in
     is-good-disc (written_at disc run offset bytes)
     (record {
       few = omega (arith, written_count bytes inside, g.few);

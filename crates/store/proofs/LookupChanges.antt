@@ -31,8 +31,9 @@ module _ {disc name : List ℕ} {n s : ℕ} (good : good_disc disc ≡ true) (a 
 
 -- ---- what is written
 pub written-lookup : {disc : List ℕ} {run : Run} {offset : ℕ} (bytes : List ℕ) → Inside disc run offset (length bytes)
+    → good_disc disc ≡ true
     → (name : List ℕ) → lookup (written_at disc run offset bytes) name ≡ lookup disc name
 unfolding lookup
-written-lookup {disc} bytes inside name =
+written-lookup {disc} bytes inside good name =
     ap (λ (es : List Entry). nowhere_unless (good_name name) (index (named name) es))
-    (written-files bytes inside (good-disc-is disc inside.held.sound).few)
+    (written-files bytes inside (good-disc-is disc good).few)

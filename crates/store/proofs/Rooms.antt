@@ -1,7 +1,7 @@
 -- Places on the disc: what the search finds is the place that is due, and what it does not find is not there.
 use Prim.Native.Nat.{ℕ, ◌+◌, ◌-◌, ◌≤◌, ◌<◌}
 use mathlib.Core.Path.{◌≡◌, refl, sym, ap, ◌∙◌, subst₂}
-use mathlib.Core.Bool.{Bool, true}
+use mathlib.Core.Bool.{Bool, true, false}
 use mathlib.Core.List.{List}
 use mathlib.Core.Logic.{◌⊎◌}
 use native.Mathlib.Omega.{arith}
@@ -22,7 +22,7 @@ use Rattle.disc.specs.declared.Entry.{Entry}
 use Rattle.disc.proofs.Lengths.{disc-bounds}
 use Rattle.disc.proofs.Offsets.{entry-size, entry-start}
 use Rattle.store.specs.File.{place_of, room_on, size_limit}
-use Rattle.store.specs.Room.{Free, HasRoom, NoRoom}
+use Rattle.store.specs.Room.{Free}
 
 -- ---- bytes that are no file's, as the search tests them
 module _ (disc : List ℕ) (n : ℕ) where
@@ -44,7 +44,7 @@ module _ (disc : List ℕ) (n : ℕ) where
             (apart-is (run_from s n) (run_of (entry_at disc i)) (all-tab-at (entry_at disc) (file_count disc) (Clear s) i h each)).sides;
       }
 
-  free-fits : (s : ℕ) → Free disc n s → fits (taken disc) data_start (length disc) n s ≡ true
+  pub free-fits : (s : ℕ) → Free disc n s → fits (taken disc) data_start (length disc) n s ≡ true
   free-fits s f =
       is-fits (taken disc) data_start (length disc) n s
       (record {
@@ -62,24 +62,15 @@ module _ (disc : List ℕ) (n : ℕ) where
   found-fits s e = place-fits (taken disc) data_start (length disc) n s e
 
   -- ---- what the search says
-  pub no-place-no-room : place_of disc n ≡ Nowhere → NoRoom disc n
-  unfolding place_of HasRoom
-  no-place-no-room e r = true-not-false (free-fits r.0 r.1) (no-place-none-fits (taken disc) data_start (length disc) n e r.0)
+  pub no-place-none-fit : place_of disc n ≡ Nowhere → (s : ℕ) → fits (taken disc) data_start (length disc) n s ≡ false
+  unfolding place_of
+  no-place-none-fit e s = no-place-none-fits (taken disc) data_start (length disc) n e s
+
+  pub no-place-none-free : place_of disc n ≡ Nowhere → (s : ℕ) → Free disc n s → ⊥
+  no-place-none-free e s f = true-not-false (free-fits s f) (no-place-none-fit e s)
 
   pub placed-free : (s : ℕ) → place_of disc n ≡ At s → Free disc n s
   placed-free s e = fits-free s (is-fits (taken disc) data_start (length disc) n s (found-fits s e))
-
-  -- ---- what the words mean
-  pub room-free : HasRoom disc n → (s : ℕ) × Free disc n s
-  unfolding HasRoom
-  room-free r = r
-
-  pub free-room : (s : ℕ) → Free disc n s → HasRoom disc n
-  unfolding HasRoom
-  free-room s f = (s, f)
-
-  pub no-place-none-free : place_of disc n ≡ Nowhere → (s : ℕ) → Free disc n s → ⊥
-  no-place-none-free e s f = no-place-no-room e (free-room s f)
 
 pub placed-shortest : (disc : List ℕ) (n s : ℕ) → 1 ≤ n → place_of disc n ≡ At s → ShortestFit (Free disc) n s
 unfolding place_of
@@ -117,12 +108,10 @@ pub size-limit-is : (disc : List ℕ) → size_limit disc ≡ length disc - data
 unfolding size_limit
 size-limit-is disc = refl
 
--- a disc without files has room for it
-pub empty-has-room : (disc : List ℕ) → file_count disc ≡ 0 → (n : ℕ) → 1 ≤ n → n ≤ size_limit disc → HasRoom disc n
-empty-has-room disc none n some small =
-    free-room disc n data_start
-    (record {
-      low = omega arith;
-      high = omega (arith, size-limit-is disc);
-      clear = λ i h. absurd (omega (arith, h, none));
-    })
+-- on a disc without files the first so many data bytes are free
+pub empty-free : (disc : List ℕ) → file_count disc ≡ 0 → (n : ℕ) → 1 ≤ n → n ≤ size_limit disc → Free disc n data_start
+empty-free disc none n some small = record {
+  low = omega arith;
+  high = omega (arith, size-limit-is disc);
+  clear = λ i h. absurd (omega (arith, h, none));
+}

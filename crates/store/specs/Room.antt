@@ -9,10 +9,3 @@ pub record Free (disc : List ℕ) (n start : ℕ) : Type 0 where
   pub low : data_start ≤ start
   pub high : start + n ≤ length disc
   pub clear : (i : ℕ) → i < file_count disc → (start + n ≤ start_of disc i) ⊎ (start_of disc i + size_of disc i ≤ start)
-
--- Document 01, store: "9 no free run long enough"
-unfoldable pub HasRoom : List ℕ → ℕ → Type 0
-HasRoom disc n = (start : ℕ) × Free disc n start
-
-abbrev pub NoRoom : List ℕ → ℕ → Type 0
-NoRoom disc n = HasRoom disc n → ⊥

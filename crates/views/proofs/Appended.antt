@@ -13,7 +13,8 @@ use Rattle.buffer.proofs.Bools.{and_left, and_right, true-not-false}
 use Rattle.buffer.proofs.Lists.{map-tab, tab-more, tab-same}
 use Rattle.place.specs.Place.{run_from}
 use Rattle.place.specs.declared.Run.{Run}
-use Rattle.disc.specs.Directory.{FileAt, entry_at, file_count, files, good_disc, run_of}
+use Rattle.disc.specs.Directory.{entry_at, file_count, files, good_disc, run_of}
+use Rattle.disc.proofs.Locations.{FileAt}
 use Rattle.disc.specs.Name.{padded}
 use Rattle.store.specs.File.{stored}
 use Rattle.store.proofs.Admissions.{Admitted}

@@ -24,7 +24,8 @@ use Rattle.buffer.proofs.Bools.{and_both, and_left, and_right, true-not-false}
 use Rattle.buffer.proofs.Lists.{tab-at, tab-length}
 use Rattle.buffer.proofs.Tables.{index-tab-at, index-tab-none}
 use Rattle.place.specs.declared.Run.{Run}
-use Rattle.disc.specs.Directory.{FileAt, contents, entry_at, file_count, files, good_disc, lookup, named, nowhere_unless, run_of}
+use Rattle.disc.specs.Directory.{contents, entry_at, file_count, files, good_disc, lookup, named, nowhere_unless, run_of}
+use Rattle.disc.proofs.Locations.{FileAt}
 use Rattle.disc.specs.Name.{good_name, padded}
 use Rattle.disc.specs.declared.Entry.{Entry}
 use Rattle.variable.specs.Table.{owned}

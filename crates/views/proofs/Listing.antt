@@ -7,7 +7,8 @@ use lib.ListN.{length, get_or, length-map}
 use Rattle.buffer.specs.Lists.{tab}
 use Rattle.buffer.proofs.Lists.{map-tab, tab-at, tab-length}
 use Rattle.place.specs.declared.Run.{Run}
-use Rattle.disc.specs.Directory.{FileAt, entry_at, file_count, files, good_disc, run_of}
+use Rattle.disc.specs.Directory.{entry_at, file_count, files, good_disc, run_of}
+use Rattle.disc.proofs.Locations.{FileAt}
 use Rattle.views.specs.Same.{Shown, shown, shown_files, whose}
 use Rattle.views.proofs.First.{start-once, whose-entry, whose-inside}
 

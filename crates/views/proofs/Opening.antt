@@ -20,7 +20,8 @@ use Rattle.number.specs.Compare.{size_within}
 use Rattle.number.specs.declared.Number.{Number}
 use Rattle.number.specs.declared.Number.TheVariants.{Char, Int, Float}
 use Rattle.place.specs.Place.{run_from}
-use Rattle.disc.specs.Directory.{FileAt, entry_at, file_count, lookup, run_of}
+use Rattle.disc.specs.Directory.{entry_at, file_count, lookup, run_of}
+use Rattle.disc.proofs.Locations.{FileAt, Held, held-inside, held-low}
 use Rattle.disc.specs.Layout.{max_files}
 use Rattle.disc.specs.Name.{good_name, padded}
 use Rattle.disc.proofs.Goodness.{good-entry-at}
@@ -250,10 +251,14 @@ module _ (k₁ k₂ : Kernel) (d₁ d₂ : List ℕ) (g₁ : GoodState k₁ d₁
       file-of₂ = file₂ k₁ k₂ d₁ d₂ g₁ g₂ same slot live some
 
       inside₁ : Inside d₁ (file_run p₁.file) p₁.file.offset (length bytes)
-      inside₁ = record { held = record { sound = g₁.sound; file = file-of₁ }; fits = fits }
+      inside₁ =
+          let held : Held d₁ (file_run p₁.file) = record { sound = g₁.sound; file = file-of₁ } in
+          record { low = held-low held; high = held-inside held; fits = fits }
 
       inside₂ : Inside d₂ (file_run p₂.file) p₂.file.offset (length bytes)
-      inside₂ = record { held = record { sound = g₂.sound; file = file-of₂ }; fits = omega (arith, offset, size, fits) }
+      inside₂ =
+          let held : Held d₂ (file_run p₂.file) = record { sound = g₂.sound; file = file-of₂ } in
+          record { low = held-low held; high = held-inside held; fits = omega (arith, offset, size, fits) }
 
       files-after : shown_files after₁ ≡ shown_files after₂
       files-after =
@@ -263,7 +268,7 @@ module _ (k₁ k₂ : Kernel) (d₁ d₂ : List ℕ) (g₁ : GoodState k₁ d₁
 
       kernel-after : aside_kernel after₁ k₁ ≡ aside_kernel after₂ k₂
       kernel-after =
-          overwritten-kernel-at bytes inside₁ k₁ ∙ (λ z. (same z).kernel) ∙ sym (overwritten-kernel-at bytes inside₂ k₂)
+          overwritten-kernel-at bytes inside₁ g₁.sound k₁ ∙ (λ z. (same z).kernel) ∙ sym (overwritten-kernel-at bytes inside₂ g₂.sound k₂)
 
       view-after : (l : Local)
           → view_at (with_process k₁ slot (with_file (with_local p₁ l) (advanced p₁.file (length bytes)))) after₁

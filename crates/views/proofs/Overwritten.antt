@@ -11,7 +11,8 @@ use Rattle.buffer.specs.Buffer.{overwrite}
 use Rattle.buffer.specs.Lists.{index, tab}
 use Rattle.buffer.proofs.Lists.{tab-same}
 use Rattle.place.specs.declared.Run.{Run}
-use Rattle.disc.specs.Directory.{FileAt, contents, entry_at, file_count, files, good_disc, run_of}
+use Rattle.disc.specs.Directory.{contents, entry_at, file_count, files, good_disc, run_of}
+use Rattle.disc.proofs.Locations.{FileAt}
 use Rattle.disc.proofs.Goodness.{good-disc-is}
 use Rattle.store.specs.File.{written_at}
 use Rattle.store.proofs.Changes.{Inside, written_count, written_entry, written-files}
@@ -129,12 +130,12 @@ kernel-kept d e q k =
       processes = map (λ (p : Process). aside-kept d e q p z) k.processes;
     }
 
-pub overwritten-kernel-at : {disc : List ℕ} {run : Run} {offset : ℕ} (bytes : List ℕ) → Inside disc run offset (length bytes) → (k : Kernel)
-    → aside_kernel (written_at disc run offset bytes) k ≡ aside_kernel disc k
-overwritten-kernel-at {disc} {run} {offset} bytes inside k =
-    kernel-kept (written_at disc run offset bytes) disc (written-files bytes inside (good-disc-is disc inside.held.sound).few) k
+pub overwritten-kernel-at : {disc : List ℕ} {run : Run} {offset : ℕ} (bytes : List ℕ) → Inside disc run offset (length bytes)
+    → good_disc disc ≡ true → (k : Kernel) → aside_kernel (written_at disc run offset bytes) k ≡ aside_kernel disc k
+overwritten-kernel-at {disc} {run} {offset} bytes inside good k =
+    kernel-kept (written_at disc run offset bytes) disc (written-files bytes inside (good-disc-is disc good).few) k
 
 pub overwritten-kernel : (disc : List ℕ) → good_disc disc ≡ true → (i offset : ℕ) (bytes : List ℕ) → i < file_count disc
     → offset + length bytes ≤ (entry_at disc i).len → (k : Kernel)
     → aside_kernel (written_at disc (run_of (entry_at disc i)) offset bytes) k ≡ aside_kernel disc k
-overwritten-kernel disc good i offset bytes h fits = overwritten-kernel-at bytes (file-inside disc good i h offset (length bytes) fits)
+overwritten-kernel disc good i offset bytes h fits = overwritten-kernel-at bytes (file-inside disc good i h offset (length bytes) fits) good

@@ -12,7 +12,8 @@ use Rattle.buffer.specs.Lists.{tab, without}
 use Rattle.buffer.proofs.Bools.{and_left, and_right, true-not-false}
 use Rattle.buffer.proofs.Tables.{tab-without}
 use Rattle.place.specs.declared.Run.{Run}
-use Rattle.disc.specs.Directory.{FileAt, entry_at, file_count, files, good_disc, run_of}
+use Rattle.disc.specs.Directory.{entry_at, file_count, files, good_disc, run_of}
+use Rattle.disc.proofs.Locations.{FileAt}
 use Rattle.store.specs.File.{erased}
 use Rattle.store.proofs.Changes.{erased-count, erased-earlier, erased-later}
 use Rattle.store.proofs.Contents.{erased-other-file}

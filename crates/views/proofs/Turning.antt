@@ -9,7 +9,8 @@ use Rattle.buffer.specs.Buffer.{part}
 use Rattle.buffer.specs.Lists.{any}
 use Rattle.number.specs.Compare.{equals}
 use Rattle.number.specs.declared.Number.{Number}
-use Rattle.disc.specs.Directory.{FileAt, contents, entry_at, files, run_of}
+use Rattle.disc.specs.Directory.{contents, entry_at, files, run_of}
+use Rattle.disc.proofs.Locations.{FileAt}
 use Rattle.disc.specs.Name.{trimmed}
 use Rattle.store.specs.File.{read_at}
 use Rattle.variable.specs.Assign.{assigned, placing_fault, value_of}

@@ -9,7 +9,8 @@ use Rattle.buffer.specs.Lists.{any}
 use Rattle.buffer.proofs.Bools.{and_both}
 use Rattle.buffer.proofs.Lists.{all-each, tab-at, tab-length}
 use Rattle.place.specs.declared.Run.{Run}
-use Rattle.disc.specs.Directory.{FileAt, entry_at, file_count, files, good_disc, is_disc_length}
+use Rattle.disc.specs.Directory.{entry_at, file_count, files, good_disc, is_disc_length}
+use Rattle.disc.proofs.Locations.{FileAt}
 use Rattle.disc.specs.declared.Entry.{Entry}
 use Rattle.machine.specs.Beyond.{file_run}
 use Rattle.machine.specs.GoodArea.{good_process, is_open_in, is_program}

@@ -6,8 +6,7 @@ use mathlib.Core.List.{List}
 use native.Mathlib.Omega.{arith}
 use lib.Dec.{eqb}
 use lib.ListN.{length}
-use Rattle.disc.specs.Directory.{Held}
-use Rattle.disc.proofs.Locations.{held-inside}
+use Rattle.disc.proofs.Locations.{Held, held-inside}
 use Rattle.store.proofs.Contents.{contents-length}
 use Rattle.variable.proofs.Views.{take_bound}
 use Rattle.machine.specs.State.{is_live, is_running, local_of, paused, process_at}

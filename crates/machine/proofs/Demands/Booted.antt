@@ -6,7 +6,7 @@ use mathlib.Core.List.{List}
 use lib.ListN.{get_or, length, length-replicate, replicate}
 use Rattle.buffer.specs.Lists.{all, any, keep, pairs, tab}
 use Rattle.buffer.proofs.Bools.{and_both, and_left, and_right}
-use Rattle.disc.specs.Directory.{file_count, good_disc, good_files, is_disc_length}
+use Rattle.disc.specs.Directory.{good_disc, good_files, is_disc_length}
 use Rattle.variable.specs.Good.{good_variables}
 use Rattle.disc.specs.Layout.{count_at}
 use Rattle.variable.specs.Bytes.{variables_of}
@@ -30,7 +30,7 @@ zeros-at (suc n) (suc i) = zeros-at n i
 
 -- zeros of any length hold no file
 zeros-good : (n : ℕ) → good_disc (replicate n 0) ≡ true
-unfolding file_count good_disc good_files all pairs tab
+unfolding good_disc good_files all pairs tab
 zeros-good n = rw (zeros-at n count_at)
 
 booted-passes : (disc : List ℕ) → is_disc_length (length disc) ≡ true → good_disc disc ≡ true → Passes disc booted

@@ -16,7 +16,7 @@ use Rattle.disc.specs.Directory.{DiscLength, file_count, good_disc, good_files}
 use Rattle.disc.specs.Layout.{data_start, max_files}
 use Rattle.store.specs.File.{size_limit}
 use Rattle.store.specs.Room.{Free}
-use Rattle.store.proofs.Rooms.{empty-has-room, room-free, size-limit-is}
+use Rattle.store.proofs.Rooms.{empty-free, size-limit-is}
 use Rattle.machine.specs.Answer.{Answer, Buffers, answer, other, store}
 use Rattle.machine.specs.DiscLengths.{BothSizes, EmptyDiscTakes, Fitting, OpenTakes, Taken, data_bytes}
 use Rattle.machine.specs.Fields.{IsName, NoFile}
@@ -72,7 +72,8 @@ module _ (b : Buffers) (name bytes : List ℕ) (long : DiscLength (length b.disc
       let f : fits = (p.0.0, omega (arith, p.0.1)) in
       let few : file_count b.disc < max_files = omega (arith, none) in
       let small : length bytes ≤ size_limit b.disc = omega (arith, size-limit-is b.disc, f.1) in
-      let room = room-free b.disc (length bytes) (empty-has-room b.disc none (length bytes) f.0 small) in
+      let room : (start : ℕ) × Free b.disc (length bytes) start =
+      (data_start, empty-free b.disc none (length bytes) f.0 small) in
       let d = past 9 passed room (past 7 from_place no-file (past 8 from-lookup few p.1)) in
       inl (f, d.1 ∙ ap pos (store-done b name bytes d.0 d.1).0)
 

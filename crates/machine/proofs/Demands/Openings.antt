@@ -31,7 +31,7 @@ use Rattle.store.specs.declared.Refusal.{Refusal}
 use Rattle.store.specs.declared.Refusal.TheVariants.{WrongLength, BadDisc, ShortOutput, BadName, BadSize, NameExists, DirectoryFull, NoRun}
 use Rattle.store.specs.declared.Refusal.TheVariants.{NoSuchFile}
 use Rattle.store.proofs.Admissions.{Denial, denied, denied-full}
-use Rattle.store.proofs.Rooms.{free-room}
+use Rattle.store.proofs.Rooms.{free-fits}
 use Rattle.machine.specs.Beyond.{Answered, answered, breaks, continues, created, created_at, new_file_size, opened, opened_at}
 use Rattle.machine.specs.Effect.{opens}
 use Rattle.machine.specs.NoPlace.{NewFileRefused, by_name, by_size, by-full, by-no-run}
@@ -76,7 +76,7 @@ module _ (disc name : List ℕ) (long : is_disc_length (length disc) ≡ true) (
   denial-refuses n size e fit new DirectoryFull a d = by-full (denied-full disc name n good a)
   denial-refuses n size e fit new NameExists a d = absurd (let found : lookup disc name ≡ At d.0 = d.1 in
       let z : ◌≡◌ {A = ℕ} 0 1 = cc in omega arith)
-  denial-refuses n size e fit new NoRun a d = by-no-run n e (λ s free. d (free-room disc n s free))
+  denial-refuses n size e fit new NoRun a d = by-no-run n e (λ s free. true-not-false (free-fits disc n s free) (d s))
   denial-refuses n size e fit new ShortOutput a d = absurd d
   denial-refuses n size e fit new NoSuchFile a d = absurd d
 

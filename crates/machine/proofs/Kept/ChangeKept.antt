@@ -8,7 +8,8 @@ use native.Mathlib.Omega.{arith}
 use lib.ListN.{get_or}
 use Rattle.buffer.specs.declared.Found.TheVariants.{At, Nowhere}
 use Rattle.place.specs.declared.Run.{Run}
-use Rattle.disc.specs.Directory.{FileAt, contents}
+use Rattle.disc.specs.Directory.{contents}
+use Rattle.disc.proofs.Locations.{FileAt}
 use Rattle.variable.specs.Table.{owned}
 use Rattle.machine.specs.State.{is_live, process_at, slot_of}
 use Rattle.machine.specs.Turn.{program_of}

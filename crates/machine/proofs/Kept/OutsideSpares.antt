@@ -5,7 +5,8 @@ use mathlib.Core.Path.{◌≡◌, ap, ◌∙◌, subst⁻¹}
 use mathlib.Core.Bool.{true}
 use mathlib.Core.List.{List}
 use Rattle.place.specs.declared.Run.{Run}
-use Rattle.disc.specs.Directory.{FileAt, contents, entry_at, run_of}
+use Rattle.disc.specs.Directory.{contents, entry_at, run_of}
+use Rattle.disc.proofs.Locations.{FileAt}
 use Rattle.disc.proofs.Goodness.{good-entry-at}
 use Rattle.store.proofs.Contents.{erased-contents}
 use Rattle.store.proofs.Invariant.{present}

@@ -5,7 +5,8 @@ use mathlib.Core.Bool.{true}
 use mathlib.Core.List.{List}
 use lib.ListN.{length}
 use Rattle.place.specs.declared.Run.{Run}
-use Rattle.disc.specs.Directory.{FileAt, contents, entry_at, is_disc_length, run_of}
+use Rattle.disc.specs.Directory.{contents, entry_at, is_disc_length, run_of}
+use Rattle.disc.proofs.Locations.{FileAt}
 use Rattle.disc.specs.declared.Entry.{Entry}
 use Rattle.disc.proofs.Goodness.{good-disc-is}
 use Rattle.store.proofs.Changes.{Inside, written-files, written-length}
@@ -61,7 +62,7 @@ writes-good moved w k disc j after g x =
     (record {
       sized = m.sized;
       long = ap is_disc_length (written-length x.bytes (write-inside g x)) ∙ g.long;
-      sound = written-good x.bytes (write-inside g x);
+      sound = written-good x.bytes (write-inside g x) g.sound;
       area = subst⁻¹ (λ (es : List Entry). good_kernel es (with_process k w x.process) ≡ true)
           (written-files x.bytes (write-inside g x) (good-disc-is disc g.sound).few) m.area;
     }))

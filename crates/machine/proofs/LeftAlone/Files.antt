@@ -13,15 +13,16 @@ use Rattle.buffer.specs.declared.Found.TheVariants.{At, Nowhere}
 use Rattle.buffer.proofs.Bools.{and_left, and_right, true-not-false}
 use Rattle.place.specs.Place.{run_from}
 use Rattle.place.specs.declared.Run.{Run}
-use Rattle.disc.specs.Directory.{FileAt, contents, entry_at, file_count, good_disc, is_disc_length, lookup, run_of}
+use Rattle.disc.specs.Directory.{contents, entry_at, file_count, good_disc, is_disc_length, lookup, run_of}
+use Rattle.disc.proofs.Locations.{FileAt, contents-part}
 use Rattle.disc.specs.declared.Entry.{Entry}
 use Rattle.disc.proofs.Lengths.{readable}
 use Rattle.disc.proofs.Goodness.{good-disc-is}
 use Rattle.disc.proofs.Lookups.{Located, located-once, lookup-at}
 use Rattle.buffer.specs.Buffer.{part}
-use Rattle.disc.specs.Offsets.{bytes_of, size_of, start_of}
+use Rattle.disc.specs.Offsets.{size_of, start_of}
+use Rattle.disc.proofs.Offsets.{bytes_of}
 use Rattle.disc.proofs.InARow.{contents-byte, contents-some}
-use Rattle.disc.proofs.Locations.{contents-part}
 use Rattle.disc.proofs.Offsets.{bytes-of, entry-size, entry-start}
 use Rattle.store.specs.File.{erased, stored, written_at}
 use Rattle.store.proofs.Admissions.{Admitted}

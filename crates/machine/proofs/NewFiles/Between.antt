@@ -13,7 +13,8 @@ use Rattle.buffer.specs.declared.Found.{Found}
 use Rattle.buffer.specs.declared.Found.TheVariants.{At}
 use Rattle.buffer.proofs.Bools.{and_both, and-false-right, and_left, and_right, true-not-false}
 use Rattle.buffer.proofs.Disjunctions.{or-false-left, or-false-right}
-use Rattle.disc.specs.Directory.{FileAt, contents, files}
+use Rattle.disc.specs.Directory.{contents, files}
+use Rattle.disc.proofs.Locations.{FileAt}
 use Rattle.machine.specs.Answer.{Answer, Buffers, Call, turn, round, command, share, run, other, answer, command_answer}
 use Rattle.machine.specs.Area.{kernel_bytes, kernel_of}
 use Rattle.machine.specs.Beyond.{file_run}

@@ -11,11 +11,11 @@ use lib.ListN.{drop, get_or, length, length-append, length-drop}
 use lib.Seq.{get_or-drop}
 use borrow.Author.Tests.{eqb-false, leb-false}
 use Rattle.buffer.specs.Buffer.{part}
-use Rattle.disc.specs.Directory.{Held, contents, files}
+use Rattle.disc.specs.Directory.{contents, files}
+use Rattle.disc.proofs.Locations.{Held, held-inside}
 use Rattle.disc.specs.Name.{trimmed, unless_zero}
 use Rattle.disc.proofs.Names.{text-ends, text-with-zero}
 use Rattle.disc.proofs.InARow.{contents-byte, contents-within}
-use Rattle.disc.proofs.Locations.{held-inside}
 use Rattle.store.specs.File.{read_at}
 use Rattle.store.proofs.Steps.{written-steps}
 use Rattle.store.proofs.Contents.{contents-length}

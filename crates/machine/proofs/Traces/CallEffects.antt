@@ -13,7 +13,8 @@ use Rattle.buffer.specs.declared.Found.{Found}
 use Rattle.buffer.specs.declared.Found.TheVariants.{At, Nowhere}
 use Rattle.buffer.proofs.Bools.{and_right, true-not-false}
 use Rattle.place.specs.declared.Run.{Run}
-use Rattle.disc.specs.Directory.{FileAt, contents, entry_at, lookup}
+use Rattle.disc.specs.Directory.{contents, entry_at, lookup}
+use Rattle.disc.proofs.Locations.{FileAt}
 use Rattle.disc.proofs.Lookups.{lookup-at}
 use Rattle.store.proofs.Calls.{store-cases}
 use Rattle.variable.specs.Table.{owned}

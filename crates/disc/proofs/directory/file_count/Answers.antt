@@ -1,12 +1,10 @@
 -- `directory::file_count` meets its contract: a byte fits a usize.
 use native.Mathlib.Omega.{arith}
 use borrow.Author.Rules.{rules}
-use Rattle.disc.specs.Directory.{file_count}
 use Rattle.disc.specs.Layout.{count_at}
 use Rattle.disc.proofs.directory.file_count.Goals as goal
 
 pub returns : goal.returns
-unfolding file_count
 returns c = search rules
 
 pub overflow_cast-result : goal.overflow_cast-result

@@ -9,9 +9,9 @@ use lib.Seq.{length-take-le}
 use Rattle.buffer.specs.Buffer.{overwrite}
 use Rattle.buffer.specs.declared.Found.{Found}
 use Rattle.buffer.specs.declared.Found.TheVariants.{At}
-use Rattle.disc.specs.Directory.{Held, contents, entry_at, file_count, lookup, run_of}
+use Rattle.disc.specs.Directory.{contents, entry_at, file_count, lookup, run_of}
+use Rattle.disc.proofs.Locations.{Held, file-held, held-inside}
 use Rattle.disc.specs.declared.Entry.{Entry}
-use Rattle.disc.proofs.Locations.{file-held, held-inside}
 use Rattle.disc.proofs.Lookups.{lookup-at}
 use Rattle.store.specs.Answer.{checked, retrieve_answer, retrieve_at, retrieve_file}
 use Rattle.store.specs.File.{read_at}
