@@ -121,7 +121,7 @@ fn main(rt: HostRuntime) -> io::Result<()> {
     let mut bytes = Vec::new(rt.alloc());
     rt.reader().read_to_end(&mut bytes)?;
     let (patterns, _) = bytes.as_slice().as_chunks::<4>();
-    for pattern in patterns {
+    for pattern in patterns.iter().take(100000) {
         show(&rt, *pattern)?;
     }
     Ok(())
