@@ -3,6 +3,7 @@
 // gate compares with.
 #![tactic(auto)]
 
+ghost use Rattle.std.specs.Io.{ReadsAtMost};
 ghost use Rattle.std.specs.Prelude.{◌≤◌, length, IfOk};
 
 use operation::Answer;
@@ -42,7 +43,7 @@ fn read_length(input: &mut impl Read, most: usize) -> io::Result<usize>
 // Reads the next buffer of a vector, which is given by what differs from what buf has: runs of bytes that stay and of
 // new ones. Answers its length.
 fn read_changes(input: &mut impl Read, buf: &mut [u8]) -> io::Result<usize>
-    ensures { IfOk result (λ len. len ≤ length buf.new) }
+    ensures { ReadsAtMost result buf.new }
 {
     let len = read_length(input, buf.len())?;
     let mut at: usize = 0;

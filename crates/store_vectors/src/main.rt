@@ -2,6 +2,7 @@
 // tools/vectors/generate.py writes that file, and the file stdout that the gate compares with.
 #![tactic(auto)]
 
+ghost use Rattle.std.specs.Io.{ReadsAtMost};
 ghost use Rattle.std.specs.Prelude.{◌≤◌, length, IfOk};
 
 use std::fs::File;
@@ -15,7 +16,7 @@ const LONGEST: usize = 4096;
 // Reads the next buffer of a vector, its length in two bytes and then its bytes, and answers the length. One that has
 // no room counts as empty.
 fn read_part(input: &mut impl Read, buf: &mut [u8]) -> io::Result<usize>
-    ensures { IfOk result (λ len. len ≤ length buf.new) }
+    ensures { ReadsAtMost result buf.new }
 {
     let mut size = [0u8; 2];
     input.read_exact(&mut size)?;
