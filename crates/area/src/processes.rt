@@ -7,7 +7,6 @@ ghost use Rattle.machine.specs.Operations.{in_use, uses};
 ghost use Rattle.machine.specs.State.{ended_slot, has_id, is_live, slot_of};
 
 use crate::records::{CODE_AT, FILE_AT, ID_AT, PAUSED, RUNNING, STATE_AT};
-use buffer::Found;
 use disc::Entry;
 use disc::layout::NAME_SIZE;
 use machine::limits::{SLOT_COUNT, STACK_SIZE};
@@ -97,33 +96,33 @@ fn is_user(bytes: &[u8], e: Entry) -> bool
 
 // ---- searches
 // The slot of a live ID. IDs are compared as whole numbers: none above 65,535 is anybody's.
-pub fn slot_of(area: &[u8], id: u32) -> Found
+pub fn slot_of(area: &[u8], id: u32) -> Option<usize>
     requires { length area.now ≡ area_length }
     ensures { result ≡ slot_of (kernel_of area.now) id }
 {
     let mut slot: usize = 0;
     while slot < SLOT_COUNT {
         if has_id(crate::records::record_at(area, slot), id) {
-            return Found::At(slot);
+            return Some(slot);
         }
         slot += 1;
     }
-    Found::Nowhere
+    None
 }
 
 // Document 01: "Takes the lowest ended slot"
-pub fn ended_slot(area: &[u8]) -> Found
+pub fn ended_slot(area: &[u8]) -> Option<usize>
     requires { length area.now ≡ area_length }
     ensures { result ≡ ended_slot (kernel_of area.now) }
 {
     let mut slot: usize = 0;
     while slot < SLOT_COUNT {
         if !is_live(crate::records::record_at(area, slot)) {
-            return Found::At(slot);
+            return Some(slot);
         }
         slot += 1;
     }
-    Found::Nowhere
+    None
 }
 
 // Document 01, Erase: "11 a live process runs it or has it open."

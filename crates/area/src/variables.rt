@@ -9,7 +9,6 @@ ghost use Rattle.variable.specs.Limits.{max_variables, value_size};
 ghost use Rattle.variable.specs.Table.{find, freed, is_gone, no_variable};
 ghost use Rattle.area.specs.Parts.{SetIn};
 
-use buffer::Found;
 use variable::{Placing, VARIABLES_SIZE, Variable};
 
 pub fn variable_at(area: &[u8], i: usize) -> Variable
@@ -20,7 +19,7 @@ pub fn variable_at(area: &[u8], i: usize) -> Variable
 }
 
 // The place in the table of the variable of that name and process.
-pub fn find_in(area: &[u8], name: u8, owner: u16) -> Found
+pub fn find_in(area: &[u8], name: u8, owner: u16) -> Option<usize>
     requires { (length area.now ≡ area_length) × ((kernel_of area.now).variables.count ≤ max_variables) }
     ensures { result ≡ find (kernel_of area.now).variables name owner }
 {

@@ -1,4 +1,5 @@
 -- Laws of the tests on lists, and of the lists made from others.
+use Rattle.std.specs.Prelude.{None, Some}
 use Prim.Native.Nat.{ℕ, zero, suc, ◌+◌, ◌-◌, ◌<◌, ◌≤◌}
 use mathlib.Core.Path.{◌≡◌, refl, sym, ap, ◌∙◌, subst}
 use mathlib.Core.Bool.{Bool, true, false, ◌&&◌, and-false, and_assoc, and-true}
@@ -12,7 +13,6 @@ use lib.ListN.{length, get_or, take, drop, set, replicate, length-append, get_or
 use lib.Seq.{take-suc, take-suc-set, get_or_at}
 use borrow.Author.Tests.{eq-eqb, eqb-true}
 use Rattle.buffer.specs.Lists.{all, pairs, same, index, later, tab, flat, without}
-use Rattle.buffer.specs.declared.Found.TheVariants.{At, Nowhere}
 use Rattle.buffer.proofs.Bools.{and_left, and_right, and_both, true-not-false, not-true-is-false}
 
 -- ---- all
@@ -123,14 +123,14 @@ same-differ l m h = not-true-is-false (same l m) (λ t. h (same-eq l m t))
 module _ {A : Type 0} (p : A → Bool) where
   -- found at i: the test holds there, and of nothing before
   pub index_is : (l : List A) (i : ℕ) (d : A) → i < length l → p (get_or l i d) ≡ true → ((k : ℕ) → k < i → p (get_or l k d) ≡ false)
-      → index p l ≡ At i
+      → index p l ≡ Some i
   unfolding index
   index_is [] i d h e f = absurd (not-suc-le-zero h)
   index_is (x ∷ l) zero d h e f = rw e
   index_is (x ∷ l) (suc i) d h e f =
       rw (f 0 (omega arith)) (ap later (index_is l i d (le_of_suc-le-suc h) e (λ k g. f (suc k) (omega arith))))
 
-  pub index-miss : (l : List A) (d : A) → ((k : ℕ) → k < length l → p (get_or l k d) ≡ false) → index p l ≡ Nowhere
+  pub index-miss : (l : List A) (d : A) → ((k : ℕ) → k < length l → p (get_or l k d) ≡ false) → index p l ≡ None
   unfolding index
   index-miss [] d f = refl
   index-miss (x ∷ l) d f = rw (f 0 (omega arith)) (ap later (index-miss l d (λ k g. f (suc k) (omega arith))))

@@ -1,4 +1,5 @@
 -- What a search in a list found; tests of tables; tables less one element.
+use Rattle.std.specs.Prelude.{None, Option, Some}
 use Prim.Native.Nat.{ℕ, zero, suc, ◌≤◌, ◌<◌}
 use mathlib.Core.Path.{◌≡◌, refl, sym, ◌∙◌, subst, subst₂}
 use mathlib.Core.Bool.{Bool, true, false}
@@ -9,8 +10,6 @@ use native.Mathlib.Omega.{arith}
 use lib.ListN.{length, get_or, take, drop, length-append, drop_of_length-le}
 use lib.Seq.{drop-append-le, take-append-le, take_at}
 use Rattle.buffer.specs.Lists.{all, pairs, index, here_or, tab, without}
-use Rattle.buffer.specs.declared.Found.{Found}
-use Rattle.buffer.specs.declared.Found.TheVariants.{At, Nowhere}
 use Rattle.buffer.proofs.Lists.{all-at, all-each, index_is, index-miss, pairs-at, tab-at, tab-length, tab-same}
 
 -- ---- what a search found
@@ -20,17 +19,17 @@ module _ {A : Type 0} (p : A → Bool) (d : A) where
     pub holds : p (get_or l i d) ≡ true
     pub first : (k : ℕ) → k < i → p (get_or l k d) ≡ false
 
-  pub index_at : (l : List A) (i : ℕ) → index p l ≡ At i → First l i
+  pub index_at : (l : List A) (i : ℕ) → index p l ≡ Some i → First l i
   unfolding index
   index_at [] i e = absurd (let z : ◌≡◌ {A = ℕ} 0 1 = cc in omega arith)
   index_at (x ∷ l) i e = go (p x) refl (index p l) refl e (index_at l)
     where
-      go : (b : Bool) → p x ≡ b → (f : Found) → index p l ≡ f → here_or b f ≡ At i → ((j : ℕ) → index p l ≡ At j → First l j)
+      go : (b : Bool) → p x ≡ b → (f : Option ℕ) → index p l ≡ f → here_or b f ≡ Some i → ((j : ℕ) → index p l ≡ Some j → First l j)
           → First (x ∷ l) i
       go true t f g h r = let w : 0 ≡ i = cc in
           subst (λ (k : ℕ). First (x ∷ l) k) w (record { inside = omega arith; holds = t; first = λ k n. absurd (not-suc-le-zero n) })
-      go false t Nowhere g h r = absurd (let z : ◌≡◌ {A = ℕ} 0 1 = cc in omega arith)
-      go false t (At j) g h r = let w : suc j ≡ i = cc in subst (λ (k : ℕ). First (x ∷ l) k) w (further (r j g))
+      go false t None g h r = absurd (let z : ◌≡◌ {A = ℕ} 0 1 = cc in omega arith)
+      go false t (Some j) g h r = let w : suc j ≡ i = cc in subst (λ (k : ℕ). First (x ∷ l) k) w (further (r j g))
         where
           before : First l j → (k : ℕ) → k < suc j → p (get_or (x ∷ l) k d) ≡ false
           before y zero n = t
@@ -39,18 +38,18 @@ module _ {A : Type 0} (p : A → Bool) (d : A) where
           further : First l j → First (x ∷ l) (suc j)
           further y = record { inside = omega (arith, y.inside); holds = y.holds; first = before y }
 
-  pub index-none : (l : List A) → index p l ≡ Nowhere → (k : ℕ) → k < length l → p (get_or l k d) ≡ false
+  pub index-none : (l : List A) → index p l ≡ None → (k : ℕ) → k < length l → p (get_or l k d) ≡ false
   unfolding index
   index-none [] e k h = absurd (not-suc-le-zero h)
   index-none (x ∷ l) e k h = go (p x) refl (index p l) refl e k h (index-none l)
     where
-      go : (b : Bool) → p x ≡ b → (f : Found) → index p l ≡ f → here_or b f ≡ Nowhere
-          → (k : ℕ) → k < length (x ∷ l) → (index p l ≡ Nowhere → (j : ℕ) → j < length l → p (get_or l j d) ≡ false)
+      go : (b : Bool) → p x ≡ b → (f : Option ℕ) → index p l ≡ f → here_or b f ≡ None
+          → (k : ℕ) → k < length (x ∷ l) → (index p l ≡ None → (j : ℕ) → j < length l → p (get_or l j d) ≡ false)
           → p (get_or (x ∷ l) k d) ≡ false
       go true t f g y k n r = absurd (let z : ◌≡◌ {A = ℕ} 0 1 = cc in omega arith)
-      go false t (At j) g y k n r = absurd (let z : ◌≡◌ {A = ℕ} 0 1 = cc in omega arith)
-      go false t Nowhere g y zero n r = t
-      go false t Nowhere g y (suc k) n r = r g k (le_of_suc-le-suc n)
+      go false t (Some j) g y k n r = absurd (let z : ◌≡◌ {A = ℕ} 0 1 = cc in omega arith)
+      go false t None g y zero n r = t
+      go false t None g y (suc k) n r = r g k (le_of_suc-le-suc n)
 
 -- ---- tests of a list made from another, and of a table
 pub all_map : {A B : Type 0} (p : B → Bool) (f : A → B) (l : List A) → all p (map f l) ≡ all (λ x. p (f x)) l
@@ -79,22 +78,22 @@ module _ {A : Type 0} (f : ℕ → A) (n : ℕ) where
       (pairs-at r (tab f n) i j (f 0) h (below j k) e)
 
   -- the first in a table that a test holds of
-  pub index-tab-at : (p : A → Bool) (i : ℕ) → index p (tab f n) ≡ At i → (i < n) × (p (f i) ≡ true)
+  pub index-tab-at : (p : A → Bool) (i : ℕ) → index p (tab f n) ≡ Some i → (i < n) × (p (f i) ≡ true)
   index-tab-at p i e =
       let g = index_at p (f 0) (tab f n) i e in
       let h : i < n = subst (λ (m : ℕ). i < m) (tab-length f n) g.inside in
       (h, subst (λ (x : A). p x ≡ true) (tab-at f n i (f 0) h) g.holds)
 
-  pub index-tab-none : (p : A → Bool) → index p (tab f n) ≡ Nowhere → (i : ℕ) → i < n → p (f i) ≡ false
+  pub index-tab-none : (p : A → Bool) → index p (tab f n) ≡ None → (i : ℕ) → i < n → p (f i) ≡ false
   index-tab-none p e i h = subst (λ (x : A). p x ≡ false) (tab-at f n i (f 0) h) (index-none p (f 0) (tab f n) e i (below i h))
 
-  pub index-tab-is : (p : A → Bool) (i : ℕ) → i < n → p (f i) ≡ true → ((k : ℕ) → k < i → p (f k) ≡ false) → index p (tab f n) ≡ At i
+  pub index-tab-is : (p : A → Bool) (i : ℕ) → i < n → p (f i) ≡ true → ((k : ℕ) → k < i → p (f k) ≡ false) → index p (tab f n) ≡ Some i
   index-tab-is p i h e b = index_is p (tab f n) i (f 0) (below i h) (rw (tab-at f n i (f 0) h) e) (λ k g. before k g (omega arith))
     where
       before : (k : ℕ) → k < i → k < n → p (get_or (tab f n) k (f 0)) ≡ false
       before k g m = rw (tab-at f n k (f 0) m) (b k g)
 
-  pub index-tab-miss : (p : A → Bool) → ((i : ℕ) → i < n → p (f i) ≡ false) → index p (tab f n) ≡ Nowhere
+  pub index-tab-miss : (p : A → Bool) → ((i : ℕ) → i < n → p (f i) ≡ false) → index p (tab f n) ≡ None
   index-tab-miss p h = index-miss p (tab f n) (f 0) (of-each (λ x. p x ≡ false) h)
 
 -- ---- a table less its element at i

@@ -1,7 +1,6 @@
 -- Tests on lists, and lists made from others. Everything above is said in these words.
+use Rattle.std.specs.Prelude.{None, Option, Some}
 use Rattle.std.specs.Prelude.{ℕ, zero, suc, Bool, true, false, ◌&&◌, ◌||◌, List, [], ◌∷◌, ◌++◌, eqb, take, drop}
-use Rattle.buffer.specs.declared.Found.{Found}
-use Rattle.buffer.specs.declared.Found.TheVariants.{At, Nowhere}
 
 -- p holds of every element
 unfoldable pub all : {A : Type 0} → (A → Bool) → List A → Bool
@@ -35,17 +34,17 @@ same [] (y ∷ m) = false
 same (x ∷ l) [] = false
 same (x ∷ l) (y ∷ m) = eqb x y && same l m
 
-abbrev pub later : Found → Found
-later (At i) = At (suc i)
-later Nowhere = Nowhere
+abbrev pub later : Option ℕ → Option ℕ
+later (Some i) = Some (suc i)
+later None = None
 
-abbrev pub here_or : Bool → Found → Found
-here_or true f = At 0
+abbrev pub here_or : Bool → Option ℕ → Option ℕ
+here_or true f = Some 0
 here_or false f = later f
 
 -- the place of the first element that p holds of
-unfoldable pub index : {A : Type 0} → (A → Bool) → List A → Found
-index p [] = Nowhere
+unfoldable pub index : {A : Type 0} → (A → Bool) → List A → Option ℕ
+index p [] = None
 index p (x ∷ l) = here_or (p x) (index p l)
 
 -- f 0, f 1, .. f (n - 1)

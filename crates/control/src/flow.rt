@@ -1,6 +1,6 @@
 // Jumps and loops. Jumps count from past the arguments.
 ghost use Rattle.std.specs.Prelude.{cond, [], ◌∷◌, ◌++◌, ◌+◌, ◌≤◌, leb, length, take};
-ghost use Rattle.buffer.specs.declared.Found.{Found};
+ghost use Rattle.std.specs.Prelude.{Some};
 ghost use Rattle.machine.specs.Effect.{settle, unless_faults};
 ghost use Rattle.machine.specs.Exec.{drops, ends_while, jumps_if, loops_back, marks_loop, whiles};
 ghost use Rattle.stack.specs.Steps.{Keeps, Means, Ready};
@@ -63,8 +63,8 @@ fn choose_while(
 ) -> Step
     requires { Keeps code.now stack.now kept × (to ≤ length code.now) }
     ensures { Means stack.now result (cond zero
-        (settle code.now (Found.At (to + (b + 1))) (take kept stack.now) loopstart [])
-        (unless_faults (leb (c + b) 251) 8 (settle code.now (Found.At to)
+        (settle code.now (Some (to + (b + 1))) (take kept stack.now) loopstart [])
+        (unless_faults (leb (c + b) 251) 8 (settle code.now (Some to)
         (take kept stack.now ++ ((c + b + 4) ∷ [])) loopstart []))) }
 {
     if zero {

@@ -1,10 +1,8 @@
 -- The disc: its directory and its files.
 use Rattle.std.specs.Prelude.{ℕ, ◌+◌, ◌*◌, ◌≤◌, ◌≡◌, Bool, true, false, ◌&&◌, ◌||◌, not, List, ◌++◌, map, ◌⊎◌, eqb}
-use Rattle.std.specs.Prelude.{leb, length, get_or, take}
+use Rattle.std.specs.Prelude.{leb, length, get_or, take, None, Option}
 use Rattle.buffer.specs.Buffer.{part, word_at, word_bytes}
 use Rattle.buffer.specs.Lists.{all, index, pairs, same, tab}
-use Rattle.buffer.specs.declared.Found.{Found}
-use Rattle.buffer.specs.declared.Found.TheVariants.{Nowhere}
 use Rattle.place.specs.Place.{apart}
 use Rattle.place.specs.declared.Run.{Run}
 use Rattle.disc.specs.Layout.{count_at, data_start, entry_size, long_disc, max_files, name_size, short_disc}
@@ -57,12 +55,12 @@ contents disc run = part disc run.start run.len
 abbrev pub named : List ℕ → Entry → Bool
 named name e = same e.name (padded name)
 
-abbrev pub nowhere_unless : Bool → Found → Found
+abbrev pub nowhere_unless : Bool → Option ℕ → Option ℕ
 nowhere_unless true f = f
-nowhere_unless false f = Nowhere
+nowhere_unless false f = None
 
 -- the place of the file of that name; a name that is not good is no file's
-unfoldable pub lookup : List ℕ → List ℕ → Found
+unfoldable pub lookup : List ℕ → List ℕ → Option ℕ
 lookup disc name = nowhere_unless (good_name name) (index (named name) (files disc))
 
 -- ---- good disc

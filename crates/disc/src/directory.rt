@@ -7,7 +7,6 @@ ghost use Rattle.disc.specs.Layout.{data_start, entry_size, max_files};
 
 use crate::Entry;
 use crate::layout::{COUNT_AT, ENTRY_SIZE, NAME_SIZE};
-use buffer::Found;
 use place::{MAX_RUNS, Run};
 
 pub fn file_count(disc: &[u8]) -> usize
@@ -50,12 +49,12 @@ pub fn put_entry(disc: &mut [u8], i: usize, entry: Entry)
 }
 
 // One lookup for everybody. A name that is not good is no file's.
-pub fn find(disc: &[u8], name: &[u8]) -> Found
+pub fn find(disc: &[u8], name: &[u8]) -> Option<usize>
     requires { Readable disc.now }
     ensures { result ≡ lookup disc.now name.now }
 {
     if !crate::name::is_good_name(name) {
-        return Found::Nowhere;
+        return None;
     }
     let field = crate::name::pad(name);
     let count = file_count(disc);
@@ -64,11 +63,11 @@ pub fn find(disc: &[u8], name: &[u8]) -> Found
         let entry = entry_at(disc, i);
         let held = entry.name;
         if buffer::bytes::same_bytes(&held, &field) {
-            return Found::At(i);
+            return Some(i);
         }
         i += 1;
     }
-    Found::Nowhere
+    None
 }
 
 pub fn run_of(entry: Entry) -> Run

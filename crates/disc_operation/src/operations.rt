@@ -6,7 +6,6 @@ ghost use Rattle.disc.specs.Directory.{Readable, files};
 ghost use Rattle.store.specs.Answer.{answer_number, checked, file_line, files_answer, free_space_answer, reported};
 ghost use Rattle.store.specs.Answer.{retrieve_answer, store_answer, updated};
 
-use buffer::Found;
 use disc::Entry;
 use place::Run;
 use store::{Admission, Answer, Checked, Refusal};
@@ -53,8 +52,8 @@ pub fn retrieve(disc: &[u8], name: &[u8], out: &mut [u8]) -> Answer
         return Answer::Refused(refusal);
     }
     match disc::directory::find(disc, name) {
-        Found::Nowhere => Answer::Refused(Refusal::NoSuchFile),
-        Found::At(i) => {
+        None => Answer::Refused(Refusal::NoSuchFile),
+        Some(i) => {
             let entry = disc::directory::entry_at(disc, i);
             let len = entry.len as usize;
             if out.len() < len {

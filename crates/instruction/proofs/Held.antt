@@ -1,4 +1,5 @@
 -- A variable that the table's lookup finds can be read.
+use Rattle.std.specs.Prelude.{Some}
 use Prim.Native.Nat.{ℕ, ◌+◌, ◌-◌, ◌≤◌, ◌<◌}
 use mathlib.Core.Path.{◌≡◌, sym, ap, ◌∙◌}
 use mathlib.Core.Bool.{true}
@@ -8,7 +9,6 @@ use lib.Dec.{leb}
 use lib.ListN.{get_or, take, drop}
 use borrow.Author.Tests.{leb-true}
 use Rattle.buffer.specs.Buffer.{part}
-use Rattle.buffer.specs.declared.Found.TheVariants.{At}
 use Rattle.buffer.proofs.Bools.{and_left, and_right}
 use Rattle.buffer.proofs.Lists.{all-at}
 use Rattle.buffer.proofs.Parts.{part-of-take, part-to}
@@ -31,7 +31,7 @@ pub record Held (v : Variables) (i : ℕ) : Type 0 where
   pub short : (entry_at v i).size ≤ value_size
   pub same : get_or (counted v) i no_variable ≡ entry_at v i
 
-pub found-held : (v : Variables) (name id i : ℕ) → Readable v → find v name id ≡ At i → Held v i
+pub found-held : (v : Variables) (name id i : ℕ) → Readable v → find v name id ≡ Some i → Held v i
 unfolding find
 found-held v name id i h e =
     let n = find-counted v name id i e in

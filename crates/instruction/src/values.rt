@@ -10,7 +10,6 @@ ghost use Rattle.stack.specs.Steps.{Means, Ready, max_code, step_of};
 ghost use Rattle.variable.specs.Table.{owned};
 
 use area::variables::{find_in, variable_at};
-use buffer::Found;
 use disc::name::text_length;
 use operator::instruction::Types;
 use stack::ends::{last_step, push_bytes, push_item, with_bytes, with_part};
@@ -103,7 +102,7 @@ pub fn get_variable(
         return last_step(Action::Fault(2));
     }
     match find_in(area, code[from], owner) {
-        Found::At(i) => {
+        Some(i) => {
             let e = variable_at(area, i);
             let start = e.address as usize;
             let end = start + e.size as usize;
@@ -117,7 +116,7 @@ pub fn get_variable(
                 loopstart,
             )
         }
-        Found::Nowhere => last_step(Action::Fault(9)),
+        None => last_step(Action::Fault(9)),
     }
 }
 

@@ -1,8 +1,7 @@
 -- What every call answers and leaves, for every disc, work area, output and argument.
+use Rattle.std.specs.Prelude.{None, Option, Some}
 use Rattle.std.specs.Prelude.{ℕ, Bool, ◌&&◌, not, List, [], leb, ltb, ℤ, pos, neg_ℤ, length, replicate, set}
 use Rattle.buffer.specs.Buffer.{overwrite}
-use Rattle.buffer.specs.declared.Found.{Found}
-use Rattle.buffer.specs.declared.Found.TheVariants.{At, Nowhere}
 use Rattle.disc.specs.Directory.{entry_at, files as entries, good_disc, is_disc_length, lookup}
 use Rattle.store.specs.Answer.{Reported, Updated, files_answer, free_space_answer, retrieve_answer, store_answer}
 use Rattle.store.specs.File.{erased, unless}
@@ -75,9 +74,9 @@ abbrev pub done : ℕ → Kernel → List ℕ → List ℕ → Buffers → Answe
 done n k disc text b = record { number = pos n; disc = disc; area = kernel_bytes k; out = overwrite b.out 0 text }
 
 -- Document 01, Erase: "10; 11 a live process runs it or has it open."
-abbrev pub erase_at : Found → Kernel → Buffers → Answer
-erase_at Nowhere k b = refused 10 b
-erase_at (At i) k b =
+abbrev pub erase_at : Option ℕ → Kernel → Buffers → Answer
+erase_at None k b = refused 10 b
+erase_at (Some i) k b =
     unless (not (in_use k (entry_at b.disc i))) (refused 11 b)
     (record { number = pos 0; disc = erased b.disc i; area = b.area; out = b.out })
 

@@ -1,10 +1,8 @@
 -- What disc and process table answer to an instruction that reaches beyond its process.
 use Rattle.std.specs.Prelude.{ℕ, ◌+◌, ◌-◌, ◌/◌, ◌%◌, Bool, true, false, cond, ◌&&◌, List, [], ◌∷◌, ◌++◌, eqb, leb, pos}
-use Rattle.std.specs.Prelude.{length, drop}
+use Rattle.std.specs.Prelude.{length, drop, None, Option, Some}
 use Rattle.buffer.specs.Buffer.{zeros}
 use Rattle.buffer.specs.Lists.{any}
-use Rattle.buffer.specs.declared.Found.{Found}
-use Rattle.buffer.specs.declared.Found.TheVariants.{At, Nowhere}
 use Rattle.float.specs.declared.whole.Size.{Size}
 use Rattle.float.specs.declared.whole.Size.TheVariants.{Is, Refused}
 use Rattle.number.specs.Compare.{equals, size_within}
@@ -75,10 +73,10 @@ module _ (k : Kernel) (slot : ℕ) (disc : List ℕ) where
   created Refused name l = breaks 13
 
   -- Document 01: "size [..] matters only for a new file"
-  abbrev pub opened_at : Found → List ℕ → Number → Local → Answered
-  opened_at (At i) name size l =
+  abbrev pub opened_at : Option ℕ → List ℕ → Number → Local → Answered
+  opened_at (Some i) name size l =
       continues l (opened (record { start = (entry_at disc i).start; len = (entry_at disc i).len })) disc
-  opened_at Nowhere name size l = created (new_file_size disc size) name l
+  opened_at None name size l = created (new_file_size disc size) name l
 
   -- ---- WRITE and the READs: "11 no open file; 12 past the file's end"
   abbrev pub with_open_file : Answered → Answered

@@ -1,10 +1,9 @@
 -- What is demanded of every call beyond its own answer, each in one statement. Demand 3 has a file of its own,
 -- Isolation.
-use Rattle.std.specs.Prelude.{ℕ, ◌≤◌, ◌≡◌, true, false, ◌&&◌, List, [], ◌⊎◌, pos, length}
+use Rattle.std.specs.Prelude.{ℕ, ◌≤◌, ◌≡◌, true, false, ◌&&◌, List, [], ◌⊎◌, pos, length, None}
 use Rattle.number.specs.declared.Number.{Number}
 use Rattle.disc.specs.Directory.{good_disc, is_disc_length, lookup}
 use Rattle.variable.specs.Table.{freed, is_of}
-use Rattle.buffer.specs.declared.Found.TheVariants.{Nowhere}
 use Rattle.machine.specs.Answer.{Answer, Buffers, Call, Other, turn, round, command, share, run, other, store}
 use Rattle.machine.specs.Answer.{retrieve, erase, files, free_space, list, answer, boot_answer, format_answer}
 use Rattle.machine.specs.Area.{AreBytes, Whole, is_area_length, kernel_of}
@@ -60,7 +59,7 @@ OpenRefused =
     (b : Buffers) (slot clock : ℕ) → MayTurn b slot → EndsWith b slot clock 13
     → (name : List ℕ) × (size : Number) × (l : Local)
     × (effect_at (state_of b) slot clock b.disc ≡ asks (opens name size l))
-    × (lookup b.disc name ≡ Nowhere) × NewFileRefused b.disc name (new_file_size b.disc size)
+    × (lookup b.disc name ≡ None) × NewFileRefused b.disc name (new_file_size b.disc size)
 
 -- a place is refused only where there is none: document 01, strictness c, shuts out a "no run" or a "table full" "said
 -- too early"

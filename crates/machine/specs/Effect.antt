@@ -1,7 +1,6 @@
 -- What an instruction does: its effect on the process, or what it asks of the world beyond it.
+use Rattle.std.specs.Prelude.{None, Option, Some}
 use Rattle.std.specs.Prelude.{ℕ, ◌-◌, ◌/◌, ◌%◌, Bool, true, false, cond, List, [], ◌∷◌, eqb, leb, length, get_or}
-use Rattle.buffer.specs.declared.Found.{Found}
-use Rattle.buffer.specs.declared.Found.TheVariants.{At, Nowhere}
 use Rattle.operator.specs.Binary.{binary}
 use Rattle.operator.specs.Instruction.{types_of}
 use Rattle.operator.specs.Outcome.{fault_of}
@@ -47,12 +46,12 @@ unless_faults false fault rest = faults fault
 
 -- ---- the end of an instruction
 -- Document 01, tried last: "4 stack above 32; 3 jump outside 0 to the code length, or ENDLOOP with no loop"
-abbrev pub land : List ℕ → Found → List ℕ → ℕ → List ℕ → Effect
-land prog Nowhere stack loopstart out = faults 3
-land prog (At pc) stack loopstart out =
+abbrev pub land : List ℕ → Option ℕ → List ℕ → ℕ → List ℕ → Effect
+land prog None stack loopstart out = faults 3
+land prog (Some pc) stack loopstart out =
     unless_faults (leb pc (length prog)) 3 (goes (record { stack = stack; pc = pc; loopstart = loopstart }) out)
 
-unfoldable pub settle : List ℕ → Found → List ℕ → ℕ → List ℕ → Effect
+unfoldable pub settle : List ℕ → Option ℕ → List ℕ → ℕ → List ℕ → Effect
 settle prog target stack loopstart out =
     unless_faults (leb (length stack) stack_size) 4 (land prog target stack loopstart out)
 
@@ -122,15 +121,15 @@ clock_bytes clock = clock % 65536 / 256 ∷ clock % 256 ∷ []
 
 -- ---- variables
 -- Document 01, fault 9: "no such variable"
-abbrev pub with_variable : Found → List Cell → (Cell → Effect) → Effect
-with_variable Nowhere own next = faults 9
-with_variable (At i) own next = next (get_or own i (record { name = 0; kind = 0; bytes = [] }))
+abbrev pub with_variable : Option ℕ → List Cell → (Cell → Effect) → Effect
+with_variable None own next = faults 9
+with_variable (Some i) own next = next (get_or own i (record { name = 0; kind = 0; bytes = [] }))
 
 -- ---- jumps
-abbrev pub back : Bool → ℕ → ℕ → Found
-back true pc n = At (pc - n)
-back false pc n = Nowhere
+abbrev pub back : Bool → ℕ → ℕ → Option ℕ
+back true pc n = Some (pc - n)
+back false pc n = None
 
-abbrev pub loop_target : Bool → ℕ → Found
-loop_target true loopstart = Nowhere
-loop_target false loopstart = At loopstart
+abbrev pub loop_target : Bool → ℕ → Option ℕ
+loop_target true loopstart = None
+loop_target false loopstart = Some loopstart

@@ -1,9 +1,9 @@
 -- One instruction, as a function of the process alone. The order of faults is the order of the lines.
+use Rattle.std.specs.Prelude.{Some}
 use Rattle.std.specs.Prelude.{ℕ, ◌+◌, ◌-◌, Bool, cond, List, [], ◌∷◌, ◌++◌, eqb, leb, ltb, length, get_or, drop, take}
 use Rattle.std.specs.Bool.{beq}
 use Rattle.buffer.specs.Buffer.{part}
 use Rattle.buffer.specs.Lists.{index}
-use Rattle.buffer.specs.declared.Found.TheVariants.{At}
 use Rattle.number.specs.Clock.{is_ahead}
 use Rattle.number.specs.Value.{is_zero}
 use Rattle.operator.specs.declared.instruction.Types.TheVariants.{AnyNumber, AnyValue, CharOrInt}
@@ -44,7 +44,7 @@ module _ (prog stack : List ℕ) (loopstart at : ℕ) where
 
   -- on to a place with these bytes on the stack
   abbrev pub onward : ℕ → List ℕ → List ℕ → Effect
-  onward pc below out = settle prog (At pc) below loopstart out
+  onward pc below out = settle prog (Some pc) below loopstart out
 
   -- ---- values
   abbrev pub push_literal : ℕ → Effect
@@ -116,7 +116,7 @@ module _ (prog stack : List ℕ) (loopstart at : ℕ) where
       (settle prog (back (leb distance behind) behind distance) (take (n - 1) stack) loopstart [])
 
   abbrev pub marks_loop : Effect
-  marks_loop = settle prog (At behind) stack behind []
+  marks_loop = settle prog (Some behind) stack behind []
 
   abbrev pub loops_back : Effect
   loops_back = settle prog (loop_target (eqb loopstart no_loop) loopstart) stack loopstart []

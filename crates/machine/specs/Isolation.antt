@@ -1,7 +1,5 @@
 -- Demand 3, in one piece: nothing but its own turns and commands shifts a process.
-use Rattle.std.specs.Prelude.{ℕ, ◌≡◌, Bool, true, false, ◌&&◌, not, List, [], ◌∷◌, ◌++◌}
-use Rattle.buffer.specs.declared.Found.{Found}
-use Rattle.buffer.specs.declared.Found.TheVariants.{At, Nowhere}
+use Rattle.std.specs.Prelude.{ℕ, ◌≡◌, Bool, true, false, ◌&&◌, not, List, [], ◌∷◌, ◌++◌, None, Option, Some}
 use Rattle.disc.specs.Directory.{contents, entry_at, lookup, run_of}
 use Rattle.machine.specs.Answer.{Call, turn, round, command, share, run, other}
 use Rattle.machine.specs.Observation.{Watched, inputs, not_refused, observations, place_in, single_run, watch}
@@ -12,9 +10,9 @@ use Rattle.machine.specs.Suppositions.{Undisturbed, process_in}
 use Rattle.machine.specs.Trace.{Event, Invocation, Storage, events}
 
 -- ---- the start: "the moment run or another's FORK gives out its ID"
-abbrev pub is_live_in : Found → Bool
-is_live_in (At s) = true
-is_live_in Nowhere = false
+abbrev pub is_live_in : Option ℕ → Bool
+is_live_in (Some s) = true
+is_live_in None = false
 
 -- not live before, live after
 unfoldable pub gives_out : ℕ → Event → Bool
@@ -29,9 +27,9 @@ start_name (share id turns) s = []
 start_name (run name) s = name
 start_name (other o) s = []
 
-abbrev pub contents_at : Found → List ℕ → List ℕ
-contents_at (At i) disc = contents disc (run_of (entry_at disc i))
-contents_at Nowhere disc = []
+abbrev pub contents_at : Option ℕ → List ℕ → List ℕ
+contents_at (Some i) disc = contents disc (run_of (entry_at disc i))
+contents_at None disc = []
 
 -- what the file of that name holds
 abbrev pub file_named : List ℕ → List ℕ → List ℕ

@@ -1,8 +1,7 @@
 -- A file that OPEN creates, and READSTRING as the next instruction of the same process.
+use Rattle.std.specs.Prelude.{None, Option, Some}
 use Rattle.std.specs.Prelude.{ℕ, ◌+◌, ◌≡◌, Bool, true, false, ◌||◌, not, List, [], ◌∷◌, ◌++◌, eqb, pos}
 use Rattle.buffer.specs.Lists.{all}
-use Rattle.buffer.specs.declared.Found.{Found}
-use Rattle.buffer.specs.declared.Found.TheVariants.{At, Nowhere}
 use Rattle.machine.specs.Answer.{Call, turn}
 use Rattle.machine.specs.Beyond.{advanced, file_run}
 use Rattle.machine.specs.Fields.{files_on}
@@ -18,7 +17,7 @@ pub record Executes (i slot byte : ℕ) (e : Event) : Type 0 where
   pub clock : ℕ
   pub call : e.call ≡ turn slot clock
   pub done : is_done_by e.number ≡ true
-  pub own : place_in e.before i ≡ At slot
+  pub own : place_in e.before i ≡ Some slot
   pub found : executed_by e.before slot ≡ byte
 
 -- an OPEN that leaves a file more on the disc
@@ -27,9 +26,9 @@ pub record OpensNew (i slot : ℕ) (e : Event) : Type 0 where
   pub more : files_on e.after.disc ≡ files_on e.before.disc + 1
 
 -- ---- what may not come between: an instruction of the process, and a write into the file that it has open
-abbrev pub turn_interferes : Found → ℕ → Event → Bool
-turn_interferes Nowhere slot e = false
-turn_interferes (At own) slot e = eqb own slot || write_lands (file_run (process_in e.before own).file) slot e
+abbrev pub turn_interferes : Option ℕ → ℕ → Event → Bool
+turn_interferes None slot e = false
+turn_interferes (Some own) slot e = eqb own slot || write_lands (file_run (process_in e.before own).file) slot e
 
 abbrev pub interferes : ℕ → Call → Event → Bool
 interferes i c e = of_done_turn c e λ slot clock. turn_interferes (place_in e.before i) slot e

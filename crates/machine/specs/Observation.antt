@@ -1,10 +1,7 @@
 -- What a process is fed, and what is observed of it: in a run of the kernel and of the single process.
 use Rattle.std.specs.Prelude.{ℕ, ◌-◌, Bool, true, false, ◌&&◌, List, [], ◌∷◌, ◌++◌, map, eqb, ℤ, pos, negsuc, neg_ℤ}
-use Rattle.std.specs.Prelude.{length, replicate}
-use Rattle.std.proofs.Math.Option.{Option, none, some}
+use Rattle.std.specs.Prelude.{length, replicate, None, Option, Some}
 use Rattle.buffer.specs.Lists.{index, keep}
-use Rattle.buffer.specs.declared.Found.{Found}
-use Rattle.buffer.specs.declared.Found.TheVariants.{At, Nowhere}
 use Rattle.variable.specs.Table.{Cell, owned}
 use Rattle.machine.specs.Answer.{Call, turn, round, command, share, run, other}
 use Rattle.machine.specs.Area.{kernel_of}
@@ -18,26 +15,26 @@ abbrev pub is_live_as : ℕ → Process → Bool
 is_live_as i p = is_live p && eqb p.id i
 
 -- the slot of the live process that has that ID; not `slot_of`, so that a command that overlooks a slot shows here
-unfoldable pub place_in : Storage → ℕ → Found
+unfoldable pub place_in : Storage → ℕ → Option ℕ
 place_in s i = index (is_live_as i) (kernel_of s.area).processes
 
-abbrev pub is_at : Found → ℕ → Bool
-is_at (At s) slot = eqb s slot
-is_at Nowhere slot = false
+abbrev pub is_at : Option ℕ → ℕ → Bool
+is_at (Some s) slot = eqb s slot
+is_at None slot = false
 
 -- ---- what the process i is fed: "the clock of each turn of its slot until it ends [..], and each suspend, resume and
 -- kill of its ID"
 abbrev pub input_if : Bool → Input → Option Input
-input_if true x = some x
-input_if false x = none
+input_if true x = Some x
+input_if false x = None
 
-abbrev pub input_of : ℕ → Call → Found → Option Input
+abbrev pub input_of : ℕ → Call → Option ℕ → Option Input
 input_of i (turn slot clock) place = input_if (is_at place slot) (tick clock)
-input_of i (round clock) place = none
+input_of i (round clock) place = None
 input_of i (command c id) place = input_if (eqb id i) (given c)
-input_of i (share id turns) place = none
-input_of i (run name) place = none
-input_of i (other o) place = none
+input_of i (share id turns) place = None
+input_of i (run name) place = None
+input_of i (other o) place = None
 
 -- ---- what is observed after it: "stack (SP, 32 bytes), variables (those counted under its ID, by name, type and bytes
 -- [..]), place (PC, loop), end (state, fault) and output (a turn's bytes and their number)"
@@ -72,9 +69,9 @@ seen_in p variables text number =
     }
 
 -- its record stays in the slot that it had, also when the input ends it
-abbrev pub slot_in : Found → ℕ
-slot_in (At s) = s
-slot_in Nowhere = 0
+abbrev pub slot_in : Option ℕ → ℕ
+slot_in (Some s) = s
+slot_in None = 0
 
 abbrev pub observed_by : ℤ → Event → ℕ → Observation
 observed_by (negsuc n) e i = declined (negsuc n)
@@ -87,8 +84,8 @@ pub record Watched : Type 0 where
   pub observation : Observation
 
 abbrev pub watched_if : Option Input → Observation → List Watched → List Watched
-watched_if none o rest = rest
-watched_if (some x) o rest = record { input = x; observation = o } ∷ rest
+watched_if None o rest = rest
+watched_if (Some x) o rest = record { input = x; observation = o } ∷ rest
 
 -- the inputs of the process i among these events, and what is observed after each
 unfoldable pub watch : ℕ → List Event → List Watched

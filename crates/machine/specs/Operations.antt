@@ -1,8 +1,6 @@
 -- The operations on processes, on a good disc and a good area.
-use Rattle.std.specs.Prelude.{ℕ, Bool, cond, ◌&&◌, ◌||◌, List, [], ◌∷◌, ◌++◌, eqb, leb, replicate}
+use Rattle.std.specs.Prelude.{ℕ, Bool, cond, ◌&&◌, ◌||◌, List, [], ◌∷◌, ◌++◌, eqb, leb, replicate, None, Option, Some}
 use Rattle.buffer.specs.Lists.{any, flat, keep}
-use Rattle.buffer.specs.declared.Found.{Found}
-use Rattle.buffer.specs.declared.Found.TheVariants.{At, Nowhere}
 use Rattle.decimal.specs.Decimal.{decimal}
 use Rattle.disc.specs.Name.{trimmed}
 use Rattle.disc.specs.declared.Entry.{Entry}
@@ -38,11 +36,11 @@ changed k slot state =
     cond (eqb (process_at k slot).state state) (refused 15)
     (becomes (with_process k slot (with_state (process_at k slot) state)))
 
-abbrev pub command_at : Found → Command → Kernel → Commanded
-command_at Nowhere c k = refused 14
-command_at (At slot) suspend k = changed k slot paused
-command_at (At slot) resume k = changed k slot running
-command_at (At slot) kill k = becomes (ended k slot 0)
+abbrev pub command_at : Option ℕ → Command → Kernel → Commanded
+command_at None c k = refused 14
+command_at (Some slot) suspend k = changed k slot paused
+command_at (Some slot) resume k = changed k slot running
+command_at (Some slot) kill k = becomes (ended k slot 0)
 
 -- Document 01: "14 no live process of that ID"; "Kill: 14."
 unfoldable pub commanded : Command → ℕ → Kernel → Commanded
@@ -50,9 +48,9 @@ commanded c id k = command_at (slot_of k id) c k
 
 -- ---- share
 -- Document 02, Q-9: "A new operation sets it by ID."; "14"; "22 a share outside 1 to 8, after 14"
-abbrev pub share_at : Found → ℕ → Kernel → Commanded
-share_at Nowhere n k = refused 14
-share_at (At slot) n k =
+abbrev pub share_at : Option ℕ → ℕ → Kernel → Commanded
+share_at None n k = refused 14
+share_at (Some slot) n k =
     unless (leb 1 n && leb n max_share) (refused 22) (becomes (with_process k slot (with_share (process_at k slot) n)))
 
 unfoldable pub shared : ℕ → ℕ → Kernel → Commanded

@@ -1,7 +1,5 @@
 -- Starting a process: what run and FORK share.
-use Rattle.std.specs.Prelude.{ℕ, ◌+◌, Bool, true, false, List, eqb, replicate}
-use Rattle.buffer.specs.declared.Found.{Found}
-use Rattle.buffer.specs.declared.Found.TheVariants.{At, Nowhere}
+use Rattle.std.specs.Prelude.{ℕ, ◌+◌, Bool, true, false, List, eqb, replicate, None, Option, Some}
 use Rattle.disc.specs.Directory.{entry_at, lookup}
 use Rattle.disc.specs.declared.Entry.{Entry}
 use Rattle.machine.specs.Limits.{id_limit, stack_size}
@@ -36,11 +34,11 @@ pub data Starting : Type 0 where
   starts : (slot : ℕ) → Entry → Starting
   refuses : ℕ → Starting
 
-abbrev pub start_in : Found → Found → Bool → List ℕ → Starting
-start_in Nowhere file spent disc = refuses 12
-start_in (At slot) Nowhere spent disc = refuses 10
-start_in (At slot) (At i) true disc = refuses 13
-start_in (At slot) (At i) false disc = starts slot (entry_at disc i)
+abbrev pub start_in : Option ℕ → Option ℕ → Bool → List ℕ → Starting
+start_in None file spent disc = refuses 12
+start_in (Some slot) None spent disc = refuses 10
+start_in (Some slot) (Some i) true disc = refuses 13
+start_in (Some slot) (Some i) false disc = starts slot (entry_at disc i)
 
 -- Document 01, Run: "12 no ended slot, 10, 13 next ID is 32768. Takes the lowest ended slot"
 unfoldable pub starting : Kernel → List ℕ → List ℕ → Starting

@@ -1,8 +1,7 @@
 -- The kernel's state: processes and their states.
 use Rattle.std.specs.Prelude.{ℕ, ◌-◌, Bool, ◌&&◌, ◌||◌, not, List, [], ◌++◌, map, eqb, get_or, length, replicate, set}
-use Rattle.std.specs.Prelude.{take}
+use Rattle.std.specs.Prelude.{take, Option}
 use Rattle.buffer.specs.Lists.{index, keep}
-use Rattle.buffer.specs.declared.Found.{Found}
 use Rattle.place.specs.Place.{no_run}
 use Rattle.variable.specs.declared.Variables.{Variables}
 use Rattle.machine.specs.Limits.{stack_size}
@@ -142,11 +141,11 @@ with_share p share =
 abbrev pub has_id : ℕ → Process → Bool
 has_id id p = is_live p && eqb p.id id
 
-unfoldable pub slot_of : Kernel → ℕ → Found
+unfoldable pub slot_of : Kernel → ℕ → Option ℕ
 slot_of k id = index (has_id id) k.processes
 
 -- Document 01: "Takes the lowest ended slot"
-unfoldable pub ended_slot : Kernel → Found
+unfoldable pub ended_slot : Kernel → Option ℕ
 ended_slot k = index (λ p. not (is_live p)) k.processes
 
 abbrev pub live_ids : Kernel → List ℕ

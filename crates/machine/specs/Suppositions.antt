@@ -1,10 +1,8 @@
 -- What demand 3 supposes of a process, event by event: it executes no file, FORK or WAITUNTILDONE instruction, no write
 -- lands in its program file, and no SET of its own lacks space.
 use Rattle.std.specs.Prelude.{ℕ, ◌≡◌, Bool, true, false, ◌&&◌, ◌||◌, not, List, map, eqb, leb, ℤ, pos, negsuc, get_or}
-use Rattle.std.specs.Prelude.{length}
+use Rattle.std.specs.Prelude.{length, None, Option, Some}
 use Rattle.buffer.specs.Lists.{all, any, keep, tab}
-use Rattle.buffer.specs.declared.Found.{Found}
-use Rattle.buffer.specs.declared.Found.TheVariants.{At, Nowhere}
 use Rattle.place.specs.Place.{fits}
 use Rattle.place.specs.declared.Run.{Run}
 use Rattle.variable.specs.Limits.{max_variables, memory_size}
@@ -83,9 +81,9 @@ turn_disturbs i own slot clock e =
     || (not (eqb own slot) && write_lands (process_in e.before own).code slot e)
 
 -- "between this one's start and end": while it is live
-abbrev pub turn_disturbs_at : ℕ → Found → ℕ → ℕ → Event → Bool
-turn_disturbs_at i Nowhere slot clock e = false
-turn_disturbs_at i (At own) slot clock e = turn_disturbs i own slot clock e
+abbrev pub turn_disturbs_at : ℕ → Option ℕ → ℕ → ℕ → Event → Bool
+turn_disturbs_at i None slot clock e = false
+turn_disturbs_at i (Some own) slot clock e = turn_disturbs i own slot clock e
 
 -- a test of a done turn; it holds of no other event
 abbrev pub of_done_turn : Call → Event → (ℕ → ℕ → Bool) → Bool

@@ -1,9 +1,8 @@
 -- The commands and share behind the tests; suspend and resume turn a process to the state paused or running.
+use Rattle.std.specs.Prelude.{None, Option, Some}
 use Prim.Native.Nat.{ℕ}
 use mathlib.Core.Path.{◌≡◌, refl, ap, ◌∙◌}
 use mathlib.Core.List.{List}
-use Rattle.buffer.specs.declared.Found.{Found}
-use Rattle.buffer.specs.declared.Found.TheVariants.{At, Nowhere}
 use Rattle.machine.specs.Answer.{answer, command, command_answer, share}
 use Rattle.machine.specs.Answer.{Answer as Expected}
 use Rattle.machine.specs.Area.{kernel_of}
@@ -20,15 +19,15 @@ use Rattle.operation.proofs.FirstTests.{first_done, first-refused}
 
 -- the state that a command turns every process to
 abbrev pub Turns : ℕ → Command → Type 0
-Turns state c = (f : Found) (k : Kernel) → turned_at f state k ≡ command_at f c k
+Turns state c = (f : Option ℕ) (k : Kernel) → turned_at f state k ≡ command_at f c k
 
 pub pauses : Turns paused suspend
-pauses Nowhere k = refl
-pauses (At slot) k = refl
+pauses None k = refl
+pauses (Some slot) k = refl
 
 pub resumes : Turns running resume
-resumes Nowhere k = refl
-resumes (At slot) k = refl
+resumes None k = refl
+resumes (Some slot) k = refl
 
 module _ (disc area : List ℕ) {told : Checked} (e : told ≡ checked disc area) (c : Command) (id : ℕ) (out : List ℕ) where
   pub command-refused : {refusal : Refusal} → told ≡ Unusable refusal

@@ -1,4 +1,5 @@
 -- The tests that come first, as the code makes them: what a refused call answers, and what is known of buffers that pass.
+use Rattle.std.specs.Prelude.{Some}
 use Prim.Native.Nat.{ℕ, ◌≤◌, ◌<◌}
 use mathlib.Core.Path.{◌≡◌, refl, sym, ap, ◌∙◌}
 use mathlib.Core.Bool.{Bool, true, false, ◌&&◌}
@@ -6,7 +7,6 @@ use mathlib.Core.List.{List}
 use native.Mathlib.Omega.{arith}
 use lib.ListN.{length}
 use borrow.Author.Tests.{le-leb, lt-leb}
-use Rattle.buffer.specs.declared.Found.TheVariants.{At}
 use Rattle.disc.specs.Directory.{good_disc, is_disc_length}
 use Rattle.store.specs.File.{unless}
 use Rattle.machine.specs.Answer.{good_area, on_good, refused, with_room}
@@ -77,5 +77,5 @@ module _ (disc area : List ℕ) {told : Checked} (e : told ≡ checked disc area
     first-roomy h g = first_done u out (rw (le-leb n (length out) h) g)
 
 -- the slot of an ID is one of the ten
-pub slot-low : (area : List ℕ) (id : ℕ) {slot : ℕ} → length area ≡ area_length → slot_of (kernel_of area) id ≡ At slot → slot < slot_count
+pub slot-low : (area : List ℕ) (id : ℕ) {slot : ℕ} → length area ≡ area_length → slot_of (kernel_of area) id ≡ Some slot → slot < slot_count
 slot-low area id {slot} h e = omega (arith, (slot_at (kernel_of area) id slot e).0, (decoded-sized area h).processes)

@@ -11,7 +11,6 @@ use crate::checks::check;
 use crate::{Answer, Checked, Refusal};
 use area::processes::slot_of;
 use area::records::{PAUSED, RUNNING, process_at};
-use buffer::Found;
 use machine::limits::MAX_SHARE;
 use process::advance::put_back;
 use process::ending::finish;
@@ -24,8 +23,8 @@ fn change_state(disc: &[u8], area: &mut [u8], id: u32, state: u8) -> Answer
         (lent disc.now area.old out) }
 {
     match slot_of(area, id) {
-        Found::Nowhere => Answer::Refused(Refusal::NoProcess),
-        Found::At(slot) => {
+        None => Answer::Refused(Refusal::NoProcess),
+        Some(slot) => {
             let mut p = process_at(area, slot);
             if p.state == state {
                 return Answer::Refused(Refusal::SameState);
@@ -65,8 +64,8 @@ fn end_by_id(disc: &[u8], area: &mut [u8], id: u32) -> Answer
         (lent disc.now area.old out) }
 {
     match slot_of(area, id) {
-        Found::Nowhere => Answer::Refused(Refusal::NoProcess),
-        Found::At(slot) => {
+        None => Answer::Refused(Refusal::NoProcess),
+        Some(slot) => {
             finish(area, slot, 0);
             Answer::Done(0)
         }
@@ -91,8 +90,8 @@ fn set_share(disc: &[u8], area: &mut [u8], id: u32, turns: u32) -> Answer
         (lent disc.now area.old out) }
 {
     match slot_of(area, id) {
-        Found::Nowhere => Answer::Refused(Refusal::NoProcess),
-        Found::At(slot) => {
+        None => Answer::Refused(Refusal::NoProcess),
+        Some(slot) => {
             if turns < 1 {
                 return Answer::Refused(Refusal::BadShare);
             }

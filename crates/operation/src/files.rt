@@ -9,7 +9,6 @@ ghost use Rattle.disc.specs.Directory.{lookup};
 
 use crate::checks::check;
 use crate::{Answer, Checked, Refusal};
-use buffer::Found;
 use request::Starting;
 
 // Document 01, Erase: "10; 11 a live process runs it or has it open."
@@ -20,8 +19,8 @@ fn erase_file(disc: &mut [u8], area: &[u8], name: &[u8]) -> Answer
         (lent disc.old area.now out) }
 {
     match disc::directory::find(disc, name) {
-        Found::Nowhere => Answer::Refused(Refusal::NoSuchFile),
-        Found::At(i) => {
+        None => Answer::Refused(Refusal::NoSuchFile),
+        Some(i) => {
             if area::processes::is_in_use(area, disc::directory::entry_at(disc, i)) {
                 return Answer::Refused(Refusal::FileInUse);
             }

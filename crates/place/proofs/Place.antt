@@ -1,5 +1,6 @@
 -- Laws of places: what is found is free and inside, none found means none fits; and the longest free run. That it is the
 -- shortest run that fits is in ShortestFit.
+use Rattle.std.specs.Prelude.{None, Option, Some}
 use Prim.Native.Nat.{ℕ, zero, suc, ◌+◌, ◌-◌, ◌≤◌, ◌<◌}
 use mathlib.Core.Path.{◌≡◌, refl, sym, ap, ◌∙◌}
 use mathlib.Core.Bool.{Bool, true, false, not, ◌&&◌, ◌||◌, and-false}
@@ -12,8 +13,6 @@ use lib.ListN.{length, replicate, set, take}
 use lib.Seq.{set_at, take-append_seam}
 use borrow.Author.Tests.{eqb-false, le-leb, lt-leb, leb-true, leb-false, not-true}
 use Rattle.buffer.specs.Lists.{all, tab}
-use Rattle.buffer.specs.declared.Found.{Found}
-use Rattle.buffer.specs.declared.Found.TheVariants.{At, Nowhere}
 use Rattle.buffer.proofs.Bools.{and_both, and_left, and_right, not-is-true, not-true-is-false, true-not-false}
 use Rattle.buffer.proofs.Lists.{all_both, all_weaker, tab-length, tab-more}
 use Rattle.buffer.proofs.Tables.{all_map}
@@ -125,12 +124,12 @@ module _ (runs : List Run) (lo hi n s : ℕ) (e : fits runs lo hi n s ≡ true) 
 
 -- ---- the lowest start that fits
 module _ (runs : List Run) (lo hi n : ℕ) where
-  pub lowest-fit-fits : (s : ℕ) → lowest_fit runs lo hi n ≡ At s → fits runs lo hi n s ≡ true
+  pub lowest-fit-fits : (s : ℕ) → lowest_fit runs lo hi n ≡ Some s → fits runs lo hi n s ≡ true
   unfolding lowest_fit
   lowest-fit-fits s e = (lowest-at (fits runs lo hi n) lo (suc hi - lo) s e).holds
 
   -- nothing lower fits
-  pub lowest-fit-first : (s j : ℕ) → lowest_fit runs lo hi n ≡ At s → j < s → fits runs lo hi n j ≡ false
+  pub lowest-fit-first : (s j : ℕ) → lowest_fit runs lo hi n ≡ Some s → j < s → fits runs lo hi n j ≡ false
   unfolding lowest_fit
   lowest-fit-first s j e h = go (leb lo j) refl
     where
@@ -139,7 +138,7 @@ module _ (runs : List Run) (lo hi n : ℕ) where
       go false k = fits_below runs lo hi n j (leb-false _ _ k)
 
   -- none found: none fits
-  pub no-lowest-fit : lowest_fit runs lo hi n ≡ Nowhere → (j : ℕ) → fits runs lo hi n j ≡ false
+  pub no-lowest-fit : lowest_fit runs lo hi n ≡ None → (j : ℕ) → fits runs lo hi n j ≡ false
   unfolding lowest_fit
   no-lowest-fit e j = go (leb lo j) refl (leb (j + n) hi) refl
     where
@@ -151,22 +150,22 @@ module _ (runs : List Run) (lo hi n : ℕ) where
 
   -- the other way round
   pub lowest-fit-is : (s : ℕ) → fits runs lo hi n s ≡ true → ((j : ℕ) → j < s → fits runs lo hi n j ≡ false)
-      → lowest_fit runs lo hi n ≡ At s
+      → lowest_fit runs lo hi n ≡ Some s
   unfolding lowest_fit
   lowest-fit-is s e f =
       let x = fits-is runs lo hi n s e in
       lowest-is (fits runs lo hi n) lo (suc hi - lo) s x.low (omega (arith, x.low, x.high)) e f
 
-  pub lowest-fit-nowhere : ((j : ℕ) → fits runs lo hi n j ≡ false) → lowest_fit runs lo hi n ≡ Nowhere
+  pub lowest-fit-nowhere : ((j : ℕ) → fits runs lo hi n j ≡ false) → lowest_fit runs lo hi n ≡ None
   unfolding lowest_fit
   lowest-fit-nowhere f = lowest-nowhere (fits runs lo hi n) lo (suc hi - lo) f
 
   pub lowest-fit-some : (s : ℕ) → fits runs lo hi n s ≡ true → is_at (lowest_fit runs lo hi n) ≡ true
   lowest-fit-some s e = go (lowest_fit runs lo hi n) refl
     where
-      go : (f : Found) → lowest_fit runs lo hi n ≡ f → is_at f ≡ true
-      go (At k) h = refl
-      go Nowhere h = absurd (true-not-false e (no-lowest-fit h s))
+      go : (f : Option ℕ) → lowest_fit runs lo hi n ≡ f → is_at f ≡ true
+      go (Some k) h = refl
+      go None h = absurd (true-not-false e (no-lowest-fit h s))
 
 -- ---- where a free run begins
 module _ (runs : List Run) (lo hi n : ℕ) where
@@ -189,7 +188,7 @@ module _ (runs : List Run) (lo hi n : ℕ) where
   is-begins (suc s) e f = and_both (not-is-true (f s refl)) e
 
   -- at the lowest start that fits one begins
-  lowest-begins : (s : ℕ) → lowest_fit runs lo hi n ≡ At s → begins runs lo hi n s ≡ true
+  lowest-begins : (s : ℕ) → lowest_fit runs lo hi n ≡ Some s → begins runs lo hi n s ≡ true
   lowest-begins s e =
       is-begins s (lowest-fit-fits runs lo hi n s e) λ t w.
       not-true-is-false (fits runs lo hi (suc n) t) λ f.
@@ -236,57 +235,57 @@ module _ (runs : List Run) (lo hi n : ℕ) where
     pub begun : begins runs lo hi n s ≡ true
     pub before : (j : ℕ) → begins runs lo hi n j ≡ true → Before (free_from runs hi) s j
 
-  pub place_at : (s : ℕ) → place runs lo hi n ≡ At s → IsPlace s
+  pub place_at : (s : ℕ) → place runs lo hi n ≡ Some s → IsPlace s
   unfolding place
   place_at s e =
       let l = least_at (begins runs lo hi n) (free_from runs hi) (starts runs lo) s e in
       record { begun = l.holds; before = λ j b. l.before j (begins-at-start j b) b }
 
-  no-place-none-begins : place runs lo hi n ≡ Nowhere → (s : ℕ) → begins runs lo hi n s ≡ false
+  no-place-none-begins : place runs lo hi n ≡ None → (s : ℕ) → begins runs lo hi n s ≡ false
   unfolding place
   no-place-none-begins e s = not-true-is-false (begins runs lo hi n s) λ b.
       true-not-false b (least-none (begins runs lo hi n) (free_from runs hi) (starts runs lo) e s (begins-at-start s b))
 
   -- there is only one such
-  pub place_is : (s : ℕ) → IsPlace s → place runs lo hi n ≡ At s
+  pub place_is : (s : ℕ) → IsPlace s → place runs lo hi n ≡ Some s
   place_is s l = go (place runs lo hi n) refl
     where
-      go : (f : Found) → place runs lo hi n ≡ f → f ≡ At s
-      go Nowhere e = absurd (true-not-false l.begun (no-place-none-begins e s))
-      go (At t) e =
+      go : (f : Option ℕ) → place runs lo hi n ≡ f → f ≡ Some s
+      go None e = absurd (true-not-false l.begun (no-place-none-begins e s))
+      go (Some t) e =
           let o = place_at t e in
           let a = l.before t o.begun in
           let b = o.before s l.begun in
           let c : t ≤ s = b.first a.small in
           let d : s ≤ t = a.first b.small in
-          ap At (omega arith)
+          ap Some (omega arith)
 
   -- what is found lies inside and is free
-  pub place-fits : (s : ℕ) → place runs lo hi n ≡ At s → Fits runs lo hi n s
+  pub place-fits : (s : ℕ) → place runs lo hi n ≡ Some s → Fits runs lo hi n s
   place-fits s e = fits-is runs lo hi n s (begins-fits runs lo hi n s (place_at s e).begun)
 
   -- none found: none fits
-  pub no-place-none-fits : place runs lo hi n ≡ Nowhere → (j : ℕ) → fits runs lo hi n j ≡ false
+  pub no-place-none-fits : place runs lo hi n ≡ None → (j : ℕ) → fits runs lo hi n j ≡ false
   no-place-none-fits e = go (lowest_fit runs lo hi n) refl
     where
-      go : (f : Found) → lowest_fit runs lo hi n ≡ f → (j : ℕ) → fits runs lo hi n j ≡ false
-      go Nowhere h = no-lowest-fit runs lo hi n h
-      go (At s) h = absurd (true-not-false (lowest-begins runs lo hi n s h) (no-place-none-begins e s))
+      go : (f : Option ℕ) → lowest_fit runs lo hi n ≡ f → (j : ℕ) → fits runs lo hi n j ≡ false
+      go None h = no-lowest-fit runs lo hi n h
+      go (Some s) h = absurd (true-not-false (lowest-begins runs lo hi n s h) (no-place-none-begins e s))
 
-  pub place-nowhere : ((j : ℕ) → fits runs lo hi n j ≡ false) → place runs lo hi n ≡ Nowhere
+  pub place-nowhere : ((j : ℕ) → fits runs lo hi n j ≡ false) → place runs lo hi n ≡ None
   place-nowhere f = go (place runs lo hi n) refl
     where
-      go : (g : Found) → place runs lo hi n ≡ g → g ≡ Nowhere
-      go Nowhere e = refl
-      go (At s) e = absurd (true-not-false (is-fits runs lo hi n s (place-fits s e)) (f s))
+      go : (g : Option ℕ) → place runs lo hi n ≡ g → g ≡ None
+      go None e = refl
+      go (Some s) e = absurd (true-not-false (is-fits runs lo hi n s (place-fits s e)) (f s))
 
   -- document 02, Q-10: "'no run' is said as before"
   pub place_found : is_at (place runs lo hi n) ≡ is_at (lowest_fit runs lo hi n)
   place_found = go (place runs lo hi n) refl
     where
-      go : (f : Found) → place runs lo hi n ≡ f → is_at f ≡ is_at (lowest_fit runs lo hi n)
-      go Nowhere e = ap is_at (sym (lowest-fit-nowhere runs lo hi n (no-place-none-fits e)))
-      go (At s) e = sym (lowest-fit-some runs lo hi n s (is-fits runs lo hi n s (place-fits s e)))
+      go : (f : Option ℕ) → place runs lo hi n ≡ f → is_at f ≡ is_at (lowest_fit runs lo hi n)
+      go None e = ap is_at (sym (lowest-fit-nowhere runs lo hi n (no-place-none-fits e)))
+      go (Some s) e = sym (lowest-fit-some runs lo hi n s (is-fits runs lo hi n s (place-fits s e)))
 
 -- ---- the longest free run
 -- a longer run fits nowhere where a shorter one fits nowhere
@@ -294,9 +293,9 @@ pub longer-fits-nowhere : (runs : List Run) (lo hi m n : ℕ) → m ≤ n → is
     → is_at (lowest_fit runs lo hi n) ≡ false
 longer-fits-nowhere runs lo hi m n h e = go (lowest_fit runs lo hi n) refl
   where
-    go : (f : Found) → lowest_fit runs lo hi n ≡ f → is_at f ≡ false
-    go Nowhere k = refl
-    go (At s) k =
+    go : (f : Option ℕ) → lowest_fit runs lo hi n ≡ f → is_at f ≡ false
+    go None k = refl
+    go (Some s) k =
         absurd (true-not-false
         (lowest-fit-some runs lo hi m s
         (fits-inside runs lo hi n s (lowest-fit-fits runs lo hi n s k) m s (omega arith) (omega arith))) e)
@@ -317,7 +316,7 @@ module _ (runs : List Run) (lo hi : ℕ) where
   longest-fits h = place_found runs lo hi (longest runs lo hi) ∙ greatest-holds (λ n. is_at (lowest_fit runs lo hi n)) (hi - lo) h
 
   -- no longer one has
-  pub longest-most : lo ≤ hi → (n : ℕ) → longest runs lo hi < n → place runs lo hi n ≡ Nowhere
+  pub longest-most : lo ≤ hi → (n : ℕ) → longest runs lo hi < n → place runs lo hi n ≡ None
   unfolding longest
   longest-most b n h = place-nowhere runs lo hi n λ s.
       not-true-is-false (fits runs lo hi n s) λ e.

@@ -1,9 +1,7 @@
 -- Places for runs of bytes. Files on the disc and variables in memory are placed by the same definitions.
 use Rattle.std.specs.Prelude.{ℕ, zero, suc, ◌+◌, ◌-◌, Bool, true, false, cond, not, ◌&&◌, ◌||◌, List, [], ◌∷◌, ◌++◌}
-use Rattle.std.specs.Prelude.{map, eqb, leb, ltb, length, replicate}
+use Rattle.std.specs.Prelude.{map, eqb, leb, ltb, length, replicate, None, Option, Some}
 use Rattle.buffer.specs.Lists.{all}
-use Rattle.buffer.specs.declared.Found.{Found}
-use Rattle.buffer.specs.declared.Found.TheVariants.{At, Nowhere}
 use Rattle.place.specs.declared.Run.{Run}
 
 -- as many runs as may be taken: ten files, or 25 variables and the ten runs that a later request holds back
@@ -28,17 +26,17 @@ apart u v = leb (u.start + u.len) v.start || leb (v.start + v.len) u.start
 unfoldable pub fits : List Run → ℕ → ℕ → ℕ → ℕ → Bool
 fits runs lo hi n start = leb lo start && (leb (start + n) hi && all (apart (run_from start n)) runs)
 
-abbrev pub at_or : Bool → ℕ → Found → Found
-at_or true k f = At k
+abbrev pub at_or : Bool → ℕ → Option ℕ → Option ℕ
+at_or true k f = Some k
 at_or false k f = f
 
 -- the lowest of the m numbers from k on that p holds of
-unfoldable pub lowest : (ℕ → Bool) → ℕ → ℕ → Found
-lowest p k zero = Nowhere
+unfoldable pub lowest : (ℕ → Bool) → ℕ → ℕ → Option ℕ
+lowest p k zero = None
 lowest p k (suc m) = at_or (p k) k (lowest p (suc k) m)
 
 -- the lowest start that fits
-unfoldable pub lowest_fit : List Run → ℕ → ℕ → ℕ → Found
+unfoldable pub lowest_fit : List Run → ℕ → ℕ → ℕ → Option ℕ
 lowest_fit runs lo hi n = lowest (fits runs lo hi n) lo (suc hi - lo)
 
 abbrev pub greater_of : Bool → ℕ → ℕ → ℕ
@@ -69,24 +67,24 @@ starts runs lo = lo ∷ map (λ v. v.start + v.len) runs
 abbrev pub precedes : (ℕ → ℕ) → ℕ → ℕ → Bool
 precedes size k j = ltb (size k) (size j) || (eqb (size k) (size j) && leb k j)
 
-abbrev pub lesser : Bool → (ℕ → ℕ) → ℕ → Found → Found
+abbrev pub lesser : Bool → (ℕ → ℕ) → ℕ → Option ℕ → Option ℕ
 lesser false size k f = f
-lesser true size k Nowhere = At k
-lesser true size k (At j) = At (cond (precedes size k j) k j)
+lesser true size k None = Some k
+lesser true size k (Some j) = Some (cond (precedes size k j) k j)
 
 -- of these numbers that p holds of the one of the least size, the lowest of equals
-unfoldable pub least : (ℕ → Bool) → (ℕ → ℕ) → List ℕ → Found
-least p size [] = Nowhere
+unfoldable pub least : (ℕ → Bool) → (ℕ → ℕ) → List ℕ → Option ℕ
+least p size [] = None
 least p size (k ∷ ks) = lesser (p k) size k (least p size ks)
 
 -- Document 02, Q-10: "A new file or variable now goes at the start of the shortest free run that fits, the lowest of
 -- equals."
-unfoldable pub place : List Run → ℕ → ℕ → ℕ → Found
+unfoldable pub place : List Run → ℕ → ℕ → ℕ → Option ℕ
 place runs lo hi n = least (begins runs lo hi n) (free_from runs hi) (starts runs lo)
 
-abbrev pub is_at : Found → Bool
-is_at (At k) = true
-is_at Nowhere = false
+abbrev pub is_at : Option ℕ → Bool
+is_at (Some k) = true
+is_at None = false
 
 -- Document 01: "Free space: the longest free run"
 unfoldable pub longest : List Run → ℕ → ℕ → ℕ

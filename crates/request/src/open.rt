@@ -9,7 +9,6 @@ ghost use Rattle.stack.specs.Steps.{about, keeping};
 ghost use Rattle.disc.specs.Directory.{Readable};
 ghost use Rattle.store.specs.File.{admission};
 
-use buffer::Found;
 use float::whole::Size;
 use machine::{OpenFile, Process};
 use number::Number;
@@ -78,10 +77,10 @@ pub fn open_file(disc: &mut [u8], area: &mut [u8], slot: usize, p: Process, d: S
     let bytes = d.bytes;
     let len = d.len as usize;
     match disc::directory::find(disc, &bytes[..len]) {
-        Found::At(i) => {
+        Some(i) => {
             let entry = disc::directory::entry_at(disc, i);
             open_run(area, slot, p, d, entry.start, entry.len);
         }
-        Found::Nowhere => open_new(disc, area, slot, p, d, size),
+        None => open_new(disc, area, slot, p, d, size),
     }
 }

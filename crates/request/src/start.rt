@@ -10,7 +10,6 @@ use crate::Starting;
 use area::ending::started_process;
 use area::processes::ended_slot;
 use area::records::{next_id, put_next_id};
-use buffer::Found;
 use disc::Entry;
 use machine::limits::ID_LIMIT;
 use process::advance::put_back;
@@ -23,10 +22,10 @@ pub fn find_start(disc: &[u8], area: &[u8], name: &[u8]) -> Starting
         × Inside disc.now area.now result }
 {
     match ended_slot(area) {
-        Found::Nowhere => Starting::NoSlot,
-        Found::At(slot) => match disc::directory::find(disc, name) {
-            Found::Nowhere => Starting::NoFile,
-            Found::At(i) => {
+        None => Starting::NoSlot,
+        Some(slot) => match disc::directory::find(disc, name) {
+            None => Starting::NoFile,
+            Some(i) => {
                 if next_id(area) == ID_LIMIT {
                     return Starting::NoId;
                 }

@@ -1,8 +1,6 @@
 -- Rows: a program, the clock of each of its turns, and what is seen after them, of the single process and of the
 -- kernel's turns. Or calls, and where a file goes.
-use Rattle.std.specs.Prelude.{ℕ, ◌≡◌, cond, List, [], ◌∷◌, ◌++◌, length, replicate}
-use Rattle.buffer.specs.declared.Found.{Found}
-use Rattle.buffer.specs.declared.Found.TheVariants.{At, Nowhere}
+use Rattle.std.specs.Prelude.{ℕ, ◌≡◌, cond, List, [], ◌∷◌, ◌++◌, length, replicate, None, Option, Some}
 use Rattle.disc.specs.Directory.{entry_at, lookup}
 use Rattle.disc.specs.Layout.{data_start, long_disc, short_disc}
 use Rattle.disc.specs.Name.{padded}
@@ -92,17 +90,17 @@ abbrev pub storing : ℕ → ℕ → Call
 storing letter n = other (store (letter ∷ []) (replicate n 0))
 
 -- ---- where a file goes
-abbrev pub start_at : List ℕ → Found → Found
-start_at disc (At i) = At (entry_at disc i).start
-start_at disc Nowhere = Nowhere
+abbrev pub start_at : List ℕ → Option ℕ → Option ℕ
+start_at disc (Some i) = Some (entry_at disc i).start
+start_at disc None = None
 
 -- the start of the file of that one-letter name
-abbrev pub start_of : List ℕ → ℕ → Found
+abbrev pub start_of : List ℕ → ℕ → Option ℕ
 start_of disc letter = start_at disc (lookup disc (letter ∷ []))
 
 -- on a disc of that length n bytes stored after these calls go to that start
 abbrev pub goes_to : (disc : ℕ) → List Call → (n start : ℕ) → Type 0
-goes_to disc calls n start = start_of (after (storing 110 n ∷ []) (after calls (formatted disc))).disc 110 ≡ At start
+goes_to disc calls n start = start_of (after (storing 110 n ∷ []) (after calls (formatted disc))).disc 110 ≡ Some start
 
 -- ---- a row, and when it holds
 pub data Row : Type 0 where

@@ -1,7 +1,7 @@
 // The end of an instruction: a fault, or on to a place with what is pushed, printed, assigned or asked.
 ghost use Rattle.std.specs.Prelude.{[], ◌++◌, ◌≡◌, ◌+◌, ◌≤◌, length, take};
 ghost use Rattle.buffer.specs.Buffer.{part};
-ghost use Rattle.buffer.specs.declared.Found.{Found};
+ghost use Rattle.std.specs.Prelude.{Some};
 ghost use Rattle.machine.specs.Effect.{settle, with_outcome};
 ghost use Rattle.machine.specs.Limits.{stack_size};
 ghost use Rattle.machine.specs.Stack.{push, push_item};
@@ -91,7 +91,7 @@ pub fn push_bytes(
     loopstart: u16,
 ) -> Step
     requires { Keeps code.now stack.now kept × (length head.now + length tail.now ≤ max_code) }
-    ensures { Means stack.now result (settle code.now (Found.At to)
+    ensures { Means stack.now result (settle code.now (Some to)
         (take kept stack.now ++ head.now ++ tail.now) loopstart []) }
 {
     if STACK_SIZE < kept + head.len() + tail.len() {
@@ -106,7 +106,7 @@ pub fn push_bytes(
 // On to a place with the first `kept` bytes of the stack.
 pub fn go(code: &[u8], stack: &[u8], kept: usize, to: usize, loopstart: u16) -> Step
     requires { Keeps code.now stack.now kept }
-    ensures { Means stack.now result (settle code.now (Found.At to)
+    ensures { Means stack.now result (settle code.now (Some to)
         (take kept stack.now) loopstart []) }
 {
     push_bytes(code, stack, kept, b"", b"", to, loopstart)
@@ -115,7 +115,7 @@ pub fn go(code: &[u8], stack: &[u8], kept: usize, to: usize, loopstart: u16) -> 
 // On to a place with the stack as it is.
 pub fn jump(code: &[u8], stack: &[u8], to: usize, loopstart: u16) -> Step
     requires { (length code.now ≤ max_code) × (length stack.now ≤ stack_size) }
-    ensures { Means stack.now result (settle code.now (Found.At to)
+    ensures { Means stack.now result (settle code.now (Some to)
         stack.now loopstart []) }
 {
     go(code, stack, stack.len(), to, loopstart)
@@ -132,7 +132,7 @@ pub fn push_item(
     loopstart: u16,
 ) -> Step
     requires { Keeps code.now stack.now kept }
-    ensures { Means stack.now result (settle code.now (Found.At to)
+    ensures { Means stack.now result (settle code.now (Some to)
         (push_item (take kept stack.now) kind bytes.now) loopstart []) }
 {
     if STACK_SIZE < bytes.len() {
@@ -155,7 +155,7 @@ pub fn push_number(
     loopstart: u16,
 ) -> Step
     requires { Keeps code.now stack.now kept }
-    ensures { Means stack.now result (settle code.now (Found.At to)
+    ensures { Means stack.now result (settle code.now (Some to)
         (push (take kept stack.now) (type_of a) (value_bytes a)) loopstart []) }
 {
     let encoded = number::value::encode(a);
@@ -175,7 +175,7 @@ pub fn push_outcome(
     loopstart: u16,
 ) -> Step
     requires { Keeps code.now stack.now kept }
-    ensures { Means stack.now result (with_outcome outcome (λ a. settle code.now (Found.At to)
+    ensures { Means stack.now result (with_outcome outcome (λ a. settle code.now (Some to)
         (push (take kept stack.now) (type_of a) (value_bytes a)) loopstart [])) }
 {
     match outcome {

@@ -1,4 +1,5 @@
 -- Why a file is admitted, and why it is not.
+use Rattle.std.specs.Prelude.{None, Option, Some}
 use Prim.Native.Nat.{ℕ, ◌-◌, ◌≤◌, ◌<◌}
 use mathlib.Core.Path.{◌≡◌, refl, subst, subst⁻¹}
 use mathlib.Core.Bool.{Bool, true, false}
@@ -8,8 +9,6 @@ use lib.Dec.{leb, ltb}
 use lib.ListN.{length, length-replicate}
 use borrow.Author.Tests.{leb-true, ltb-false, ltb-true}
 use Rattle.buffer.specs.Buffer.{zeros}
-use Rattle.buffer.specs.declared.Found.{Found}
-use Rattle.buffer.specs.declared.Found.TheVariants.{At, Nowhere}
 use Rattle.buffer.proofs.Bools.{and_left}
 use Rattle.place.specs.Place.{fits}
 use Rattle.place.proofs.Place.{Fits}
@@ -30,8 +29,8 @@ pub record Admitted (disc name : List ℕ) (n s : ℕ) : Type 0 where
   pub good : good_name name ≡ true
   pub some : 1 ≤ n
   pub few : file_count disc < max_files
-  pub new : lookup disc name ≡ Nowhere
-  pub found : place_of disc n ≡ At s
+  pub new : lookup disc name ≡ None
+  pub found : place_of disc n ≡ Some s
   pub placed : Fits (taken disc) data_start (length disc) n s
 
 -- where n bytes are admitted, n zeros are
@@ -46,7 +45,7 @@ Denial disc name n BadDisc = good_disc disc ≡ false
 Denial disc name n BadName = good_name name ≡ false
 Denial disc name n BadSize = good_size disc n ≡ false
 Denial disc name n DirectoryFull = max_files ≤ file_count disc
-Denial disc name n NameExists = (i : ℕ) × (lookup disc name ≡ At i)
+Denial disc name n NameExists = (i : ℕ) × (lookup disc name ≡ Some i)
 Denial disc name n NoRun = (s : ℕ) → fits (taken disc) data_start (length disc) n s ≡ false
 Denial disc name n ShortOutput = ⊥
 Denial disc name n NoSuchFile = ⊥
@@ -62,16 +61,16 @@ module _ (disc name : List ℕ) (n : ℕ) where
       go (good_name name) refl (good_size disc n) refl (ltb (file_count disc) max_files) refl (lookup disc name) refl (place_of disc n) refl
     where
       go : (a : Bool) → good_name name ≡ a → (b : Bool) → good_size disc n ≡ b → (c : Bool) → ltb (file_count disc) max_files ≡ c
-          → (f : Found)
-          → lookup disc name ≡ f → (g : Found) → place_of disc n ≡ g
+          → (f : Option ℕ)
+          → lookup disc name ≡ f → (g : Option ℕ) → place_of disc n ≡ g
           → Verdict disc name n
           (unless a (Denied BadName) (unless b (Denied BadSize) (unless c (Denied DirectoryFull) (deny_if_found f (start_or g)))))
       go false p b q c r f t g u = p
       go true p false q c r f t g u = q
       go true p true q false r f t g u = ltb-false (file_count disc) max_files r
-      go true p true q true r (At i) t g u = (i, t)
-      go true p true q true r Nowhere t Nowhere u = no-place-none-fit disc n u
-      go true p true q true r Nowhere t (At s) u =
+      go true p true q true r (Some i) t g u = (i, t)
+      go true p true q true r None t None u = no-place-none-fit disc n u
+      go true p true q true r None t (Some s) u =
           record {
             good = p;
             some = leb-true 1 n (and_left (leb 1 n) (leb n (length disc - data_start)) q);

@@ -1,4 +1,5 @@
 -- The calls as a whole: a refused number is below zero, why store is refused, and what free space says.
+use Rattle.std.specs.Prelude.{None, Some}
 use Prim.Native.Nat.{ℕ, ◌<◌}
 use mathlib.Core.Path.{◌≡◌, refl, subst}
 use mathlib.Core.Bool.{true}
@@ -9,7 +10,6 @@ use lib.IntN.{ℤ, pos}
 use lib.ListN.{length}
 use lib.Signed.{◌<ℤ◌}
 use Rattle.disc.specs.Directory.{good_disc, is_disc_length}
-use Rattle.buffer.specs.declared.Found.TheVariants.{At, Nowhere}
 use Rattle.store.specs.Answer.{Updated, answer_number, free_space_answer, store_answer, store_at, updated}
 use Rattle.store.specs.File.{admission, place_of, room_on, stored}
 use Rattle.store.specs.declared.Admission.{Admission}
@@ -67,10 +67,10 @@ module _ (disc : List ℕ) (n : ℕ) where
       (λ e f h. (e, cc))
 
   -- a file of that length has a place
-  pub free-space-fits : free_space_answer disc ≡ pos n → 0 < n → (s : ℕ) × (place_of disc n ≡ At s)
+  pub free-space-fits : free_space_answer disc ≡ pos n → 0 < n → (s : ℕ) × (place_of disc n ≡ Some s)
   free-space-fits e h =
-      subst (λ (k : ℕ). 0 < k → (s : ℕ) × (place_of disc k ≡ At s)) (free-space-is e).1 (room-on-fits disc) h
+      subst (λ (k : ℕ). 0 < k → (s : ℕ) × (place_of disc k ≡ Some s)) (free-space-is e).1 (room-on-fits disc) h
 
   -- no longer one has
-  pub free-space-most : free_space_answer disc ≡ pos n → (m : ℕ) → n < m → place_of disc m ≡ Nowhere
+  pub free-space-most : free_space_answer disc ≡ pos n → (m : ℕ) → n < m → place_of disc m ≡ None
   free-space-most e m h = let f = free-space-is e in room-on-most disc f.0 m (omega (arith, f.1))

@@ -1,4 +1,5 @@
 -- What store leaves, or OPEN of a new file: a good disc, every other file as it was, and the new file under its name with its data.
+use Rattle.std.specs.Prelude.{Some}
 use Prim.Native.Nat.{ℕ, ◌+◌, ◌*◌, ◌≤◌, ◌<◌}
 use mathlib.Core.Path.{◌≡◌, sym, ap, ◌∙◌}
 use mathlib.Core.Bool.{true}
@@ -7,7 +8,6 @@ use mathlib.Core.Logic.{◌⊎◌}
 use native.Mathlib.Nat.{zero-add}
 use native.Mathlib.Omega.{arith}
 use lib.ListN.{length, get_or}
-use Rattle.buffer.specs.declared.Found.TheVariants.{At}
 use Rattle.buffer.proofs.Buffer.{overwrite-whole}
 use Rattle.place.specs.Place.{run_from}
 use Rattle.place.specs.declared.Run.{Run}
@@ -42,7 +42,7 @@ module _ {disc name : List ℕ} {s : ℕ} (bytes : List ℕ) (good : good_disc d
   pub stored-length : length (stored disc name bytes s) ≡ length disc
   stored-length = written-length bytes inside ∙ entered-length (length bytes) s (room a)
 
-  pub stored-found : lookup (stored disc name bytes s) name ≡ At (file_count disc)
+  pub stored-found : lookup (stored disc name bytes s) name ≡ Some (file_count disc)
   stored-found = written-lookup bytes inside well name ∙ entered-found good a
 
   pub stored-new : entry_at (stored disc name bytes s) (file_count disc) ≡ new_entry name (length bytes) s

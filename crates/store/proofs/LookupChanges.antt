@@ -1,4 +1,5 @@
 -- What a lookup finds when a file has entered, or bytes were written.
+use Rattle.std.specs.Prelude.{Some}
 use Prim.Native.Nat.{ℕ, ◌+◌}
 use mathlib.Core.Path.{◌≡◌, ap}
 use mathlib.Core.Bool.{true}
@@ -6,7 +7,6 @@ use mathlib.Core.List.{List}
 use native.Mathlib.Omega.{arith}
 use lib.ListN.{length}
 use Rattle.buffer.specs.Lists.{index}
-use Rattle.buffer.specs.declared.Found.TheVariants.{At}
 use Rattle.place.specs.declared.Run.{Run}
 use Rattle.disc.specs.Directory.{file_count, good_disc, lookup, named, nowhere_unless}
 use Rattle.disc.specs.Name.{good_name}
@@ -24,7 +24,7 @@ module _ {disc name : List ℕ} {n s : ℕ} (good : good_disc disc ≡ true) (a 
   count : file_count (entered disc name n s) ≡ file_count disc + 1
   count = entered-count n s (room a)
 
-  pub entered-found : lookup (entered disc name n s) name ≡ At (file_count disc)
+  pub entered-found : lookup (entered disc name n s) name ≡ Some (file_count disc)
   entered-found =
       lookup-is (entered-good a good)
       (record { good = a.good; inside = omega (arith, count); held = ap (λ (x : Entry). x.name) (entered-new n s (room a)) })

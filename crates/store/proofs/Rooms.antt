@@ -1,4 +1,5 @@
 -- Places on the disc: what the search finds is the place that is due, and what it does not find is not there.
+use Rattle.std.specs.Prelude.{None, Option, Some}
 use Prim.Native.Nat.{ℕ, ◌+◌, ◌-◌, ◌≤◌, ◌<◌}
 use mathlib.Core.Path.{◌≡◌, refl, sym, ap, ◌∙◌, subst₂}
 use mathlib.Core.Bool.{Bool, true, false}
@@ -7,8 +8,6 @@ use mathlib.Core.Logic.{◌⊎◌}
 use native.Mathlib.Omega.{arith}
 use lib.ListN.{length}
 use Rattle.buffer.specs.Lists.{all}
-use Rattle.buffer.specs.declared.Found.{Found}
-use Rattle.buffer.specs.declared.Found.TheVariants.{At, Nowhere}
 use Rattle.buffer.proofs.Bools.{true-not-false}
 use Rattle.buffer.proofs.Tables.{all_map, all-tab-at, all-tab-each}
 use Rattle.place.specs.Place.{apart, fits, is_at, longest, run_from}
@@ -57,22 +56,22 @@ module _ (disc : List ℕ) (n : ℕ) where
             (record { sides = subst₂ (Sides s) (sym (entry-start disc i)) (sym (entry-size disc i)) (f.clear i h) }));
       })
 
-  pub found-fits : (s : ℕ) → place_of disc n ≡ At s → Fits (taken disc) data_start (length disc) n s
+  pub found-fits : (s : ℕ) → place_of disc n ≡ Some s → Fits (taken disc) data_start (length disc) n s
   unfolding place_of
   found-fits s e = place-fits (taken disc) data_start (length disc) n s e
 
   -- ---- what the search says
-  pub no-place-none-fit : place_of disc n ≡ Nowhere → (s : ℕ) → fits (taken disc) data_start (length disc) n s ≡ false
+  pub no-place-none-fit : place_of disc n ≡ None → (s : ℕ) → fits (taken disc) data_start (length disc) n s ≡ false
   unfolding place_of
   no-place-none-fit e s = no-place-none-fits (taken disc) data_start (length disc) n e s
 
-  pub no-place-none-free : place_of disc n ≡ Nowhere → (s : ℕ) → Free disc n s → ⊥
+  pub no-place-none-free : place_of disc n ≡ None → (s : ℕ) → Free disc n s → ⊥
   no-place-none-free e s f = true-not-false (free-fits s f) (no-place-none-fit e s)
 
-  pub placed-free : (s : ℕ) → place_of disc n ≡ At s → Free disc n s
+  pub placed-free : (s : ℕ) → place_of disc n ≡ Some s → Free disc n s
   placed-free s e = fits-free s (is-fits (taken disc) data_start (length disc) n s (found-fits s e))
 
-pub placed-shortest : (disc : List ℕ) (n s : ℕ) → 1 ≤ n → place_of disc n ≡ At s → ShortestFit (Free disc) n s
+pub placed-shortest : (disc : List ℕ) (n s : ℕ) → 1 ≤ n → place_of disc n ≡ Some s → ShortestFit (Free disc) n s
 unfolding place_of
 placed-shortest disc n s some e =
     shortest-fit-as (λ m t. fits (taken disc) data_start (length disc) m t ≡ true) (Free disc) (fits-free disc) (free-fits disc) n s
@@ -88,18 +87,18 @@ module _ (disc : List ℕ) where
   unfolding room_on
   room-on-small = omega (arith, longest-bound (taken disc) data_start (length disc))
 
-  pub room-on-fits : 0 < room_on disc → (s : ℕ) × (place_of disc (room_on disc) ≡ At s)
+  pub room-on-fits : 0 < room_on disc → (s : ℕ) × (place_of disc (room_on disc) ≡ Some s)
   unfolding place_of room_on
   room-on-fits h = go (place_of disc (room_on disc)) refl
     where
       some : is_at (place_of disc (room_on disc)) ≡ true
       some = longest-fits (taken disc) data_start (length disc) h
 
-      go : (f : Found) → place_of disc (room_on disc) ≡ f → (s : ℕ) × (place_of disc (room_on disc) ≡ At s)
-      go (At s) q = (s, q)
-      go Nowhere q = absurd (true-not-false some (ap is_at q))
+      go : (f : Option ℕ) → place_of disc (room_on disc) ≡ f → (s : ℕ) × (place_of disc (room_on disc) ≡ Some s)
+      go (Some s) q = (s, q)
+      go None q = absurd (true-not-false some (ap is_at q))
 
-  pub room-on-most : is_disc_length (length disc) ≡ true → (m : ℕ) → room_on disc < m → place_of disc m ≡ Nowhere
+  pub room-on-most : is_disc_length (length disc) ≡ true → (m : ℕ) → room_on disc < m → place_of disc m ≡ None
   unfolding place_of room_on
   room-on-most long m h = longest-most (taken disc) data_start (length disc) (disc-bounds (length disc) long).low m h
 

@@ -1,9 +1,7 @@
 -- What the operations on the disc answer and leave, for every disc, name and buffer.
-use Rattle.std.specs.Prelude.{ℕ, List, [], ◌∷◌, ◌++◌, leb, ℤ, pos, neg_ℤ, length}
+use Rattle.std.specs.Prelude.{ℕ, List, [], ◌∷◌, ◌++◌, leb, ℤ, pos, neg_ℤ, length, None, Option, Some}
 use Rattle.buffer.specs.Buffer.{overwrite}
 use Rattle.buffer.specs.Lists.{flat}
-use Rattle.buffer.specs.declared.Found.{Found}
-use Rattle.buffer.specs.declared.Found.TheVariants.{At, Nowhere}
 use Rattle.decimal.specs.Decimal.{decimal}
 use Rattle.place.specs.Place.{longest}
 use Rattle.disc.specs.Directory.{contents, entry_at, files, good_disc, is_disc_length, lookup, run_of, taken}
@@ -81,9 +79,9 @@ retrieve_file e disc out =
     unless (leb e.len (length out)) (reported (Refused ShortOutput) out)
     (reported (Done e.len) (overwrite out 0 (contents disc (run_of e))))
 
-abbrev pub retrieve_at : Found → List ℕ → List ℕ → Reported
-retrieve_at Nowhere disc out = reported (Refused NoSuchFile) out
-retrieve_at (At i) disc out = retrieve_file (entry_at disc i) disc out
+abbrev pub retrieve_at : Option ℕ → List ℕ → List ℕ → Reported
+retrieve_at None disc out = reported (Refused NoSuchFile) out
+retrieve_at (Some i) disc out = retrieve_file (entry_at disc i) disc out
 
 unfoldable pub retrieve_answer : List ℕ → List ℕ → List ℕ → Reported
 retrieve_answer disc name out =

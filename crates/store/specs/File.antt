@@ -1,9 +1,7 @@
 -- What becomes of files: a new one enters, one goes, bytes are written and read inside one.
 use Rattle.std.specs.Prelude.{ℕ, ◌+◌, ◌*◌, ◌-◌, Bool, true, false, ◌&&◌, List, [], ◌∷◌, ◌++◌, leb, ltb, length}
-use Rattle.std.specs.Prelude.{replicate}
+use Rattle.std.specs.Prelude.{replicate, None, Option, Some}
 use Rattle.buffer.specs.Buffer.{overwrite, part}
-use Rattle.buffer.specs.declared.Found.{Found}
-use Rattle.buffer.specs.declared.Found.TheVariants.{At, Nowhere}
 use Rattle.place.specs.Place.{longest, place, run_from}
 use Rattle.place.specs.declared.Run.{Run}
 use Rattle.disc.specs.Directory.{contents, entry_bytes, file_count, lookup, taken}
@@ -29,20 +27,20 @@ abbrev pub good_size : List ℕ → ℕ → Bool
 good_size disc n = leb 1 n && leb n (length disc - data_start)
 
 -- Document 02, Q-10: "at the start of the shortest free run that fits, the lowest of equals"
-unfoldable pub place_of : List ℕ → ℕ → Found
+unfoldable pub place_of : List ℕ → ℕ → Option ℕ
 place_of disc n = place (taken disc) data_start (length disc) n
 
 -- Document 01, free space: "the longest free run, however many files there are"
 unfoldable pub room_on : List ℕ → ℕ
 room_on disc = longest (taken disc) data_start (length disc)
 
-abbrev pub start_or : Found → Admission
-start_or (At s) = Start s
-start_or Nowhere = Denied NoRun
+abbrev pub start_or : Option ℕ → Admission
+start_or (Some s) = Start s
+start_or None = Denied NoRun
 
-abbrev pub deny_if_found : Found → Admission → Admission
-deny_if_found (At i) rest = Denied NameExists
-deny_if_found Nowhere rest = rest
+abbrev pub deny_if_found : Option ℕ → Admission → Admission
+deny_if_found (Some i) rest = Denied NameExists
+deny_if_found None rest = rest
 
 -- Document 01: "5 bad name, 6 data length 0 or above 863, 8 ten files already, 7 name exists, 9 no free run long
 -- enough"

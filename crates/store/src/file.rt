@@ -7,7 +7,6 @@ ghost use Rattle.disc.specs.Name.{trimmed};
 ghost use Rattle.store.specs.File.{admission, entered, erased, read_at, room_on, size_limit, stored, written_at};
 
 use crate::{Admission, Refusal};
-use buffer::Found;
 use disc::Entry;
 use disc::layout::{COUNT_AT, DATA_START, ENTRY_SIZE, MAX_FILES};
 use place::Run;
@@ -48,13 +47,13 @@ pub fn admit(disc: &[u8], name: &[u8], n: usize) -> Admission
     if MAX_FILES <= count {
         return Admission::Denied(Refusal::DirectoryFull);
     }
-    if let Found::At(_) = disc::directory::find(disc, name) {
+    if let Some(_) = disc::directory::find(disc, name) {
         return Admission::Denied(Refusal::NameExists);
     }
     let runs = disc::directory::taken_runs(disc);
     match place::find_place(runs, count, DATA_START, disc.len(), n) {
-        Found::At(start) => Admission::Start(start),
-        Found::Nowhere => Admission::Denied(Refusal::NoRun),
+        Some(start) => Admission::Start(start),
+        None => Admission::Denied(Refusal::NoRun),
     }
 }
 

@@ -2,7 +2,6 @@
 ghost use Rattle.std.specs.Prelude.{◌<◌, ◌≤◌};
 ghost use Rattle.disc.specs.Layout.{max_files};
 
-use buffer::Found;
 use disc::layout::SHORT_DISC;
 use store::Checked;
 
@@ -25,7 +24,7 @@ pub fn free_space(disc: &[u8]) -> i32 {
 // Erases the file of that name, if the disc is good and has one. Whether it is in use, only the kernel knows.
 fn erase(disc: &mut [u8], name: &[u8]) {
     if let Checked::Usable = disc_operation::operations::check(disc)
-        && let Found::At(i) = disc::directory::find(disc, name)
+        && let Some(i) = disc::directory::find(disc, name)
     {
         store::file::erase_entry(disc, i);
     }

@@ -1,4 +1,5 @@
 -- GET: what the table's lookup finds is what a process finds by name among its own variables.
+use Rattle.std.specs.Prelude.{None, Option, Some}
 use Prim.Native.Nat.{ℕ, ◌-◌, ◌<◌}
 use mathlib.Core.Path.{◌≡◌, refl, sym, ap, ◌∙◌}
 use mathlib.Core.Bool.{Bool, true, false, ◌&&◌}
@@ -8,8 +9,6 @@ use lib.ListN.{length, get_or, replicate}
 use lib.Seq.{get_or-take, take_at}
 use native.Mathlib.Omega.{arith}
 use Rattle.buffer.specs.Lists.{cons_if, here_or, index, keep, later}
-use Rattle.buffer.specs.declared.Found.{Found}
-use Rattle.buffer.specs.declared.Found.TheVariants.{At, Nowhere}
 use Rattle.buffer.proofs.Tables.{index_at}
 use Rattle.variable.specs.Assign.{value_bytes, value_of}
 use Rattle.variable.specs.Limits.{value_size}
@@ -18,14 +17,14 @@ use Rattle.variable.specs.declared.Variables.{Variables}
 use Rattle.variable.proofs.Views.{take_bound}
 
 -- what is made of a search in l: `next` of what it found, or `none`
-abbrev pub found_in : {A C : Type 0} → List A → A → (A → C) → C → Found → C
-found_in l d next none (At i) = next (get_or l i d)
-found_in l d next none Nowhere = none
+abbrev pub found_in : {A C : Type 0} → List A → A → (A → C) → C → Option ℕ → C
+found_in l d next none (Some i) = next (get_or l i d)
+found_in l d next none None = none
 
-found-later : {A C : Type 0} (x : A) (l : List A) (d : A) (next : A → C) (none : C) (f : Found)
+found-later : {A C : Type 0} (x : A) (l : List A) (d : A) (next : A → C) (none : C) (f : Option ℕ)
     → found_in (x ∷ l) d next none (later f) ≡ found_in l d next none f
-found-later x l d next none (At i) = refl
-found-later x l d next none Nowhere = refl
+found-later x l d next none (Some i) = refl
+found-later x l d next none None = refl
 
 -- a search by r among what p keeps, and one by both tests in the whole list, find the same element
 module _ {A B C : Type 0} (p : A → Bool) (f : A → B) (r : B → Bool) (d : A) (e : B) (next : B → C) (none : C) where
@@ -66,34 +65,34 @@ module _ (v : Variables) (name id : ℕ) where
   -- a variable among the process's own, the one of that name
   pub record Own (d x : Cell) : Type 0 where
     pub place : ℕ
-    pub found : index named (owned v id) ≡ At place
+    pub found : index named (owned v id) ≡ Some place
     pub is : get_or (owned v id) place d ≡ x
 
   module _ (d : Cell) where
-    abbrev alone : Found → List Cell
+    abbrev alone : Option ℕ → List Cell
     alone f = found_in (owned v id) d (λ c. c ∷ []) [] f
 
     -- found in the table: found among its own, and the same
-    pub find-own : (i : ℕ) → find v name id ≡ At i → Own d (cell_of v.memory (get_or (counted v) i no_variable))
+    pub find-own : (i : ℕ) → find v name id ≡ Some i → Own d (cell_of v.memory (get_or (counted v) i no_variable))
     find-own i h = go (index named (owned v id)) refl (variable-found d (λ c. c ∷ []) []
         ∙ ap (found_in (counted v) no_variable (λ e. cell_of v.memory e ∷ []) []) h)
       where
-        go : (f : Found) → index named (owned v id) ≡ f → alone f ≡ cell_of v.memory (get_or (counted v) i no_variable) ∷ []
+        go : (f : Option ℕ) → index named (owned v id) ≡ f → alone f ≡ cell_of v.memory (get_or (counted v) i no_variable) ∷ []
             → Own d (cell_of v.memory (get_or (counted v) i no_variable))
-        go (At k) q e = record { place = k; found = q; is = cc }
-        go Nowhere q e = absurd (let z : ◌≡◌ {A = ℕ} 0 1 = cc in omega arith)
+        go (Some k) q e = record { place = k; found = q; is = cc }
+        go None q e = absurd (let z : ◌≡◌ {A = ℕ} 0 1 = cc in omega arith)
 
     -- none in the table: none among its own
-    pub find-own-none : find v name id ≡ Nowhere → index named (owned v id) ≡ Nowhere
+    pub find-own-none : find v name id ≡ None → index named (owned v id) ≡ None
     find-own-none h = go (index named (owned v id)) (variable-found d (λ c. c ∷ []) []
         ∙ ap (found_in (counted v) no_variable (λ e. cell_of v.memory e ∷ []) []) h)
       where
-        go : (f : Found) → alone f ≡ [] → f ≡ Nowhere
-        go (At k) e = absurd (let z : ◌≡◌ {A = ℕ} 0 1 = cc in omega arith)
-        go Nowhere e = refl
+        go : (f : Option ℕ) → alone f ≡ [] → f ≡ None
+        go (Some k) e = absurd (let z : ◌≡◌ {A = ℕ} 0 1 = cc in omega arith)
+        go None e = refl
 
 -- a counted variable is the table's entry at that place
-pub find-counted : (v : Variables) (name id i : ℕ) → find v name id ≡ At i
+pub find-counted : (v : Variables) (name id i : ℕ) → find v name id ≡ Some i
     → (i < v.count) × (get_or (counted v) i no_variable ≡ get_or v.entries i no_variable)
 unfolding find
 find-counted v name id i h =

@@ -1,4 +1,5 @@
 -- SET: where a value goes, and what becomes of table and memory.
+use Rattle.std.specs.Prelude.{None, Option, Some}
 use Prim.Native.Nat.{ℕ, ◌+◌, ◌≤◌, ◌<◌}
 use mathlib.Core.Path.{◌≡◌, refl, sym, ap, subst, ◌∙◌}
 use mathlib.Core.Bool.{Bool, true, false}
@@ -7,8 +8,6 @@ use lib.Dec.{ltb}
 use lib.ListN.{length}
 use borrow.Author.Tests.{ltb-true, ltb-false}
 use Rattle.buffer.specs.Buffer.{part}
-use Rattle.buffer.specs.declared.Found.{Found}
-use Rattle.buffer.specs.declared.Found.TheVariants.{At, Nowhere}
 use Rattle.place.specs.Place.{fits, place}
 use Rattle.place.specs.declared.Run.{Run}
 use Rattle.place.proofs.Place.{Fits, no-place-none-fits, place-fits}
@@ -47,9 +46,9 @@ module _ (runs : List Run) (low high used limit n : ℕ) where
   unfolding placing
   says p e = go (ltb used limit) refl (place runs low high n) refl e
     where
-      go : (b : Bool) → ltb used limit ≡ b → (f : Found) → place runs low high n ≡ f → if_entry b (address_or f) ≡ p → Says p
-      go true k (At a) h e = subst Says e (ltb-true _ _ k, place-fits runs low high n a h)
-      go true k Nowhere h e = subst Says e (no-place-none-fits runs low high n h)
+      go : (b : Bool) → ltb used limit ≡ b → (f : Option ℕ) → place runs low high n ≡ f → if_entry b (address_or f) ≡ p → Says p
+      go true k (Some a) h e = subst Says e (ltb-true _ _ k, place-fits runs low high n a h)
+      go true k None h e = subst Says e (no-place-none-fits runs low high n h)
       go false k f h e = subst Says e (ltb-false _ _ k)
 
   -- an address: an entry is left, and the run from there on is inside and free

@@ -1,10 +1,8 @@
 -- SET: where a value goes, and what becomes of table and memory.
 use Rattle.std.specs.Prelude.{ℕ, ◌+◌, ◌-◌, Bool, true, false, not, List, [], ◌∷◌, ◌++◌, map, eqb, ltb, length}
-use Rattle.std.specs.Prelude.{replicate, set, take}
+use Rattle.std.specs.Prelude.{replicate, set, take, None, Option, Some}
 use Rattle.buffer.specs.Buffer.{overwrite}
 use Rattle.buffer.specs.Lists.{keep}
-use Rattle.buffer.specs.declared.Found.{Found}
-use Rattle.buffer.specs.declared.Found.TheVariants.{At, Nowhere}
 use Rattle.place.specs.Place.{place}
 use Rattle.place.specs.declared.Run.{Run}
 use Rattle.variable.specs.Limits.{max_variables, memory_size, value_size}
@@ -30,9 +28,9 @@ abbrev pub value_bytes : Value → List ℕ
 value_bytes x = take x.size x.bytes
 
 -- ---- a place for n bytes: among which runs, from where to where, how many entries are used and how many there are
-abbrev pub address_or : Found → Placing
-address_or (At a) = Address a
-address_or Nowhere = NoRun
+abbrev pub address_or : Option ℕ → Placing
+address_or (Some a) = Address a
+address_or None = NoRun
 
 abbrev pub if_entry : Bool → Placing → Placing
 if_entry true p = p

@@ -3,10 +3,10 @@
 --     memory   256 bytes
 -- entries 25 of name 1, type 1, address 1, size 1, process ID 2; the first count of them are variables, the others are
 -- not read
+use Rattle.std.specs.Prelude.{Option}
 use Rattle.std.specs.Prelude.{ℕ, ◌-◌, Bool, ◌&&◌, ◌||◌, not, List, ◌++◌, map, ◌≡◌, eqb, length, replicate, take, drop}
 use Rattle.buffer.specs.Buffer.{part}
 use Rattle.buffer.specs.Lists.{index, keep}
-use Rattle.buffer.specs.declared.Found.{Found}
 use Rattle.place.specs.declared.Run.{Run}
 use Rattle.variable.specs.Limits.{max_variables, memory_size}
 use Rattle.variable.specs.declared.Variable.{Variable}
@@ -29,7 +29,7 @@ owned_by id e = eqb e.owner id
 abbrev pub is_of : ℕ → ℕ → Variable → Bool
 is_of name id e = eqb e.name name && eqb e.owner id
 
-unfoldable pub find : Variables → ℕ → ℕ → Found
+unfoldable pub find : Variables → ℕ → ℕ → Option ℕ
 find v name id = index (is_of name id) (counted v)
 
 -- ---- what a variable holds

@@ -11,7 +11,6 @@ ghost use Rattle.variable.specs.Table.{freed, is_of, run_of};
 use crate::free::free;
 use crate::table::{count_of, entry_at, is_of, put_count, put_entry};
 use crate::{MAX_VARIABLES, MEMORY_SIZE, Placing, Taken, Variable};
-use buffer::Found;
 use place::{MAX_RUNS, Run};
 
 // All variables share one memory and one table.
@@ -73,8 +72,8 @@ fn place_for(
         return Placing::NoEntry;
     }
     match place::find_place(runs, count, low, high, n) {
-        Found::At(a) => Placing::Address(a),
-        Found::Nowhere => Placing::NoRun,
+        Some(a) => Placing::Address(a),
+        None => Placing::NoRun,
     }
 }
 

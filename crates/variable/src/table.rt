@@ -5,7 +5,6 @@ ghost use Rattle.variable.specs.Limits.{max_variables, variables_size};
 ghost use Rattle.variable.specs.Table.{find, is_of, no_variable};
 
 use crate::{COUNT_AT, ENTRIES_AT, ENTRY_SIZE, Variable};
-use buffer::Found;
 
 pub fn count_of(variables: &[u8]) -> usize
     requires { length variables.now ≡ variables_size }
@@ -71,7 +70,7 @@ pub fn is_of(e: Variable, name: u8, owner: u16) -> bool
 }
 
 // The place of the variable of that name and process.
-pub fn find_variable(variables: &[u8], name: u8, owner: u16) -> Found
+pub fn find_variable(variables: &[u8], name: u8, owner: u16) -> Option<usize>
     requires { (length variables.now ≡ variables_size)
         × ((variables_of variables.now).count ≤ max_variables) }
     ensures { result ≡ find (variables_of variables.now) name owner }
@@ -80,9 +79,9 @@ pub fn find_variable(variables: &[u8], name: u8, owner: u16) -> Found
     let mut i: usize = 0;
     while i < count {
         if is_of(entry_at(variables, i), name, owner) {
-            return Found::At(i);
+            return Some(i);
         }
         i += 1;
     }
-    Found::Nowhere
+    None
 }

@@ -1,4 +1,5 @@
 -- Two good storages that differ in places alone: the instruction of each process does the same.
+use Rattle.std.specs.Prelude.{None, Option, Some}
 use Prim.Native.Nat.{ℕ, zero, suc, ◌+◌, ◌≤◌, ◌<◌}
 use mathlib.Core.Path.{◌≡◌, refl, sym, ap, ap₂, ◌∙◌, subst, subst⁻¹}
 use mathlib.Core.Bool.{Bool, true, false, cond, ◌&&◌, ◌||◌, not, and-false}
@@ -18,8 +19,6 @@ use Rattle.machine.specs.GoodArea.{is_open_in, is_program}
 use Rattle.machine.specs.Operations.{in_use, uses}
 use Rattle.machine.specs.declared.OpenFile.{OpenFile}
 use Rattle.machine.proofs.Goodness.GoodRecords.{GoodFile}
-use Rattle.buffer.specs.declared.Found.{Found}
-use Rattle.buffer.specs.declared.Found.TheVariants.{At, Nowhere}
 use Rattle.buffer.proofs.Bools.{and_both, and_left, and_right, true-not-false}
 use Rattle.buffer.proofs.Lists.{tab-at, tab-length}
 use Rattle.buffer.proofs.Tables.{index-tab-at, index-tab-none}
@@ -48,9 +47,9 @@ whose-holds disc run f = go (index (is_at_run run) (files disc)) refl
     holds = and_both (eq-eqb (entry_at disc f.place).start run.start (sym (ap (λ (r : Run). r.start) f.run_is)))
         (eq-eqb (entry_at disc f.place).len run.len (sym (ap (λ (r : Run). r.len) f.run_is)))
 
-    go : (w : Found) → index (is_at_run run) (files disc) ≡ w → contents disc run ≡ contents disc (run_of (entry_at disc (slot_in w)))
-    go Nowhere e = absurd (true-not-false holds (index-tab-none (entry_at disc) (file_count disc) (is_at_run run) e f.place f.inside))
-    go (At i) e =
+    go : (w : Option ℕ) → index (is_at_run run) (files disc) ≡ w → contents disc run ≡ contents disc (run_of (entry_at disc (slot_in w)))
+    go None e = absurd (true-not-false holds (index-tab-none (entry_at disc) (file_count disc) (is_at_run run) e f.place f.inside))
+    go (Some i) e =
         let t = (index-tab-at (entry_at disc) (file_count disc) (is_at_run run) i e).1 in
         let s : (entry_at disc i).start
         ≡ run.start = eqb-true _ _ (and_left (eqb (entry_at disc i).start run.start) (eqb (entry_at disc i).len run.len) t) in
@@ -65,9 +64,9 @@ whose-inside disc run f = go (index (is_at_run run) (files disc)) refl
     holds = and_both (eq-eqb (entry_at disc f.place).start run.start (sym (ap (λ (r : Run). r.start) f.run_is)))
         (eq-eqb (entry_at disc f.place).len run.len (sym (ap (λ (r : Run). r.len) f.run_is)))
 
-    go : (w : Found) → index (is_at_run run) (files disc) ≡ w → slot_in w < file_count disc
-    go Nowhere e = absurd (true-not-false holds (index-tab-none (entry_at disc) (file_count disc) (is_at_run run) e f.place f.inside))
-    go (At i) e = (index-tab-at (entry_at disc) (file_count disc) (is_at_run run) i e).0
+    go : (w : Option ℕ) → index (is_at_run run) (files disc) ≡ w → slot_in w < file_count disc
+    go None e = absurd (true-not-false holds (index-tab-none (entry_at disc) (file_count disc) (is_at_run run) e f.place f.inside))
+    go (Some i) e = (index-tab-at (entry_at disc) (file_count disc) (is_at_run run) i e).0
 
 pub get_d_any : {A : Type 0} (l : List A) (i : ℕ) (d e : A) → i < length l → get_or l i d ≡ get_or l i e
 get_d_any [] i d e h = absurd (not-suc-le-zero h)
@@ -112,10 +111,10 @@ whose-entry disc run f = go (index (is_at_run run) (files disc)) refl
     holds = and_both (eq-eqb (entry_at disc f.place).start run.start (sym (ap (λ (r : Run). r.start) f.run_is)))
         (eq-eqb (entry_at disc f.place).len run.len (sym (ap (λ (r : Run). r.len) f.run_is)))
 
-    go : (w : Found) → index (is_at_run run) (files disc) ≡ w
+    go : (w : Option ℕ) → index (is_at_run run) (files disc) ≡ w
         → ((entry_at disc (slot_in w)).start ≡ run.start) × ((entry_at disc (slot_in w)).len ≡ run.len)
-    go Nowhere e = absurd (true-not-false holds (index-tab-none (entry_at disc) (file_count disc) (is_at_run run) e f.place f.inside))
-    go (At i) e =
+    go None e = absurd (true-not-false holds (index-tab-none (entry_at disc) (file_count disc) (is_at_run run) e f.place f.inside))
+    go (Some i) e =
         let t = (index-tab-at (entry_at disc) (file_count disc) (is_at_run run) i e).1 in (
           eqb-true _ _ (and_left (eqb (entry_at disc i).start run.start) (eqb (entry_at disc i).len run.len) t),
           eqb-true _ _ (and_right (eqb (entry_at disc i).start run.start) (eqb (entry_at disc i).len run.len) t),
@@ -151,7 +150,7 @@ index-alike p q d [] [] e h = refl
 index-alike p q d [] (y ∷ m) e h = absurd (omega arith)
 index-alike p q d (x ∷ l) [] e h = absurd (omega arith)
 index-alike p q d (x ∷ l) (y ∷ m) e h =
-    ap₂ (λ (a : Bool) (f : Found). here_or a f) (h 0 (omega arith)) (index-alike p q d l m (omega arith) (λ i k. h (suc i) (omega arith)))
+    ap₂ (λ (a : Bool) (f : Option ℕ). here_or a f) (h 0 (omega arith)) (index-alike p q d l m (omega arith) (λ i k. h (suc i) (omega arith)))
 
 pub shown-name : (disc : List ℕ) (i : ℕ) (d : Shown) → i < file_count disc
     → (get_or (map (shown disc) (files disc)) i d).name ≡ (entry_at disc i).name

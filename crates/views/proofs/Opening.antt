@@ -1,7 +1,7 @@
 -- OPEN and WRITE on two good states that show the same: both go on alike, unless one of them refuses a place or a size.
 use Rattle.std.proofs.Math.Bool.{or-true}
 use Rattle.std.proofs.Common.{ℕ, zero, suc, cond, ◌≡◌, ◌+◌, ◌<◌, ◌≤◌, Bool, true, false, ◌||◌, List, [], ◌∷◌, ◌++◌, refl, sym, ap, ◌∙◌}
-use Rattle.std.proofs.Common.{subst, length, arith}
+use Rattle.std.proofs.Common.{subst, length, arith, None, Option, Some}
 use mathlib.Core.Logic.{◌⊎◌, inl, inr, ⊎_elim}
 use lib.Dec.{ltb}
 use lib.IntN.{ℤ, pos, negsuc}
@@ -10,8 +10,6 @@ use Rattle.std.specs.Prelude.{Float as Floating}
 use lib.ListN.{length-replicate}
 use borrow.Author.Tests.{leb-true}
 use Rattle.buffer.specs.Buffer.{zeros}
-use Rattle.buffer.specs.declared.Found.{Found}
-use Rattle.buffer.specs.declared.Found.TheVariants.{At, Nowhere}
 use Rattle.float.specs.Whole.{in_range, size_of, sized, whole_of}
 use Rattle.float.specs.declared.whole.Size.{Size}
 use Rattle.float.specs.declared.whole.Size.TheVariants.{Is, Refused}
@@ -80,23 +78,23 @@ pub data BothAdmit : Admission → Admission → Type 0 where
   both-denied : (r : Refusal) → BothAdmit (Denied r) (Denied r)
   both-start : (s t : ℕ) → BothAdmit (Start s) (Start t)
 
-abbrev decides : Bool → Bool → Bool → Found → Found → Admission
+abbrev decides : Bool → Bool → Bool → Option ℕ → Option ℕ → Admission
 decides good small few name place =
     unless good (Denied BadName)
     (unless small (Denied BadSize)
     (unless few (Denied DirectoryFull)
     (deny_if_found name (start_or place))))
 
-alike : (g a b c : Bool) (f x y : Found) → (lacks_room (decides g a c f x) || lacks_room (decides g b c f y) ≡ true)
+alike : (g a b c : Bool) (f x y : Option ℕ) → (lacks_room (decides g a c f x) || lacks_room (decides g b c f y) ≡ true)
     ⊎ BothAdmit (decides g a c f x) (decides g b c f y)
 alike false a b c f x y = inr (both-denied BadName)
 alike true false b c f x y = inl refl
 alike true true false c f x y = inl (or-true (lacks_room (decides true true c f x)))
 alike true true true false f x y = inr (both-denied DirectoryFull)
-alike true true true true (At i) x y = inr (both-denied NameExists)
-alike true true true true Nowhere Nowhere y = inl refl
-alike true true true true Nowhere (At s) Nowhere = inl refl
-alike true true true true Nowhere (At s) (At t) = inr (both-start s t)
+alike true true true true (Some i) x y = inr (both-denied NameExists)
+alike true true true true None None y = inl refl
+alike true true true true None (Some s) None = inl refl
+alike true true true true None (Some s) (Some t) = inr (both-start s t)
 
 module _ (k₁ k₂ : Kernel) (d₁ d₂ : List ℕ) (g₁ : GoodState k₁ d₁) (g₂ : GoodState k₂ d₂) (same : view_at k₁ d₁ ≡ view_at k₂ d₂) where
   pub admitted-alike : (name : List ℕ) (n : ℕ) → (lacks_room (admission d₁ name n) || lacks_room (admission d₂ name n) ≡ true)
@@ -140,7 +138,7 @@ module _ (k₁ k₂ : Kernel) (d₁ d₂ : List ℕ) (g₁ : GoodState k₁ d₁
 
     -- ---- OPEN of a file that is there
     old-same : (i : ℕ) → i < file_count d₁ → (name : List ℕ) (size : Number) (l : Local)
-        → SameAnswered (opened_at k₁ slot d₁ (At i) name size l) (opened_at k₂ slot d₂ (At i) name size l)
+        → SameAnswered (opened_at k₁ slot d₁ (Some i) name size l) (opened_at k₂ slot d₂ (Some i) name size l)
     old-same i h name size l =
         let m : i < file_count d₂ = subst (λ (n : ℕ). i < n) (same_count k₁ k₂ d₁ d₂ g₁ g₂ same) h in
         both-go (put-view k₁ k₂ d₁ d₂ g₁ g₂ same slot live _ _
@@ -219,16 +217,16 @@ module _ (k₁ k₂ : Kernel) (d₁ d₂ : List ℕ) (g₁ : GoodState k₁ d₁
     unfolding answered
     opens-same name size l =
         subst
-        (λ (f : Found). (open_lacks (lookup d₁ name) (new_file_size d₁ size) d₁ name || open_lacks f (new_file_size d₂ size) d₂ name ≡ true)
+        (λ (f : Option ℕ). (open_lacks (lookup d₁ name) (new_file_size d₁ size) d₁ name || open_lacks f (new_file_size d₂ size) d₂ name ≡ true)
         ⊎ SameAnswered (opened_at k₁ slot d₁ (lookup d₁ name) name size l) (opened_at k₂ slot d₂ f name size l))
         (same-lookup k₁ k₂ d₁ d₂ g₁ g₂ same name)
         (go (lookup d₁ name) refl)
       where
-        go : (f : Found) → lookup d₁ name ≡ f
+        go : (f : Option ℕ) → lookup d₁ name ≡ f
             → (open_lacks f (new_file_size d₁ size) d₁ name || open_lacks f (new_file_size d₂ size) d₂ name ≡ true)
             ⊎ SameAnswered (opened_at k₁ slot d₁ f name size l) (opened_at k₂ slot d₂ f name size l)
-        go (At i) q = inr (old-same i (lookup-at d₁ name i q).inside name size l)
-        go Nowhere q = new-alike name size l (new_file_size d₁ size) (new_file_size d₂ size) refl refl
+        go (Some i) q = inr (old-same i (lookup-at d₁ name i q).inside name size l)
+        go None q = new-alike name size l (new_file_size d₁ size) (new_file_size d₂ size) refl refl
 
     -- ---- WRITE
     offset : p₁.file.offset ≡ p₂.file.offset

@@ -1,12 +1,11 @@
 -- The operations that are no turn, start or command.
+use Rattle.std.specs.Prelude.{None, Option, Some}
 use Rattle.std.proofs.Common.{ℕ, ◌≡◌, ◌<◌, Bool, true, false, not, List, [], ◌∷◌, ◌++◌, map, refl, sym, ap, ◌∙◌, subst, subst₂, length}
 use mathlib.Core.Logic.{◌⊎◌, inl, inr, ⊎_elim}
 use lib.Dec.{leb}
 use borrow.Author.Tests.{not-true}
 use Rattle.buffer.specs.Buffer.{overwrite}
 use Rattle.buffer.specs.Lists.{cons_if, flat, keep}
-use Rattle.buffer.specs.declared.Found.{Found}
-use Rattle.buffer.specs.declared.Found.TheVariants.{At, Nowhere}
 use Rattle.buffer.proofs.Bools.{true-not-false}
 use Rattle.disc.specs.Directory.{contents, entry_at, file_count, files as entries, lookup, run_of}
 use Rattle.disc.specs.declared.Entry.{Entry}
@@ -137,10 +136,10 @@ module _ (s₁ s₂ : Storage) (h : Alike s₁ s₂) (out : List ℕ) where
       (admitted-alike k₁ k₂ d₁ d₂ g₁ g₂ h.same name (length bytes))
 
   -- ---- retrieve
-  retrieved-at : (f : Found) (name : List ℕ) → lookup d₁ name ≡ f
+  retrieved-at : (f : Option ℕ) (name : List ℕ) → lookup d₁ name ≡ f
       → is_done_by (retrieve_at f d₁ out).number ≡ is_done_by (retrieve_at f d₂ out).number
-  retrieved-at Nowhere name e = refl
-  retrieved-at (At i) name e =
+  retrieved-at None name e = refl
+  retrieved-at (Some i) name e =
       file-done (entry_at d₁ i) (entry_at d₂ i) d₁ d₂ out
       (same-len k₁ k₂ d₁ d₂ g₁ g₂ h.same i (lookup-at d₁ name i e).inside)
 
@@ -151,7 +150,7 @@ module _ (s₁ s₂ : Storage) (h : Alike s₁ s₂) (out : List ℕ) where
         done =
             ap (λ (r : Reported). is_done_by r.number) (if-usable₁ _ _)
             ∙ retrieved-at (lookup d₁ name) name refl
-            ∙ ap (λ (f : Found). is_done_by (retrieve_at f d₂ out).number) (same-lookup k₁ k₂ d₁ d₂ g₁ g₂ h.same name)
+            ∙ ap (λ (f : Option ℕ). is_done_by (retrieve_at f d₂ out).number) (same-lookup k₁ k₂ d₁ d₂ g₁ g₂ h.same name)
             ∙ sym (ap (λ (r : Reported). is_done_by r.number) (if-usable₂ _ _));
         text = refl;
         view = h.same;
@@ -181,10 +180,10 @@ module _ (s₁ s₂ : Storage) (h : Alike s₁ s₂) (out : List ℕ) where
       })
 
   -- ---- erase
-  erased-at : (f : Found) (name : List ℕ) → lookup d₁ name ≡ f
+  erased-at : (f : Option ℕ) (name : List ℕ) → lookup d₁ name ≡ f
       → Lacks (other (erase name)) s₁ s₂ ⊎ SameDone (other (erase name)) (erase_at f k₁ b₁) (erase_at f k₂ b₂)
-  erased-at Nowhere name e = inr (refused-same (other (erase name)) s₁ s₂ h out 10)
-  erased-at (At i) name e =
+  erased-at None name e = inr (refused-same (other (erase name)) s₁ s₂ h out 10)
+  erased-at (Some i) name e =
       tested-same (other (erase name)) s₁ s₂ h out _ _ (ap not used) 11 _ _
       (λ t.
       let free : in_use k₁ (entry_at d₁ i) ≡ false = not-true _ t in
@@ -209,7 +208,7 @@ module _ (s₁ s₂ : Storage) (h : Alike s₁ s₂) (out : List ℕ) where
   unfolding answer other_answer
   erase-stepped name =
       on-both-good (other (erase name)) s₁ s₂ h out _ _
-      (subst (λ (f : Found). Lacks (other (erase name)) s₁ s₂
+      (subst (λ (f : Option ℕ). Lacks (other (erase name)) s₁ s₂
       ⊎ SameDone (other (erase name)) (erase_at (lookup d₁ name) k₁ b₁) (erase_at f k₂ b₂))
       (same-lookup k₁ k₂ d₁ d₂ g₁ g₂ h.same name) (erased-at (lookup d₁ name) name refl))
 

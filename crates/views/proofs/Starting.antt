@@ -1,8 +1,7 @@
 -- A start on two good states that show the same: FORK and run.
+use Rattle.std.specs.Prelude.{None, Option, Some}
 use Rattle.std.proofs.Common.{ℕ, ◌≡◌, ◌+◌, ◌<◌, Bool, true, false, not, List, refl, sym, ap, ◌∙◌, subst}
 use lib.Dec.{eqb}
-use Rattle.buffer.specs.declared.Found.{Found}
-use Rattle.buffer.specs.declared.Found.TheVariants.{At, Nowhere}
 use Rattle.disc.specs.Directory.{entry_at, file_count, good_disc, lookup, run_of}
 use Rattle.disc.proofs.Lookups.{lookup-at}
 use Rattle.machine.specs.Beyond.{forked, push_id}
@@ -64,11 +63,11 @@ module _ (k₁ k₂ : Kernel) (d₁ d₂ : List ℕ) (g₁ : GoodState k₁ d₁
     both-refuse : (n : ℕ) → SameStarting (refuses n) (refuses n)
     both-start : (child i : ℕ) → i < file_count d₁ → SameStarting (starts child (entry_at d₁ i)) (starts child (entry_at d₂ i))
 
-  starting-in : (e f : Found) (b : Bool) (name : List ℕ) → lookup d₁ name ≡ f → SameStarting (start_in e f b d₁) (start_in e f b d₂)
-  starting-in Nowhere f b name q = both-refuse 12
-  starting-in (At s) Nowhere b name q = both-refuse 10
-  starting-in (At s) (At i) true name q = both-refuse 13
-  starting-in (At s) (At i) false name q = both-start s i (lookup-at d₁ name i q).inside
+  starting-in : (e f : Option ℕ) (b : Bool) (name : List ℕ) → lookup d₁ name ≡ f → SameStarting (start_in e f b d₁) (start_in e f b d₂)
+  starting-in None f b name q = both-refuse 12
+  starting-in (Some s) None b name q = both-refuse 10
+  starting-in (Some s) (Some i) true name q = both-refuse 13
+  starting-in (Some s) (Some i) false name q = both-start s i (lookup-at d₁ name i q).inside
 
   pub starting-same : (name : List ℕ) → SameStarting (starting k₁ d₁ name) (starting k₂ d₂ name)
   unfolding starting

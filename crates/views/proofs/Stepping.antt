@@ -1,10 +1,9 @@
 -- A turn, a start, a command or a share, on two good pairs of buffers that show the same.
+use Rattle.std.specs.Prelude.{None, Option, Some}
 use Rattle.std.proofs.Common.{ℕ, ◌≡◌, Bool, true, false, cond, ◌&&◌, ◌||◌, not, List, refl, sym, ap, ◌∙◌, subst, length, take, arith}
 use mathlib.Core.Logic.{◌⊎◌, inl, inr, ⊎_elim}
 use lib.Dec.{eqb, leb, ltb}
 use Rattle.buffer.specs.Buffer.{overwrite}
-use Rattle.buffer.specs.declared.Found.{Found}
-use Rattle.buffer.specs.declared.Found.TheVariants.{At, Nowhere}
 use Rattle.buffer.proofs.Bools.{and_right}
 use Rattle.disc.specs.declared.Entry.{Entry}
 use Rattle.store.specs.File.{unless}
@@ -190,17 +189,17 @@ module _ (s₁ s₂ : Storage) (h : Alike s₁ s₂) (out : List ℕ) where
       ∙ sym (state-shows s₂.disc (process_at k₂ slot) state (sym (same_live k₁ k₂ s₁.disc s₂.disc g₁ g₂ h.same slot) ∙ live) (after
       (process_at k₂ slot))))))
 
-  command-at : (f : Found) (id : ℕ) → slot_of k₁ id ≡ f → (c : Command) → SameCommanded (command_at f c k₁) (command_at f c k₂)
-  command-at Nowhere id e c = both-declined 14
-  command-at (At slot) id e suspend = changed-alike slot paused (slot_at k₁ id slot e).1 (λ p. refl)
-  command-at (At slot) id e resume = changed-alike slot running (slot_at k₁ id slot e).1 (λ p. refl)
-  command-at (At slot) id e kill =
+  command-at : (f : Option ℕ) (id : ℕ) → slot_of k₁ id ≡ f → (c : Command) → SameCommanded (command_at f c k₁) (command_at f c k₂)
+  command-at None id e c = both-declined 14
+  command-at (Some slot) id e suspend = changed-alike slot paused (slot_at k₁ id slot e).1 (λ p. refl)
+  command-at (Some slot) id e resume = changed-alike slot running (slot_at k₁ id slot e).1 (λ p. refl)
+  command-at (Some slot) id e kill =
       both-become _ _ (ended-view k₁ k₂ s₁.disc s₂.disc g₁ g₂ h.same slot (slot_at k₁ id slot e).1 0)
 
   commanded-alike : (c : Command) (id : ℕ) → SameCommanded (commanded c id k₁) (commanded c id k₂)
   unfolding commanded
   commanded-alike c id =
-      subst (λ (f : Found). SameCommanded (command_at (slot_of k₁ id) c k₁) (command_at f c k₂)) (slot-alike id)
+      subst (λ (f : Option ℕ). SameCommanded (command_at (slot_of k₁ id) c k₁) (command_at f c k₂)) (slot-alike id)
       (command-at (slot_of k₁ id) id refl c)
 
   unless-choice : (x : Bool) (n : ℕ) (a b : Commanded) → SameCommanded a b
@@ -208,9 +207,9 @@ module _ (s₁ s₂ : Storage) (h : Alike s₁ s₂) (out : List ℕ) where
   unless-choice true n a b k = k
   unless-choice false n a b k = both-declined n
 
-  share-at : (f : Found) (id : ℕ) → slot_of k₁ id ≡ f → (n : ℕ) → SameCommanded (share_at f n k₁) (share_at f n k₂)
-  share-at Nowhere id e n = both-declined 14
-  share-at (At slot) id e n =
+  share-at : (f : Option ℕ) (id : ℕ) → slot_of k₁ id ≡ f → (n : ℕ) → SameCommanded (share_at f n k₁) (share_at f n k₂)
+  share-at None id e n = both-declined 14
+  share-at (Some slot) id e n =
       unless-choice (leb 1 n && leb n max_share) 22 _ _
       (both-become _ _ (put-view k₁ k₂ s₁.disc s₂.disc g₁ g₂ h.same slot (slot_at k₁ id slot e).1 _ _
       (share-same s₁.disc s₂.disc _ _ (record-alike slot) n)))
@@ -218,7 +217,7 @@ module _ (s₁ s₂ : Storage) (h : Alike s₁ s₂) (out : List ℕ) where
   shared-alike : (id n : ℕ) → SameCommanded (shared id n k₁) (shared id n k₂)
   unfolding shared
   shared-alike id n =
-      subst (λ (f : Found). SameCommanded (share_at (slot_of k₁ id) n k₁) (share_at f n k₂)) (slot-alike id)
+      subst (λ (f : Option ℕ). SameCommanded (share_at (slot_of k₁ id) n k₁) (share_at f n k₂)) (slot-alike id)
       (share-at (slot_of k₁ id) id refl n)
 
   by-commanded : (c : Call) → ((x y : Answer) → event_text c x ≡ event_text c y) → (a b : Commanded) → SameCommanded a b

@@ -1,9 +1,8 @@
 -- Document 02, Q-13: "from good buffers of the same entries, file bytes and work area (starts aside) and the same
 -- demand 3 calls, programs print the same on both until either refuses a place or size."
+use Rattle.std.specs.Prelude.{None, Option, Some}
 use Rattle.std.specs.Prelude.{ℕ, ◌≡◌, Bool, true, false, cond, ◌&&◌, ◌||◌, not, List, [], ◌∷◌, map, eqb, length}
 use Rattle.buffer.specs.Lists.{index}
-use Rattle.buffer.specs.declared.Found.{Found}
-use Rattle.buffer.specs.declared.Found.TheVariants.{At, Nowhere}
 use Rattle.float.specs.declared.whole.Size.{Size}
 use Rattle.float.specs.declared.whole.Size.TheVariants.{Is, Refused}
 use Rattle.place.specs.declared.Run.{Run}
@@ -114,9 +113,9 @@ abbrev pub new_lacks : Size → List ℕ → List ℕ → Bool
 new_lacks Refused disc name = true
 new_lacks (Is n) disc name = lacks_room (admission disc name n)
 
-abbrev pub open_lacks : Found → Size → List ℕ → List ℕ → Bool
-open_lacks (At i) size disc name = false
-open_lacks Nowhere size disc name = new_lacks size disc name
+abbrev pub open_lacks : Option ℕ → Size → List ℕ → List ℕ → Bool
+open_lacks (Some i) size disc name = false
+open_lacks None size disc name = new_lacks size disc name
 
 abbrev pub request_lacks : Request → List ℕ → Bool
 request_lacks (opens name size l) disc = open_lacks (lookup disc name) (new_file_size disc size) disc name

@@ -1,4 +1,5 @@
 -- The live IDs, and what they say of the variables: an owner is live, so an ID of no live process has none.
+use Rattle.std.specs.Prelude.{None}
 use Prim.Native.Nat.{ℕ}
 use mathlib.Core.Path.{◌≡◌, refl, sym, ap, ◌∙◌}
 use mathlib.Core.Bool.{Bool, true, false, ◌&&◌, ◌||◌, not}
@@ -6,7 +7,6 @@ use mathlib.Core.List.{List, [], ◌∷◌, map}
 use lib.Dec.{eqb}
 use borrow.Author.Tests.{eq-eqb, eqb-true}
 use Rattle.buffer.specs.Lists.{all, any, cons_if, keep}
-use Rattle.buffer.specs.declared.Found.TheVariants.{Nowhere}
 use Rattle.buffer.proofs.Bools.{and_both, and_left, and_right, not-is-true, not-true-is-false}
 use Rattle.buffer.proofs.Kept.{keep-none}
 use Rattle.buffer.proofs.Lists.{all_weaker}
@@ -71,7 +71,7 @@ still-owned live next v more t =
         is-good-variable next e (record { size = d.size; inside = d.inside; owner = more e.owner d.owner })
 
 -- no variable is of an ID that is not live
-pub none_owned : {k : Kernel} {disc : List ℕ} → GoodState k disc → (i : ℕ) → slot_of k i ≡ Nowhere → owned k.variables i ≡ []
+pub none_owned : {k : Kernel} {disc : List ℕ} → GoodState k disc → (i : ℕ) → slot_of k i ≡ None → owned k.variables i ≡ []
 unfolding owned
 none_owned {k} {disc} g i none =
     ap (map (cell_of k.variables.memory))

@@ -1,4 +1,5 @@
 -- One process record replaced: what the slots hold then, and what is kept of a good area's records and IDs.
+use Rattle.std.specs.Prelude.{None}
 use Prim.Native.Nat.{ℕ, ◌<◌}
 use mathlib.Core.Path.{◌≡◌, refl, sym, ap, ◌∙◌, subst, subst⁻¹}
 use mathlib.Core.Bool.{Bool, true, false}
@@ -9,7 +10,6 @@ use lib.ListN.{length, length-set}
 use lib.Seq.{get_or-set_other, get_or-set_same}
 use borrow.Author.Tests.{eqb-false, eqb-true}
 use Rattle.buffer.specs.Lists.{all, any, pairs}
-use Rattle.buffer.specs.declared.Found.TheVariants.{Nowhere}
 use Rattle.buffer.proofs.Lists.{all-each}
 use Rattle.disc.specs.declared.Entry.{Entry}
 use Rattle.machine.specs.GoodArea.{good_kernel, good_process, other_id}
@@ -71,7 +71,7 @@ module _ (k : Kernel) (w : ℕ) (q : Process) where
 
   -- ---- q is the live process that was there, or not live
   module _ (heir : is_live q ≡ true → (is_live (process_at k w) ≡ true) × (q.id ≡ (process_at k w).id)) where
-    pub put-none : (id : ℕ) → slot_of k id ≡ Nowhere → slot_of (with_process k w q) id ≡ Nowhere
+    pub put-none : (id : ℕ) → slot_of k id ≡ None → slot_of (with_process k w q) id ≡ None
     put-none id e =
         slot-nowhere (with_process k w q) id
         (put-live (λ s p. p.id ≡ id → ⊥) (λ h n. let was = heir h in

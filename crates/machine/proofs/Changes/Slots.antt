@@ -1,4 +1,5 @@
 -- Slots and IDs: a live process is found under its ID in its slot, and nowhere else.
+use Rattle.std.specs.Prelude.{None, Some}
 use Prim.Native.Nat.{ℕ, ◌<◌}
 use mathlib.Core.Path.{◌≡◌, refl, ap, sym, ◌∙◌}
 use mathlib.Core.Bool.{Bool, true, false}
@@ -7,7 +8,6 @@ use native.Mathlib.Omega.{arith}
 use lib.Dec.{ltb}
 use lib.ListN.{length, get_or-eq_default}
 use borrow.Author.Tests.{eq-eqb, eqb-true, ltb-false, ltb-true}
-use Rattle.buffer.specs.declared.Found.TheVariants.{At, Nowhere}
 use Rattle.buffer.proofs.Bools.{and_both, and_left, and_right, not-true-is-false, true-not-false}
 use Rattle.buffer.proofs.Lists.{index_is, index-miss}
 use Rattle.buffer.proofs.Tables.{index_at, index-none}
@@ -41,7 +41,7 @@ is-has-id : (i : ℕ) (p : Process) → is_live p ≡ true → p.id ≡ i → ha
 is-has-id i p h e = and_both h (eq-eqb p.id i e)
 
 -- ---- what the search for an ID found
-pub slot_at : (k : Kernel) (i s : ℕ) → slot_of k i ≡ At s → (s < length k.processes) × (is_live (process_at k s) ≡ true)
+pub slot_at : (k : Kernel) (i s : ℕ) → slot_of k i ≡ Some s → (s < length k.processes) × (is_live (process_at k s) ≡ true)
     × ((process_at k s).id ≡ i)
 unfolding slot_of
 slot_at k i s e =
@@ -49,20 +49,20 @@ slot_at k i s e =
     let h = has-id-is i (process_at k s) f.holds in
     (f.inside, h.0, h.1)
 
-pub slot-none : (k : Kernel) (i : ℕ) → slot_of k i ≡ Nowhere → (s : ℕ) → is_live (process_at k s) ≡ true → (process_at k s).id ≡ i → ⊥
+pub slot-none : (k : Kernel) (i : ℕ) → slot_of k i ≡ None → (s : ℕ) → is_live (process_at k s) ≡ true → (process_at k s).id ≡ i → ⊥
 unfolding slot_of
 slot-none k i e s h q =
     true-not-false (is-has-id i (process_at k s) h q) (index-none (has_id i) no_process k.processes e s (live_inside k s h))
 
 -- ---- what it will find
-pub slot-nowhere : (k : Kernel) (i : ℕ) → ((s : ℕ) → is_live (process_at k s) ≡ true → (process_at k s).id ≡ i → ⊥) → slot_of k i ≡ Nowhere
+pub slot-nowhere : (k : Kernel) (i : ℕ) → ((s : ℕ) → is_live (process_at k s) ≡ true → (process_at k s).id ≡ i → ⊥) → slot_of k i ≡ None
 unfolding slot_of
 slot-nowhere k i n =
     index-miss (has_id i) k.processes no_process
     (λ s h. not-true-is-false (has_id i (process_at k s)) (λ t. let f = has-id-is i (process_at k s) t in n s f.0 f.1))
 
 pub slot_is : {k : Kernel} {disc : List ℕ} → GoodState k disc → (s i : ℕ) → is_live (process_at k s) ≡ true → (process_at k s).id ≡ i
-    → slot_of k i ≡ At s
+    → slot_of k i ≡ Some s
 unfolding slot_of
 slot_is {k} {disc} g s i h e =
     index_is (has_id i) k.processes s no_process (live_inside k s h) (is-has-id i (process_at k s) h e)

@@ -1,4 +1,5 @@
 -- Which faults disc and table answer, by what is asked.
+use Rattle.std.specs.Prelude.{None, Option, Some}
 use Prim.Native.Nat.{ℕ, ◌+◌}
 use mathlib.Core.Path.{◌≡◌, refl, subst}
 use mathlib.Core.Bool.{Bool, true, false, cond}
@@ -7,8 +8,6 @@ use mathlib.Core.Logic.{◌⊎◌, inl, inr}
 use native.Mathlib.Omega.{arith}
 use lib.Dec.{eqb, leb}
 use lib.ListN.{length}
-use Rattle.buffer.specs.declared.Found.{Found}
-use Rattle.buffer.specs.declared.Found.TheVariants.{At, Nowhere}
 use Rattle.float.specs.declared.whole.Size.{Size}
 use Rattle.float.specs.declared.whole.Size.TheVariants.{Is, Refused}
 use Rattle.number.specs.declared.Number.{Number}
@@ -43,9 +42,9 @@ module _ (k : Kernel) (slot : ℕ) (disc : List ℕ) where
   Breaks P (carries_on j after) = Unit {0}
   Breaks P (breaks n) = P n
 
-  open-breaks : (f : Found) (name : List ℕ) (size : Number) (l : Local) → Breaks (λ n. n ≡ 13) (opened_at k slot disc f name size l)
-  open-breaks (At i) name size l = tt
-  open-breaks Nowhere name size l = sized (new_file_size disc size)
+  open-breaks : (f : Option ℕ) (name : List ℕ) (size : Number) (l : Local) → Breaks (λ n. n ≡ 13) (opened_at k slot disc f name size l)
+  open-breaks (Some i) name size l = tt
+  open-breaks None name size l = sized (new_file_size disc size)
     where
       admit : (n : ℕ) (a : Admission) → Breaks (λ m. m ≡ 13) (created_at k slot disc a name n l)
       admit n (Start s) = tt

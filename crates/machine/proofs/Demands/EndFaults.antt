@@ -1,4 +1,5 @@
 -- The fault that a turn leaves in a record tells what ended the process: 10 is a SET without a place, 13 an OPEN whose new file is refused.
+use Rattle.std.specs.Prelude.{None}
 use Prim.Native.Nat.{ℕ}
 use mathlib.Core.Path.{◌≡◌, refl, sym, ap, subst, ◌∙◌}
 use mathlib.Core.Bool.{false}
@@ -10,7 +11,6 @@ use Rattle.buffer.proofs.Bools.{true-not-false}
 use Rattle.number.specs.declared.Number.{Number}
 use Rattle.variable.specs.Table.{freed, is_of}
 use Rattle.disc.specs.Directory.{lookup}
-use Rattle.buffer.specs.declared.Found.TheVariants.{Nowhere}
 use Rattle.machine.specs.Beyond.{new_file_size}
 use Rattle.machine.specs.Answer.{Buffers}
 use Rattle.machine.specs.Demands.{EndsWith, turned_state}
@@ -74,18 +74,18 @@ module _ (b : Buffers) (slot clock : ℕ) (may : MayTurn b slot) where
 
   pub open-refused : EndsWith b slot clock 13
       → (name : List ℕ) × (size : Number) × (l : Local) × (effect_at (state_of b) slot clock b.disc ≡ asks (opens name size l))
-      × (lookup b.disc name ≡ Nowhere) × NewFileRefused b.disc name (new_file_size b.disc size)
+      × (lookup b.disc name ≡ None) × NewFileRefused b.disc name (new_file_size b.disc size)
   open-refused h = go (ended_by 13 h)
     where
       refused : (name : List ℕ) (size : Number) (l : Local) → effect_at (state_of b) slot clock b.disc ≡ asks (opens name size l)
-          → (lookup b.disc name ≡ Nowhere) × NewFileRefused b.disc name (new_file_size b.disc size)
+          → (lookup b.disc name ≡ None) × NewFileRefused b.disc name (new_file_size b.disc size)
       refused name size l e =
           let good = passes-good b.disc b.area may.passes in
           turn-open-refused (state_of b) slot may.running clock b.disc good.long good.sound name size l e (stopped-then 13 h)
 
       go : EndsBy 13 → (name : List ℕ) × (size : Number) × (l : Local)
           × (effect_at (state_of b) slot clock b.disc ≡ asks (opens name size l))
-          × (lookup b.disc name ≡ Nowhere) × NewFileRefused b.disc name (new_file_size b.disc size)
+          × (lookup b.disc name ≡ None) × NewFileRefused b.disc name (new_file_size b.disc size)
       go (stopped e z) = absurd (omega arith)
       go (faulted e some few) = absurd (omega arith)
       go (unplaced name kind bytes l e p z) = absurd (omega arith)

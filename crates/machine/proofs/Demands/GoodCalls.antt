@@ -1,4 +1,5 @@
 -- Every call keeps good buffers good.
+use Rattle.std.specs.Prelude.{None, Option, Some}
 use Prim.Native.Nat.{ℕ}
 use mathlib.Core.Path.{◌≡◌, refl, subst⁻¹}
 use mathlib.Core.Bool.{Bool, true, false, ◌&&◌, not, cond}
@@ -6,8 +7,6 @@ use mathlib.Core.List.{List, [], ◌∷◌}
 use lib.Dec.{leb, ltb}
 use lib.ListN.{length, replicate}
 use borrow.Author.Tests.{eq-eqb, eqb-true, not-true}
-use Rattle.buffer.specs.declared.Found.{Found}
-use Rattle.buffer.specs.declared.Found.TheVariants.{At, Nowhere}
 use Rattle.buffer.proofs.Bools.{and_both, and_left, and_right}
 use Rattle.disc.specs.Directory.{entry_at, is_disc_length, lookup}
 use Rattle.disc.proofs.Lookups.{lookup-at}
@@ -139,9 +138,9 @@ module _ (b : Buffers) (passes : Passes b.disc b.area) where
   unfolding answer other_answer k
   erase-kept name = subst⁻¹ Kept (on-good b _ passes) (found (lookup b.disc name) refl)
     where
-      found : (f : Found) → lookup b.disc name ≡ f → Kept (erase_at f k b)
-      found Nowhere e = passes
-      found (At i) e =
+      found : (f : Option ℕ) → lookup b.disc name ≡ f → Kept (erase_at f k b)
+      found None e = passes
+      found (Some i) e =
           tried Kept b (not (in_use k (entry_at b.disc i))) 11 _ passes λ free.
           disc-kept (erased b.disc i) (erases i (lookup-at b.disc name i e).inside (not-true _ free) refl refl)
 

@@ -1,4 +1,5 @@
 -- What the world beyond answers ends the process, or leaves it running in its slot, with its share.
+use Rattle.std.specs.Prelude.{None, Option, Some}
 use Prim.Native.Nat.{ℕ, ◌+◌, ◌<◌}
 use mathlib.Core.Path.{◌≡◌, refl, subst⁻¹}
 use mathlib.Core.Bool.{Bool, true, false, cond}
@@ -7,8 +8,6 @@ use lib.Dec.{eqb, leb}
 use lib.ListN.{length, get_or, set, length-set}
 use lib.Seq.{get_or-set_same}
 use Rattle.buffer.specs.Lists.{any}
-use Rattle.buffer.specs.declared.Found.{Found}
-use Rattle.buffer.specs.declared.Found.TheVariants.{At, Nowhere}
 use Rattle.float.specs.declared.whole.Size.{Size}
 use Rattle.float.specs.declared.whole.Size.TheVariants.{Is, Refused}
 use Rattle.number.specs.declared.Number.{Number}
@@ -52,9 +51,9 @@ module _ (k : Kernel) (slot : ℕ) (running : is_running (process_at k slot) ≡
     abbrev Left : Answered → Type 0
     Left = LeftRunning p slot
 
-    open-left : (f : Found) (name : List ℕ) (size : Number) (l : Local) → Left (opened_at k slot disc f name size l)
-    open-left (At i) name size l = continued-running l _
-    open-left Nowhere name size l = sized (new_file_size disc size)
+    open-left : (f : Option ℕ) (name : List ℕ) (size : Number) (l : Local) → Left (opened_at k slot disc f name size l)
+    open-left (Some i) name size l = continued-running l _
+    open-left None name size l = sized (new_file_size disc size)
       where
         admit : (n : ℕ) (a : Admission) → Left (created_at k slot disc a name n l)
         admit n (Start s) = continued-running l (opened (run_from s n))

@@ -1,5 +1,6 @@
 -- No call changes the length of disc, area or output: no kind of change changes the disc's, the area is the bytes of a state before and
 -- after, and no text written is longer than the output lent.
+use Rattle.std.specs.Prelude.{None, Option, Some}
 use Prim.Native.Nat.{ℕ, zero, suc, ◌*◌, ◌≤◌}
 use mathlib.Core.Path.{◌≡◌, refl, sym, subst, subst⁻¹, ◌∙◌}
 use mathlib.Core.Bool.{Bool, true, false, ◌&&◌, not, cond}
@@ -10,8 +11,6 @@ use lib.ListN.{length, replicate, length-append, length-replicate}
 use borrow.Author.Tests.{eqb-true, leb-true, ne_eqb}
 use Rattle.buffer.specs.Buffer.{overwrite}
 use Rattle.buffer.specs.Lists.{flat}
-use Rattle.buffer.specs.declared.Found.{Found}
-use Rattle.buffer.specs.declared.Found.TheVariants.{At, Nowhere}
 use Rattle.buffer.proofs.Bools.{and_right}
 use Rattle.buffer.proofs.Buffer.{overwrite-length}
 use Rattle.disc.specs.Directory.{contents, entry_at, files as entries, good_disc, is_disc_length, lookup, run_of}
@@ -194,9 +193,9 @@ module _ (b : Buffers) where
         → length text ≤ length b.out → Same (done 0 j disc text b)
     done-same j disc text g e h = (e, kernel-bytes-length j g.sized ∙ sym (eqb-true _ _ (area-length p)), wrote text h)
 
-    erase_same : (name : List ℕ) (f : Found) → lookup b.disc name ≡ f → Same (erase_at f k b)
-    erase_same name Nowhere e = same 10
-    erase_same name (At i) e =
+    erase_same : (name : List ℕ) (f : Option ℕ) → lookup b.disc name ≡ f → Same (erase_at f k b)
+    erase_same name None e = same 10
+    erase_same name (Some i) e =
         tried Same b (not (in_use k (entry_at b.disc i))) 11 _ (same 11) λ free.
         (erased-length (present b.disc p.disc-good i (lookup-at b.disc name i e).inside), refl, refl)
 
@@ -223,9 +222,9 @@ module _ (b : Buffers) where
   retrieve-out name = by-checks b.disc (λ (r : Reported). SameOut r.out) _ _ (λ e. refl) (λ e. refl)
       (λ l g. found g (lookup b.disc name) refl)
     where
-      found : good_disc b.disc ≡ true → (f : Found) → lookup b.disc name ≡ f → SameOut (retrieve_at f b.disc b.out).out
-      found g Nowhere e = refl
-      found g (At i) e =
+      found : good_disc b.disc ≡ true → (f : Option ℕ) → lookup b.disc name ≡ f → SameOut (retrieve_at f b.disc b.out).out
+      found g None e = refl
+      found g (Some i) e =
           reported-out (leb (entry_at b.disc i).len (length b.out)) (entry_at b.disc i).len
           (contents b.disc (run_of (entry_at b.disc i))) λ fit.
           omega (

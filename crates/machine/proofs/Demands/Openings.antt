@@ -1,4 +1,5 @@
 -- OPEN: it goes on with some file, or its new file is refused, and then for one of document 01's four reasons.
+use Rattle.std.specs.Prelude.{None, Option, Some}
 use Prim.Native.Nat.{ℕ, zero, suc, ◌-◌, ◌*◌, ◌/◌}
 use mathlib.Core.Path.{◌≡◌, refl, sym, subst}
 use mathlib.Core.Bool.{Bool, true, false, ◌&&◌, cond}
@@ -10,8 +11,6 @@ use lib.IntN.{ℤ, pos, negsuc}
 use lib.ListN.{length}
 use borrow.Author.Tests.{le-leb}
 use Rattle.buffer.specs.Buffer.{zeros}
-use Rattle.buffer.specs.declared.Found.{Found}
-use Rattle.buffer.specs.declared.Found.TheVariants.{At, Nowhere}
 use Rattle.buffer.proofs.Bools.{and_both, true-not-false}
 use Rattle.float.specs.Whole.{in_range, signed, sized, size_of, within}
 use Rattle.float.specs.declared.whole.Size.{Size}
@@ -67,20 +66,20 @@ size-within max n (Float x) e = float-within x e
 
 module _ (disc name : List ℕ) (long : is_disc_length (length disc) ≡ true) (good : good_disc disc ≡ true) where
   -- a file of that name would have been opened, so that it exists is no reason
-  denial-refuses : (n : ℕ) (size : Size) → size ≡ Is n → good_size disc n ≡ true → lookup disc name ≡ Nowhere → (r : Refusal)
+  denial-refuses : (n : ℕ) (size : Size) → size ≡ Is n → good_size disc n ≡ true → lookup disc name ≡ None → (r : Refusal)
       → admission disc name n ≡ Denied r → Denial disc name n r → NewFileRefused disc name size
   denial-refuses n size e fit new WrongLength a d = absurd (true-not-false long d)
   denial-refuses n size e fit new BadDisc a d = absurd (true-not-false good d)
   denial-refuses n size e fit new BadName a d = by_name λ q. true-not-false (is-name-good name q) d
   denial-refuses n size e fit new BadSize a d = absurd (true-not-false fit d)
   denial-refuses n size e fit new DirectoryFull a d = by-full (denied-full disc name n good a)
-  denial-refuses n size e fit new NameExists a d = absurd (let found : lookup disc name ≡ At d.0 = d.1 in
+  denial-refuses n size e fit new NameExists a d = absurd (let found : lookup disc name ≡ Some d.0 = d.1 in
       let z : ◌≡◌ {A = ℕ} 0 1 = cc in omega arith)
   denial-refuses n size e fit new NoRun a d = by-no-run n e (λ s free. true-not-false (free-fits disc n s free) (d s))
   denial-refuses n size e fit new ShortOutput a d = absurd d
   denial-refuses n size e fit new NoSuchFile a d = absurd d
 
-  pub new-file-refused : (size : Number) (n : ℕ) → new_file_size disc size ≡ Is n → lookup disc name ≡ Nowhere → (r : Refusal)
+  pub new-file-refused : (size : Number) (n : ℕ) → new_file_size disc size ≡ Is n → lookup disc name ≡ None → (r : Refusal)
       → admission disc name n ≡ Denied r → NewFileRefused disc name (new_file_size disc size)
   new-file-refused size n e new r a =
       denial-refuses n _ e (size-within (length disc - data_start) n size e) new r a (denied disc name n r a)
@@ -88,20 +87,20 @@ module _ (disc name : List ℕ) (long : is_disc_length (length disc) ≡ true) (
   -- OPEN goes on with some file, or its new file is refused, which is fault 13
   pub open-cases : (k : Kernel) (slot : ℕ) (l : Local) (size : Number) (P : Answered → Type 0)
       → ((f : OpenFile) (after : List ℕ) → P (continues k slot disc l f after))
-      → (lookup disc name ≡ Nowhere → NewFileRefused disc name (new_file_size disc size) → P (breaks 13))
+      → (lookup disc name ≡ None → NewFileRefused disc name (new_file_size disc size) → P (breaks 13))
       → P (answered k slot disc (opens name size l))
   unfolding answered
   open-cases k slot l size P goes refused = found (lookup disc name) refl
     where
-      create : lookup disc name ≡ Nowhere → (n : ℕ) → new_file_size disc size ≡ Is n → (a : Admission)
+      create : lookup disc name ≡ None → (n : ℕ) → new_file_size disc size ≡ Is n → (a : Admission)
           → admission disc name n ≡ a → P (created_at k slot disc a name n l)
       create new n e (Start s) a = goes (opened (run_from s n)) (stored disc name (zeros n) s)
       create new n e (Denied r) a = refused new (new-file-refused size n e new r a)
 
-      judged : lookup disc name ≡ Nowhere → (s : Size) → new_file_size disc size ≡ s → P (created k slot disc s name l)
+      judged : lookup disc name ≡ None → (s : Size) → new_file_size disc size ≡ s → P (created k slot disc s name l)
       judged new Improper e = refused new (by_size e)
       judged new (Is n) e = create new n e (admission disc name n) refl
 
-      found : (f : Found) → lookup disc name ≡ f → P (opened_at k slot disc f name size l)
-      found (At i) e = goes (opened (run_from (entry_at disc i).start (entry_at disc i).len)) disc
-      found Nowhere e = judged e (new_file_size disc size) refl
+      found : (f : Option ℕ) → lookup disc name ≡ f → P (opened_at k slot disc f name size l)
+      found (Some i) e = goes (opened (run_from (entry_at disc i).start (entry_at disc i).len)) disc
+      found None e = judged e (new_file_size disc size) refl

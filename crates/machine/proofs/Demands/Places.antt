@@ -1,5 +1,6 @@
 -- A place is refused only where there is none: OPEN's 13 by 8 or 9, and SET's 10 come only with a full table or with no free run long
 -- enough.
+use Rattle.std.specs.Prelude.{None, Option, Some}
 use Prim.Native.Nat.{ℕ, ◌≤◌}
 use mathlib.Core.Path.{◌≡◌, refl, ap, ◌∙◌, subst}
 use mathlib.Core.Bool.{Bool, true, false}
@@ -10,8 +11,6 @@ use lib.Dec.{ltb}
 use lib.ListN.{length}
 use lib.Seq.{get_or-set_same}
 use borrow.Author.Tests.{ltb-false}
-use Rattle.buffer.specs.declared.Found.{Found}
-use Rattle.buffer.specs.declared.Found.TheVariants.{At, Nowhere}
 use Rattle.buffer.proofs.Bools.{true-not-false}
 use Rattle.number.specs.declared.Number.{Number}
 use Rattle.place.specs.Place.{place}
@@ -45,11 +44,11 @@ placing-lacking : (runs : List Run) (low high used limit n : ℕ) → placing_fa
 unfolding placing
 placing-lacking runs low high used limit n = go (ltb used limit) refl (place runs low high n) refl
   where
-    go : (free : Bool) → ltb used limit ≡ free → (f : Found) → place runs low high n ≡ f → placing_fault (if_entry free (address_or f)) ≡ 10
+    go : (free : Bool) → ltb used limit ≡ free → (f : Option ℕ) → place runs low high n ≡ f → placing_fault (if_entry free (address_or f)) ≡ 10
         → (limit ≤ used) ⊎ NoneFits runs low high n
     go false p f q h = inl (ltb-false used limit p)
-    go true p Nowhere q h = inr (no-place-none-fits runs low high n q)
-    go true p (At a) q h = absurd (omega arith)
+    go true p None q h = inr (no-place-none-fits runs low high n q)
+    go true p (Some a) q h = absurd (omega arith)
 
 -- Document 01: "SET first frees the old variable", so fault 10 is judged on what is left
 pub set-lacking : (v : Variables) (name id : ℕ) (x : Value) → placing_fault (assigned v name id x).placing ≡ 10
@@ -95,12 +94,12 @@ module _ (k : Kernel) (slot : ℕ) (h : is_running (process_at k slot) ≡ true)
 
     pub turn-open-refused : is_disc_length (length disc) ≡ true → good_disc disc ≡ true → (name : List ℕ) (size : Number) (l : Local)
         → effect_at k slot clock disc ≡ asks (opens name size l)
-        → is_running (process_at (turned k slot clock disc).kernel slot) ≡ false → (lookup disc name ≡ Nowhere)
+        → is_running (process_at (turned k slot clock disc).kernel slot) ≡ false → (lookup disc name ≡ None)
         × NewFileRefused disc name (new_file_size disc size)
     unfolding turned carried_out
     turn-open-refused long good name size l e ends =
         open-cases disc name long good k slot l size
-        (λ a. is_running (process_at (answering k slot disc a).kernel slot) ≡ false → (lookup disc name ≡ Nowhere)
+        (λ a. is_running (process_at (answering k slot disc a).kernel slot) ≡ false → (lookup disc name ≡ None)
         × NewFileRefused disc name (new_file_size disc size))
         (λ f after r. absurd (true-not-false (still-running (with_file (with_local (process_at k slot) l) f) h) r))
         (λ new refused r. (new, refused))

@@ -1,4 +1,5 @@
 -- The tests of every call decide it: the first that fails refuses it, and where none does it is done.
+use Rattle.std.specs.Prelude.{None, Option, Some}
 use Prim.Native.Nat.{ℕ, ◌+◌, ◌-◌, ◌≤◌, ◌<◌}
 use mathlib.Core.Path.{◌≡◌, refl, sym, ap, ◌∙◌, subst, subst⁻¹}
 use mathlib.Core.Bool.{Bool, true, false, ◌&&◌, not, cond}
@@ -10,8 +11,6 @@ use lib.IntN.{pos}
 use lib.ListN.{length}
 use borrow.Author.Tests.{eq-eqb, eqb-false, eqb-true, le-leb, leb-true, lt-ltb, ltb-true, not-true}
 use Rattle.buffer.specs.Lists.{flat}
-use Rattle.buffer.specs.declared.Found.{Found}
-use Rattle.buffer.specs.declared.Found.TheVariants.{At, Nowhere}
 use Rattle.buffer.proofs.Bools.{and_both, and_left, and_right, not-is-true, not-true-is-false, true-not-false}
 use Rattle.disc.specs.Directory.{DiscLength, entry_at, file_count, files as entries, good_disc, is_disc_length, lookup}
 use Rattle.disc.specs.Layout.{data_start, max_files}
@@ -142,15 +141,15 @@ module _ (b : Buffers) where
   -- ---- the file of a name
   module _ (fit : Fit) (name : List ℕ) where
     -- no other has it
-    named-once : (i j : ℕ) → lookup b.disc name ≡ At i → Named b.disc name j → j ≡ i
+    named-once : (i j : ℕ) → lookup b.disc name ≡ Some i → Named b.disc name j → j ≡ i
     named-once i j e n =
-        let same : At j ≡ At i = sym (named-lookup b.disc fit.long fit.good name j n) ∙ e in
+        let same : Some j ≡ Some i = sym (named-lookup b.disc fit.long fit.good name j n) ∙ e in
         cc
 
-    none_named : lookup b.disc name ≡ Nowhere → some_file b name → ⊥
+    none_named : lookup b.disc name ≡ None → some_file b name → ⊥
     none_named e f = lookup-no-file b.disc fit.long fit.good name e f.0 f.1
 
-    says-fits : (i : ℕ) → lookup b.disc name ≡ At i → Says (leb (entry_at b.disc i).len (length b.out))
+    says-fits : (i : ℕ) → lookup b.disc name ≡ Some i → Says (leb (entry_at b.disc i).len (length b.out))
         ((j : ℕ) → Named b.disc name j → size_of b.disc j ≤ length b.out)
     says-fits i e =
         let size = entry-size b.disc i in
@@ -184,15 +183,15 @@ module _ (b : Buffers) where
       at : Admission → Answer
       at a = on_disc (store_at a b.disc name bytes) b
 
-      new : Fit → (f : Found) → lookup b.disc name ≡ f → (g : Found) → place_of b.disc (length bytes) ≡ g
+      new : Fit → (f : Option ℕ) → lookup b.disc name ≡ f → (g : Option ℕ) → place_of b.disc (length bytes) ≡ g
           → Decided
           (test 7 (NoFile b.disc name) (test 9 ((start : ℕ) × Free b.disc (length bytes) start) passed)) b
           (at (deny_if_found f (start_or g)))
-      new fit (At i) e g q = fails refl (λ h. h i (lookup-named b.disc name i e))
-      new fit Nowhere e Nowhere q =
+      new fit (Some i) e g q = fails refl (λ h. h i (lookup-named b.disc name i e))
+      new fit None e None q =
           holds_then (lookup-no-file b.disc fit.long fit.good name e)
           (fails refl (λ r. no-place-none-free b.disc (length bytes) q r.0 r.1))
-      new fit Nowhere e (At s) q =
+      new fit None e (Some s) q =
           holds_then (lookup-no-file b.disc fit.long fit.good name e)
           (holds_then (s, placed-free b.disc (length bytes) s q) (done 0 refl))
 
@@ -200,13 +199,13 @@ module _ (b : Buffers) where
   unfolding answer other_answer retrieve_answer
   retrieve-decided name = on-disc (λ r. on_output r b) _ _ refl refl λ fit. found fit (lookup b.disc name) refl
     where
-      found : Fit → (f : Found) → lookup b.disc name ≡ f
+      found : Fit → (f : Option ℕ) → lookup b.disc name ≡ f
           → Decided
           (test 10 (some_file b name)
           (test 4 ((i : ℕ) → Named b.disc name i → size_of b.disc i ≤ length b.out) passed)) b
           (on_output (retrieve_at f b.disc b.out) b)
-      found fit Nowhere e = fails refl (none_named fit name e)
-      found fit (At i) e =
+      found fit None e = fails refl (none_named fit name e)
+      found fit (Some i) e =
           holds_then (i, lookup-named b.disc name i e)
           (decided (λ r. on_output r b) (reported (Refused ShortOutput) b.out) _ refl (says-fits fit name i e)
           (λ h. done (entry_at b.disc i).len refl))
@@ -243,7 +242,7 @@ module _ (b : Buffers) where
   unfolding answer other_answer
   erase-decided name = on-both _ λ p. found p (lookup b.disc name) refl
     where
-      unused : Passes b.disc b.area → (i : ℕ) → lookup b.disc name ≡ At i → Says (not (in_use k (entry_at b.disc i)))
+      unused : Passes b.disc b.area → (i : ℕ) → lookup b.disc name ≡ Some i → Says (not (in_use k (entry_at b.disc i)))
           (Unused name)
       unused p i e =
           let inside = (lookup-named b.disc name i e).counted in
@@ -255,33 +254,33 @@ module _ (b : Buffers) where
                 (λ t. let u = in-use-is p i inside t in h i u.0 (lookup-named b.disc name i e) u.1));
           }
 
-      found : Passes b.disc b.area → (f : Found) → lookup b.disc name ≡ f
+      found : Passes b.disc b.area → (f : Option ℕ) → lookup b.disc name ≡ f
           → Decided (test 10 (some_file b name) (test 11 (Unused name) passed)) b (erase_at f k b)
-      found p Nowhere e = fails refl (none_named (fit_of p) name e)
-      found p (At i) e = holds_then (i, lookup-named b.disc name i e) (on-answer _ (unused p i e) (λ h. done 0 refl))
+      found p None e = fails refl (none_named (fit_of p) name e)
+      found p (Some i) e = holds_then (i, lookup-named b.disc name i e) (on-answer _ (unused p i e) (λ h. done 0 refl))
 
   run-decided : (name : List ℕ) → Decided (tests (run name) b) b (answer (run name) b)
   unfolding answer starting
   run-decided name = on-both _ λ p. placed p (ended_slot k) refl (lookup b.disc name) refl (eqb k.next id_limit) refl
     where
-      placed : Passes b.disc b.area → (slot : Found) → ended_slot k ≡ slot → (file : Found) → lookup b.disc name ≡ file
+      placed : Passes b.disc b.area → (slot : Option ℕ) → ended_slot k ≡ slot → (file : Option ℕ) → lookup b.disc name ≡ file
           → (spent : Bool) → eqb k.next id_limit ≡ spent
           → Decided
           (test 12 ((i : ℕ) × Ended b.area i) (test 10 (some_file b name) (test 13 (next_id b.area ≡ id_limit → ⊥) passed))) b
           (run_at (start_in slot file spent b.disc) k b)
-      placed p Nowhere e file f spent g = fails refl (λ h. no-ended-slot p e h.0 h.1)
-      placed p (At slot) e Nowhere f spent g =
+      placed p None e file f spent g = fails refl (λ h. no-ended-slot p e h.0 h.1)
+      placed p (Some slot) e None f spent g =
           holds_then (slot, (ended-slot-lowest p slot e).0) (fails refl (none_named (fit_of p) name f))
-      placed p (At slot) e (At i) f spent g =
+      placed p (Some slot) e (Some i) f spent g =
           holds_then (slot, (ended-slot-lowest p slot e).0) (holds_then (i, lookup-named b.disc name i f) (last spent g))
         where
           last : (spent : Bool) → eqb k.next id_limit ≡ spent
-              → Decided (test 13 (next_id b.area ≡ id_limit → ⊥) passed) b (run_at (start_in (At slot) (At i) spent b.disc) k b)
+              → Decided (test 13 (next_id b.area ≡ id_limit → ⊥) passed) b (run_at (start_in (Some slot) (Some i) spent b.disc) k b)
           last true g = fails refl (λ h. h (sym (next-is b.area) ∙ eqb-true _ _ g))
           last false g = holds_then (λ q. eqb-false _ _ g (next-is b.area ∙ q)) (done k.next refl)
 
   module _ (p : Passes b.disc b.area) (id : ℕ) where
-    change-decided : (slot state : ℕ) → slot_of k id ≡ At slot
+    change-decided : (slot state : ℕ) → slot_of k id ≡ Some slot
         → Decided (test 15 (not_already b id state) passed) b (command_answer (changed k slot state) b)
     change-decided slot state e = go (eqb (process_at k slot).state state) refl
       where
@@ -293,7 +292,7 @@ module _ (b : Buffers) where
 
         other-state : eqb (process_at k slot).state state ≡ false → not_already b id state
         other-state q i h r =
-            let one : At i ≡ At slot = sym (has-id-slot p id i h) ∙ e in
+            let one : Some i ≡ Some slot = sym (has-id-slot p id i h) ∙ e in
             let here : i ≡ slot = cc in
             eqb-false _ _ q (same ∙ subst (λ (x : ℕ). state_byte b.area x ≡ state) here r)
 
@@ -303,19 +302,19 @@ module _ (b : Buffers) where
         go true q = fails refl (λ h. h slot has (sym same ∙ eqb-true _ _ q))
         go false q = holds_then (other-state q) (done 0 refl)
 
-    some-slot : (slot : ℕ) → slot_of k id ≡ At slot → (i : ℕ) × HasId b.area id i
+    some-slot : (slot : ℕ) → slot_of k id ≡ Some slot → (i : ℕ) × HasId b.area id i
     some-slot slot e = (slot, slot-has-id p id slot e)
 
-    no_slot : slot_of k id ≡ Nowhere → (i : ℕ) × HasId b.area id i → ⊥
+    no_slot : slot_of k id ≡ None → (i : ℕ) × HasId b.area id i → ⊥
     no_slot e h = slot-no-id p id e h.0 h.1
 
-    command-at : (f : Found) → slot_of k id ≡ f → (c : Command) → Decided (command_tests c id b) b (command_answer (command_at f c k) b)
-    command-at Nowhere e suspend = fails refl (no_slot e)
-    command-at Nowhere e resume = fails refl (no_slot e)
-    command-at Nowhere e kill = fails refl (no_slot e)
-    command-at (At slot) e suspend = holds_then (some-slot slot e) (change-decided slot paused e)
-    command-at (At slot) e resume = holds_then (some-slot slot e) (change-decided slot running e)
-    command-at (At slot) e kill = holds_then (some-slot slot e) (done 0 refl)
+    command-at : (f : Option ℕ) → slot_of k id ≡ f → (c : Command) → Decided (command_tests c id b) b (command_answer (command_at f c k) b)
+    command-at None e suspend = fails refl (no_slot e)
+    command-at None e resume = fails refl (no_slot e)
+    command-at None e kill = fails refl (no_slot e)
+    command-at (Some slot) e suspend = holds_then (some-slot slot e) (change-decided slot paused e)
+    command-at (Some slot) e resume = holds_then (some-slot slot e) (change-decided slot running e)
+    command-at (Some slot) e kill = holds_then (some-slot slot e) (done 0 refl)
 
   command-decided : (c : Command) (id : ℕ) → Decided (tests (command c id) b) b (answer (command c id) b)
   unfolding answer commanded
@@ -326,11 +325,11 @@ module _ (b : Buffers) where
   unfolding answer shared
   share-decided id turns = on-both _ λ p. at p (slot_of k id) refl
     where
-      at : Passes b.disc b.area → (f : Found) → slot_of k id ≡ f
+      at : Passes b.disc b.area → (f : Option ℕ) → slot_of k id ≡ f
           → Decided (test 14 ((i : ℕ) × HasId b.area id i) (test 22 ((1 ≤ turns) × (turns ≤ max_share)) passed)) b
           (command_answer (share_at f turns k) b)
-      at p Nowhere e = fails refl (no_slot p id e)
-      at p (At slot) e =
+      at p None e = fails refl (no_slot p id e)
+      at p (Some slot) e =
           holds_then (some-slot p id slot e)
           (decided (λ r. command_answer r b) (declined 22) _ refl (says_both (says-at-most 1 turns) (says-at-most turns max_share))
           (λ h. done 0 refl))

@@ -1,4 +1,5 @@
 -- The file operations that are done: what they answer and leave.
+use Rattle.std.specs.Prelude.{None, Option, Some}
 use Prim.Native.Nat.{ℕ}
 use mathlib.Core.Path.{◌≡◌, refl, sym, ap, ◌∙◌, subst}
 use mathlib.Core.Bool.{Bool, true, false, not}
@@ -8,8 +9,6 @@ use lib.IntN.{pos}
 use lib.ListN.{length}
 use Rattle.buffer.specs.Buffer.{overwrite, part}
 use Rattle.buffer.specs.Lists.{flat}
-use Rattle.buffer.specs.declared.Found.{Found}
-use Rattle.buffer.specs.declared.Found.TheVariants.{At, Nowhere}
 use Rattle.place.specs.ShortestFit.{ShortestFit}
 use Rattle.disc.specs.Directory.{contents, entry_at, files as entries, lookup, run_of}
 use Rattle.disc.specs.declared.Entry.{Entry}
@@ -64,9 +63,9 @@ retrieve-done b name n =
         r.number ≡ pos n → (i : ℕ) × Named b.disc name i × (n ≡ size_of b.disc i)
         × (r.out ≡ overwrite b.out 0 (part b.disc (start_of b.disc i) n))
 
-    found : (f : Found) → lookup b.disc name ≡ f → Retrieved (retrieve_at f b.disc b.out)
-    found Nowhere e h = below-not-done h
-    found (At i) e h =
+    found : (f : Option ℕ) → lookup b.disc name ≡ f → Retrieved (retrieve_at f b.disc b.out)
+    found None e h = below-not-done h
+    found (Some i) e h =
         let d : Entry = entry_at b.disc i in
         let w = written (leb d.len (length b.out)) d.len n b.out (overwrite b.out 0 (contents b.disc (run_of d))) h in
         let row : contents b.disc (run_of d) ≡ part b.disc (start_of b.disc i) n =
@@ -96,10 +95,10 @@ erase-done b name n = done-tests Erased b n _ λ passes. found passes (lookup b.
     Erased : Answer → Type 0
     Erased a = (n ≡ 0) × ((i : ℕ) × Named b.disc name i × Leaves b.disc a.disc i)
 
-    found : Passes b.disc b.area → (f : Found) → lookup b.disc name ≡ f → (erase_at f (state_of b) b).number ≡ pos n
+    found : Passes b.disc b.area → (f : Option ℕ) → lookup b.disc name ≡ f → (erase_at f (state_of b) b).number ≡ pos n
         → Erased (erase_at f (state_of b) b)
-    found passes Nowhere e = below-not-done
-    found passes (At i) e =
+    found passes None e = below-not-done
+    found passes (Some i) e =
         done-test Erased b n (not (in_use (state_of b) (entry_at b.disc i))) 10 _ λ free h.
         let zero : n ≡ 0 = cc in
         let file = present b.disc passes.disc-good i (lookup-at b.disc name i e).inside in

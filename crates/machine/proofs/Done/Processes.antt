@@ -1,4 +1,5 @@
 -- Run, list, the commands and share that are done: what they answer and leave.
+use Rattle.std.specs.Prelude.{None, Option, Some}
 use Prim.Native.Nat.{ℕ}
 use mathlib.Core.Path.{◌≡◌, refl, ap, ◌∙◌, subst, subst⁻¹}
 use mathlib.Core.Bool.{Bool, true, false, cond, ◌&&◌}
@@ -7,8 +8,6 @@ use lib.Dec.{eqb, leb}
 use lib.IntN.{pos}
 use lib.ListN.{length}
 use Rattle.buffer.specs.Buffer.{overwrite}
-use Rattle.buffer.specs.declared.Found.{Found}
-use Rattle.buffer.specs.declared.Found.TheVariants.{At, Nowhere}
 use Rattle.disc.specs.Directory.{entry_at, lookup}
 use Rattle.store.specs.File.{unless}
 use Rattle.machine.specs.Answer.{Answer, Buffers, answer, command_answer, list, other, other_answer, run_at}
@@ -49,12 +48,12 @@ run-done b name n =
     Ran : Answer → Type 0
     Ran a = (n ≡ next_id b.area) × ((slot : ℕ) × Starts b.disc b.area name slot (kernel_of a.area))
 
-    go : Passes b.disc b.area → (f : Found) → ended_slot k ≡ f → (h : Found) → lookup b.disc name ≡ h → (t : Bool)
+    go : Passes b.disc b.area → (f : Option ℕ) → ended_slot k ≡ f → (h : Option ℕ) → lookup b.disc name ≡ h → (t : Bool)
         → eqb k.next id_limit ≡ t → (run_at (start_in f h t b.disc) k b).number ≡ pos n → Ran (run_at (start_in f h t b.disc) k b)
-    go passes Nowhere p h q t r = below-not-done
-    go passes (At slot) p Nowhere q t r = below-not-done
-    go passes (At slot) p (At i) q true r = below-not-done
-    go passes (At slot) p (At i) q false r = λ done.
+    go passes None p h q t r = below-not-done
+    go passes (Some slot) p None q t r = below-not-done
+    go passes (Some slot) p (Some i) q true r = below-not-done
+    go passes (Some slot) p (Some i) q false r = λ done.
         let begun : starting k b.disc name ≡ starts slot (entry_at b.disc i) = rw (p, q, r) in
         let good = outside-good name k b.disc _ _ (passes-good b.disc b.area passes) (begins slot _ begun refl refl) in
         let new = started-new (starting-begins name k b.disc slot _ begun) in
@@ -84,18 +83,18 @@ module _ (b : Buffers) (id n : ℕ) where
   Did : Command → Answer → Type 0
   Did c a = (n ≡ 0) × ((i : ℕ) × HasId b.area id i × Commanded c i k (kernel_of a.area))
 
-  module _ (passes : Passes b.disc b.area) (i : ℕ) (e : slot_of k id ≡ At i) where
-    becoming : (c : Command) (j : Kernel) → command_at (At i) c k ≡ becomes j → Commanded c i k j → pos 0 ≡ pos n
+  module _ (passes : Passes b.disc b.area) (i : ℕ) (e : slot_of k id ≡ Some i) where
+    becoming : (c : Command) (j : Kernel) → command_at (Some i) c k ≡ becomes j → Commanded c i k j → pos 0 ≡ pos n
         → Did c (command_answer (becomes j) b)
     unfolding k Did commanded
     becoming c j q h done =
         let good = passes-good b.disc b.area passes in
-        let back = good-back j b.disc (command-good good c id j (ap (λ (f : Found). command_at f c k) e ∙ q)) in
+        let back = good-back j b.disc (command-good good c id j (ap (λ (f : Option ℕ). command_at f c k) e ∙ q)) in
         let zero : n ≡ 0 = cc in
         (zero, (i, slot-has-id passes id i e, subst⁻¹ (Commanded c i k) back h))
 
     -- "15 already in that state"
-    change : (c : Command) (state : ℕ) → command_at (At i) c k ≡ changed k i state
+    change : (c : Command) (state : ℕ) → command_at (Some i) c k ≡ changed k i state
         → Commanded c i k (with_process k i (with_state (process_at k i) state))
         → (command_answer (changed k i state) b).number ≡ pos n → Did c (command_answer (changed k i state) b)
     change c state q h = go (eqb (process_at k i).state state) q
@@ -103,20 +102,20 @@ module _ (b : Buffers) (id n : ℕ) where
         outcome : Bool → Outcome
         outcome t = cond t (refused 15) (becomes (with_process k i (with_state (process_at k i) state)))
 
-        go : (t : Bool) → command_at (At i) c k ≡ outcome t → (command_answer (outcome t) b).number ≡ pos n
+        go : (t : Bool) → command_at (Some i) c k ≡ outcome t → (command_answer (outcome t) b).number ≡ pos n
             → Did c (command_answer (outcome t) b)
         go true r = below-not-done
         go false r = becoming c _ r h
 
-    given : (c : Command) → (command_answer (command_at (At i) c k) b).number ≡ pos n → Did c (command_answer (command_at (At i) c k) b)
+    given : (c : Command) → (command_answer (command_at (Some i) c k) b).number ≡ pos n → Did c (command_answer (command_at (Some i) c k) b)
     given suspend = change suspend paused refl (put-at k i _ (slot_at k id i e).1)
     given resume = change resume running refl (put-at k i _ (slot_at k id i e).1)
     given kill = becoming kill (ended k i 0) refl (ended-touches k i 0 (slot_at k id i e).0)
 
-  at : Passes b.disc b.area → (f : Found) → slot_of k id ≡ f → (c : Command) → (command_answer (command_at f c k) b).number ≡ pos n
+  at : Passes b.disc b.area → (f : Option ℕ) → slot_of k id ≡ f → (c : Command) → (command_answer (command_at f c k) b).number ≡ pos n
       → Did c (command_answer (command_at f c k) b)
-  at passes Nowhere e c = below-not-done
-  at passes (At i) e c = given passes i e c
+  at passes None e c = below-not-done
+  at passes (Some i) e c = given passes i e c
 
 pub command-done : CommandDone
 unfolding answer commanded k Did
@@ -132,7 +131,7 @@ share-done b id turns n = done-tests Did b n _ λ passes. go passes (slot_of k i
     Did : Answer → Type 0
     Did a = (n ≡ 0) × ((i : ℕ) × HasId b.area id i × (kernel_of a.area ≡ with_process k i (with_share (process_at k i) turns)))
 
-    set : Passes b.disc b.area → (i : ℕ) → slot_of k id ≡ At i → (fit : Bool) → leb 1 turns && leb turns max_share ≡ fit
+    set : Passes b.disc b.area → (i : ℕ) → slot_of k id ≡ Some i → (fit : Bool) → leb 1 turns && leb turns max_share ≡ fit
         → let r = unless fit (refused 22) (becomes (with_process k i (with_share (process_at k i) turns))) in
         (command_answer r b).number ≡ pos n → Did (command_answer r b)
     set passes i e false q = below-not-done
@@ -142,7 +141,7 @@ share-done b id turns n = done-tests Did b n _ λ passes. go passes (slot_of k i
         let zero : n ≡ 0 = cc in
         (zero, (i, slot-has-id passes id i e, back))
 
-    go : Passes b.disc b.area → (f : Found) → slot_of k id ≡ f → (command_answer (share_at f turns k) b).number ≡ pos n
+    go : Passes b.disc b.area → (f : Option ℕ) → slot_of k id ≡ f → (command_answer (share_at f turns k) b).number ≡ pos n
         → Did (command_answer (share_at f turns k) b)
-    go passes Nowhere e = below-not-done
-    go passes (At i) e = set passes i e (leb 1 turns && leb turns max_share) refl
+    go passes None e = below-not-done
+    go passes (Some i) e = set passes i e (leb 1 turns && leb turns max_share) refl

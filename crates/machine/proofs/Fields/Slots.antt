@@ -1,4 +1,5 @@
 -- Slots: a record's fields, live and ended slots, the slot of an ID, and the files that a process uses.
+use Rattle.std.specs.Prelude.{None, Some}
 use Prim.Native.Nat.{ℕ, ◌+◌, ◌<◌}
 use mathlib.Core.Path.{◌≡◌, refl, sym, ap, ◌∙◌, subst}
 use mathlib.Core.Bool.{true, false, not}
@@ -10,7 +11,6 @@ use lib.ListN.{length, get_or}
 use borrow.Author.Tests.{eq-eqb, eqb-true, not-true}
 use Rattle.buffer.specs.Buffer.{part}
 use Rattle.buffer.specs.Lists.{tab}
-use Rattle.buffer.specs.declared.Found.TheVariants.{At, Nowhere}
 use Rattle.buffer.proofs.Bools.{and_both, and_left, and_right, not-is-true, true-not-false}
 use Rattle.buffer.proofs.Disjunctions.{any-is, or_cases, or-first, or-second}
 use Rattle.buffer.proofs.Kept.{any_at}
@@ -114,7 +114,7 @@ module _ {disc area : List ℕ} (passes : Passes disc area) where
       }
 
   -- ---- the ended slot
-  pub ended-slot-lowest : (i : ℕ) → ended_slot (kernel_of area) ≡ At i → Lowest (Ended area) i
+  pub ended-slot-lowest : (i : ℕ) → ended_slot (kernel_of area) ≡ Some i → Lowest (Ended area) i
   unfolding ended_slot
   ended-slot-lowest i e =
       let f = index_at (λ p. not (is_live p)) no_process (kernel_of area).processes i e in (
@@ -122,23 +122,23 @@ module _ {disc area : List ℕ} (passes : Passes disc area) where
         λ m h ended. true-not-false (not-is-true (ended-not-live area m ended)) (f.first m h),
       )
 
-  pub no-ended-slot : ended_slot (kernel_of area) ≡ Nowhere → (i : ℕ) → Ended area i → ⊥
+  pub no-ended-slot : ended_slot (kernel_of area) ≡ None → (i : ℕ) → Ended area i → ⊥
   unfolding ended_slot
   no-ended-slot e i ended =
       true-not-false (not-is-true (ended-not-live area i ended))
       (index-none (λ p. not (is_live p)) no_process (kernel_of area).processes e i (omega (arith, ended.slot, slots_length area)))
 
   -- ---- the slot of an ID
-  pub slot-has-id : (id i : ℕ) → slot_of (kernel_of area) id ≡ At i → HasId area id i
+  pub slot-has-id : (id i : ℕ) → slot_of (kernel_of area) id ≡ Some i → HasId area id i
   slot-has-id id i e =
       let f = slot_at (kernel_of area) id i e in
       let l = live-is area i f.1 in
       record { live = l; same = sym (id-is area i l.slot) ∙ f.2 }
 
-  pub has-id-slot : (id i : ℕ) → HasId area id i → slot_of (kernel_of area) id ≡ At i
+  pub has-id-slot : (id i : ℕ) → HasId area id i → slot_of (kernel_of area) id ≡ Some i
   has-id-slot id i h = slot_is good i id (is-live area i h.live) (id-is area i h.live.slot ∙ h.same)
 
-  pub slot-no-id : (id : ℕ) → slot_of (kernel_of area) id ≡ Nowhere → (i : ℕ) → HasId area id i → ⊥
+  pub slot-no-id : (id : ℕ) → slot_of (kernel_of area) id ≡ None → (i : ℕ) → HasId area id i → ⊥
   slot-no-id id e i h = slot-none (kernel_of area) id e i (is-live area i h.live) (id-is area i h.live.slot ∙ h.same)
 
   -- ---- the files that a process uses

@@ -1,4 +1,5 @@
 -- Disc and process table, of bytes both, answer with bytes to an instruction that reaches beyond its process.
+use Rattle.std.specs.Prelude.{None, Option, Some}
 use Prim.Native.Nat.{ℕ, ◌+◌, ◌/◌, ◌%◌, ◌≤◌}
 use mathlib.Core.Path.{◌≡◌, refl, subst⁻¹}
 use mathlib.Core.Bool.{Bool, true, false, cond}
@@ -10,8 +11,6 @@ use lib.ListN.{drop, length, length-append}
 use borrow.Author.Tests.{leb-true}
 use Rattle.buffer.specs.Buffer.{zeros}
 use Rattle.buffer.specs.Lists.{any}
-use Rattle.buffer.specs.declared.Found.{Found}
-use Rattle.buffer.specs.declared.Found.TheVariants.{At, Nowhere}
 use Rattle.float.specs.declared.whole.Size.{Size}
 use Rattle.float.specs.declared.whole.Size.TheVariants.{Is, Refused}
 use Rattle.number.specs.declared.Number.{Number}
@@ -107,12 +106,12 @@ module _ {k : Kernel} {disc : List ℕ} (good : GoodState k disc) (h : ByteKerne
       sized (Is n) = judged n (admission disc name n) refl
       sized Refused = omega arith
 
-      found : (f : Found) → ByteAnswered (opened_at k slot disc f name size l)
-      found (At i) =
+      found : (f : Option ℕ) → ByteAnswered (opened_at k slot disc f name size l)
+      found (Some i) =
           let e = entry-at disc d i in
           continued l (opened (run_from (entry_at disc i).start (entry_at disc i).len)) disc b
           (record { start = e.start; len = e.len; offset = omega arith }) d
-      found Nowhere = sized (new_file_size disc size)
+      found None = sized (new_file_size disc size)
 
   -- ---- WRITE and the READs
   in-file : (n : ℕ) (rest : Answered) → (ByteFile (advanced p.file n) → ByteAnswered rest)

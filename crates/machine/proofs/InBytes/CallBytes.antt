@@ -1,4 +1,5 @@
 -- Every call, format and boot leave buffers of bytes of buffers of bytes.
+use Rattle.std.specs.Prelude.{None, Option, Some}
 use Prim.Native.Nat.{ℕ}
 use mathlib.Core.Path.{◌≡◌, refl}
 use mathlib.Core.Bool.{Bool, true, false, ◌&&◌, cond, not}
@@ -8,8 +9,6 @@ use lib.Dec.{eqb, leb, ltb}
 use lib.ListN.{length, replicate}
 use Rattle.buffer.specs.Buffer.{overwrite}
 use Rattle.buffer.specs.Lists.{flat, keep}
-use Rattle.buffer.specs.declared.Found.{Found}
-use Rattle.buffer.specs.declared.Found.TheVariants.{At, Nowhere}
 use borrow.Author.Tests.{leb-true}
 use Rattle.buffer.proofs.Bools.{and_right}
 use Rattle.decimal.specs.Decimal.{decimal}
@@ -88,11 +87,11 @@ module _ (k : Kernel) (h : ByteKernel k) where
   unfolding commanded
   commanded-bytes c id = go (slot_of k id) c
     where
-      go : (f : Found) (c : Command) → ByteCommanded (command_at f c k)
-      go Nowhere c = tt
-      go (At slot) suspend = changed-bytes slot paused (omega arith)
-      go (At slot) resume = changed-bytes slot running (omega arith)
-      go (At slot) kill = ended-bytes k h slot 0 (omega arith)
+      go : (f : Option ℕ) (c : Command) → ByteCommanded (command_at f c k)
+      go None c = tt
+      go (Some slot) suspend = changed-bytes slot paused (omega arith)
+      go (Some slot) resume = changed-bytes slot running (omega arith)
+      go (Some slot) kill = ended-bytes k h slot 0 (omega arith)
 
   shared-bytes : (id turns : ℕ) → ByteCommanded (shared id turns k)
   unfolding shared
@@ -105,9 +104,9 @@ module _ (k : Kernel) (h : ByteKernel k) where
           with-process k h slot _ (with-share (process_at k slot) (process-at k h slot) turns (omega (arith, few)))
       at slot false e = tt
 
-      go : (f : Found) → ByteCommanded (share_at f turns k)
-      go Nowhere = tt
-      go (At slot) = at slot (leb 1 turns && leb turns max_share) refl
+      go : (f : Option ℕ) → ByteCommanded (share_at f turns k)
+      go None = tt
+      go (Some slot) = at slot (leb 1 turns && leb turns max_share) refl
 
 module _ (b : Buffers) (hd : Bytes b.disc) (ha : Bytes b.area) (ho : Bytes b.out) where
   abbrev Left : Answer → Type 0
@@ -137,9 +136,9 @@ module _ (b : Buffers) (hd : Bytes b.disc) (ha : Bytes b.area) (ho : Bytes b.out
   done-bytes : (n : ℕ) (j : Kernel) (disc text : List ℕ) → ByteKernel j → Bytes disc → Bytes text → Left (done n j disc text b)
   done-bytes n j disc text h d t = (d, kernel-bytes j h, wrote text t)
 
-  erase-bytes : (f : Found) → Left (erase_at f k b)
-  erase-bytes Nowhere = same 10
-  erase-bytes (At i) =
+  erase-bytes : (f : Option ℕ) → Left (erase_at f k b)
+  erase-bytes None = same 10
+  erase-bytes (Some i) =
       tried Left b (not (in_use k (entry_at b.disc i))) 11 _ (same 11) λ free. (erased-bytes b.disc hd i, ha, ho)
 
   run-bytes : Passes b.disc b.area → (name : List ℕ) (s : Starting) → starting k b.disc name ≡ s → Left (run_at s k b)
@@ -170,9 +169,9 @@ module _ (b : Buffers) (hd : Bytes b.disc) (ha : Bytes b.area) (ho : Bytes b.out
   retrieve-bytes name =
       by-checks b.disc (λ (r : Reported). Bytes r.out) _ _ (λ e. ho) (λ e. ho) (λ l g. found (lookup b.disc name))
     where
-      found : (f : Found) → Bytes (retrieve_at f b.disc b.out).out
-      found Nowhere = ho
-      found (At i) =
+      found : (f : Option ℕ) → Bytes (retrieve_at f b.disc b.out).out
+      found None = ho
+      found (Some i) =
           reported-bytes (leb (entry_at b.disc i).len (length b.out)) (entry_at b.disc i).len
           (contents b.disc (run_of (entry_at b.disc i))) (contents-bytes b.disc hd (run_of (entry_at b.disc i)))
 

@@ -1,4 +1,5 @@
 -- Effects of bytes, by the parts that instructions are made of.
+use Rattle.std.specs.Prelude.{None, Option, Some}
 use Prim.Native.Nat.{ℕ, ◌≤◌}
 use mathlib.Core.Path.{◌≡◌, refl}
 use mathlib.Core.Bool.{Bool, true, false, cond}
@@ -7,8 +8,6 @@ use native.Mathlib.Omega.{arith}
 use lib.Dec.{leb}
 use lib.ListN.{length}
 use borrow.Author.Tests.{leb-true}
-use Rattle.buffer.specs.declared.Found.{Found}
-use Rattle.buffer.specs.declared.Found.TheVariants.{At, Nowhere}
 use Rattle.operator.specs.Binary.{binary}
 use Rattle.operator.specs.Instruction.{types_of}
 use Rattle.operator.specs.Unary.{unary}
@@ -70,15 +69,15 @@ either-gives true d e h k = h
 either-gives false d e h k = k
 
 -- the tests at the end of an instruction: the stack fits
-pub settle-gives : (prog : List ℕ) (target : Found) (stack : List ℕ) (loopstart : ℕ) (out : List ℕ)
+pub settle-gives : (prog : List ℕ) (target : Option ℕ) (stack : List ℕ) (loopstart : ℕ) (out : List ℕ)
     → (length stack ≤ stack_size → Bytes stack) → Bytes out → GivesBytes (settle prog target stack loopstart out)
 unfolding GivesBytes settle
 settle-gives prog target stack loopstart out h k =
     unless-gives (leb (length stack) stack_size) 4 _ λ fits. lands target (h (leb-true _ _ fits))
   where
-    lands : (f : Found) → Bytes stack → GivesBytes (land prog f stack loopstart out)
-    lands Nowhere b = tt
-    lands (At pc) b = unless-gives (leb pc (length prog)) 3 _ λ p. (b, k)
+    lands : (f : Option ℕ) → Bytes stack → GivesBytes (land prog f stack loopstart out)
+    lands None b = tt
+    lands (Some pc) b = unless-gives (leb pc (length prog)) 3 _ λ p. (b, k)
 
 -- ---- operands
 module _ (types : Types) (stack : List ℕ) (h : Bytes stack) where
@@ -102,11 +101,11 @@ module _ (types : Types) (stack : List ℕ) (h : Bytes stack) where
       go (popped item rest) b = g _ rest (number_fits item.kind item.bytes b.0.bytes) b.1
       go (cannot n) b = tt
 
-pub variable-gives : (f : Found) (own : List Cell) (next : Cell → Effect) → Each ByteCell own
+pub variable-gives : (f : Option ℕ) (own : List Cell) (next : Cell → Effect) → Each ByteCell own
     → ((c : Cell) → ByteCell c → GivesBytes (next c)) → GivesBytes (with_variable f own next)
 unfolding GivesBytes Each
-variable-gives Nowhere own next h g = tt
-variable-gives (At i) own next h g = g _ (each_at ByteCell own i _ h (record { kind = omega arith; bytes = tt }))
+variable-gives None own next h g = tt
+variable-gives (Some i) own next h g = g _ (each_at ByteCell own i _ h (record { kind = omega arith; bytes = tt }))
 
 -- ---- operators
 type-byte : (a : Number) → IsByte (type_of a)

@@ -1,4 +1,5 @@
 -- Every instruction of a program of bytes, on a stack of bytes, gives bytes.
+use Rattle.std.specs.Prelude.{Option, Some}
 use Prim.Native.Nat.{ℕ, ◌+◌, ◌-◌}
 use mathlib.Core.Path.{◌≡◌, refl}
 use mathlib.Core.Bool.{Bool, true}
@@ -9,8 +10,6 @@ use lib.ListN.{drop, get_or, length, take}
 use borrow.Author.Tests.{leb-true, ltb-true}
 use Rattle.buffer.specs.Buffer.{part}
 use Rattle.buffer.specs.Lists.{all, index}
-use Rattle.buffer.specs.declared.Found.{Found}
-use Rattle.buffer.specs.declared.Found.TheVariants.{At}
 use Rattle.number.specs.Clock.{is_ahead}
 use Rattle.number.specs.Value.{is_zero}
 use Rattle.operator.specs.declared.instruction.Types.TheVariants.{AnyNumber, AnyString, AnyValue, CharOrInt}
@@ -77,7 +76,7 @@ module _ (prog : List ℕ) (code : Bytes prog) (l : Local) (h : Bytes l.stack) w
   pc = behind prog st ls l.pc
 
   -- on with a stack of bytes, nothing printed
-  on : (target : Found) (stack : List ℕ) → Bytes stack → GivesBytes (settle prog target stack ls [])
+  on : (target : Option ℕ) (stack : List ℕ) → Bytes stack → GivesBytes (settle prog target stack ls [])
   unfolding Each
   on target stack b = settle-gives prog target stack ls [] (λ fits. b) tt
 
@@ -102,7 +101,7 @@ module _ (prog : List ℕ) (code : Bytes prog) (l : Local) (h : Bytes l.stack) w
   performs-gives clock StringLiteral own o t =
       let text : List ℕ = trimmed (drop pc prog) in
       unless-gives (leb (pc + (length text + 1)) (length prog)) 2 _ λ a.
-      settle-gives prog (At (pc + (length text + 1))) (push_string st (text ++ (0 ∷ []))) ls []
+      settle-gives prog (Some (pc + (length text + 1))) (push_string st (text ++ (0 ∷ []))) ls []
       (push-string-bytes st (text ++ (0 ∷ [])) h
       (append-bytes text (0 ∷ []) (trimmed-bytes (drop pc prog) (drop-bytes pc prog code)) (one_byte 0 (omega arith)))) tt
   performs-gives clock SetVariable own o t =
@@ -111,16 +110,16 @@ module _ (prog : List ℕ) (code : Bytes prog) (l : Local) (h : Bytes l.stack) w
   performs-gives clock GetVariable own o t =
       unless-gives (leb (pc + 1) (length prog)) 2 _ λ a.
       variable-gives (index (λ c. eqb c.name (first_argument prog st ls l.pc)) own) own _ o λ c b.
-      settle-gives prog (At (pc + 1)) (push_item st c.kind c.bytes) ls []
+      settle-gives prog (Some (pc + 1)) (push_item st c.kind c.bytes) ls []
       (push-item-bytes st c.kind c.bytes h b.kind b.bytes) tt
   performs-gives clock (Operate p) own o t = operates-gives p st _ h λ s b. on _ s b
   performs-gives clock DelayUntil own o t =
       number-gives CharOrInt st h _ λ x rest f b.
-      either-gives (is_ahead x clock) _ _ (h, tt) (on (At pc) rest b)
+      either-gives (is_ahead x clock) _ _ (h, tt) (on (Some pc) rest b)
   performs-gives clock Millis own o t = on _ _ (push-bytes st 2 _ h (omega arith) (omega arith, (omega arith, tt)))
   performs-gives clock (Print ends) own o t =
       popped-gives AnyValue st h _ λ x rest i b.
-      settle-gives prog (At pc) rest ls (printed x ++ newline ends) (λ fits. b)
+      settle-gives prog (Some pc) rest ls (printed x ++ newline ends) (λ fits. b)
       (append-bytes (printed x) (newline ends) (printed-bytes x i) (newline-bytes ends))
   performs-gives clock (JumpIf zero) own o t =
       unless-gives (leb (pc + 1) (length prog)) 2 _ λ a.
@@ -131,13 +130,13 @@ module _ (prog : List ℕ) (code : Bytes prog) (l : Local) (h : Bytes l.stack) w
       let d : ℕ = second_argument prog st ls l.pc in
       unless-gives (leb (pc + 2) (length prog)) 2 _ λ a.
       number-gives AnyNumber st h _ λ x rest f b.
-      either-gives (is_zero x) _ _ (on (At (pc + 2 + (d + 1))) rest b)
+      either-gives (is_zero x) _ _ (on (Some (pc + 2 + (d + 1))) rest b)
       (unless-gives (leb (c + d) 251) 8 _ λ low.
-      on (At (pc + 2)) (rest ++ ((c + d + 4) ∷ []))
+      on (Some (pc + 2)) (rest ++ ((c + d + 4) ∷ []))
       (append-bytes rest ((c + d + 4) ∷ []) b (one_byte (c + d + 4) (omega (arith, leb-true (c + d) 251 low)))))
   performs-gives clock EndWhile own o t =
       unless-gives (leb 1 (length st)) 5 _ λ a. on _ (take (length st - 1) st) (take-bytes (length st - 1) st h)
-  performs-gives clock Loop own o t = settle-gives prog (At pc) st pc [] (λ fits. h) tt
+  performs-gives clock Loop own o t = settle-gives prog (Some pc) st pc [] (λ fits. h) tt
   performs-gives clock EndLoop own o t = on _ st h
   performs-gives clock Stop own o t = tt
   performs-gives clock (Beyond r) own o t = reaches-gives r t

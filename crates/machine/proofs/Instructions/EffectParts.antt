@@ -1,4 +1,5 @@
 -- Effects, by the parts that instructions are made of: what is sound of each part is sound of the whole.
+use Rattle.std.specs.Prelude.{None, Option, Some}
 use Prim.Native.Nat.{ℕ, ◌≤◌}
 use mathlib.Core.Path.{◌≡◌, refl}
 use mathlib.Core.Bool.{Bool, true, false, cond}
@@ -8,8 +9,6 @@ use native.Mathlib.Omega.{arith}
 use lib.Dec.{leb}
 use lib.ListN.{length, get_or}
 use borrow.Author.Tests.{leb-true}
-use Rattle.buffer.specs.declared.Found.{Found}
-use Rattle.buffer.specs.declared.Found.TheVariants.{At, Nowhere}
 use Rattle.operator.specs.Binary.{binary}
 use Rattle.operator.specs.Instruction.{types_of}
 use Rattle.operator.specs.Unary.{unary}
@@ -83,11 +82,11 @@ module _ (prog : List ℕ) (l : Local) where
   outcome-does DivisionByZero next h = (omega arith, omega arith)
   outcome-does OutOfRange next h = (omega arith, omega arith)
 
-  pub variable-does : (f : Found) (own : List Cell) (next : Cell → Effect) → ((c : Cell) → Does prog l (next c))
+  pub variable-does : (f : Option ℕ) (own : List Cell) (next : Cell → Effect) → ((c : Cell) → Does prog l (next c))
       → Does prog l (with_variable f own next)
   unfolding Does
-  variable-does Nowhere own next h = (omega arith, omega arith)
-  variable-does (At i) own next h = h _
+  variable-does None own next h = (omega arith, omega arith)
+  variable-does (Some i) own next h = h _
 
   pub operates-does : (o : Operator) (stack : List ℕ) (next : List ℕ → Effect) → ((s : List ℕ) → Does prog l (next s))
       → Does prog l (operates o stack next)
@@ -116,16 +115,16 @@ module _ (prog : List ℕ) (l : Local) where
   operates-does NotAnOperator stack next h = (omega arith, omega arith)
 
   -- the tests at the end of an instruction: stack and PC fit whatever it did
-  pub settle-does : (target : Found) (stack : List ℕ) (loopstart : ℕ) (out : List ℕ)
+  pub settle-does : (target : Option ℕ) (stack : List ℕ) (loopstart : ℕ) (out : List ℕ)
       → (Within (length prog) l → ((loopstart ≡ no_loop) ⊎ (loopstart ≤ length prog)) × (length out ≤ turn_room))
       → Does prog l (settle prog target stack loopstart out)
   unfolding Does settle
   settle-does target stack loopstart out h = unless-does (leb (length stack) stack_size) 4 _ (omega arith, omega arith) (lands target)
     where
-      lands : (f : Found) → leb (length stack) stack_size ≡ true → Does prog l (land prog f stack loopstart out)
-      lands Nowhere s = (omega arith, omega arith)
-      lands (At pc) s = unless-does (leb pc (length prog)) 3 _ (omega arith, omega arith) λ p. λ w.
+      lands : (f : Option ℕ) → leb (length stack) stack_size ≡ true → Does prog l (land prog f stack loopstart out)
+      lands None s = (omega arith, omega arith)
+      lands (Some pc) s = unless-does (leb pc (length prog)) 3 _ (omega arith, omega arith) λ p. λ w.
           (record { stack = leb-true _ _ s; pc = leb-true _ _ p; loop = (h w).0 }, (h w).1)
 
-  pub onward-does : (target : Found) (stack : List ℕ) → Does prog l (settle prog target stack l.loopstart [])
+  pub onward-does : (target : Option ℕ) (stack : List ℕ) → Does prog l (settle prog target stack l.loopstart [])
   onward-does target stack = settle-does target stack l.loopstart [] λ w. (w.loop, omega arith)

@@ -1,5 +1,6 @@
 -- Every instruction is sound: it leaves of a process that fits its record one that does, and only the bytes of the instructions that reach
 -- beyond the process ask.
+use Rattle.std.specs.Prelude.{Some}
 use Prim.Native.Nat.{ℕ, ◌+◌, ◌≤◌, ◌<◌}
 use mathlib.Core.Path.{◌≡◌, refl, sym, ap, subst}
 use mathlib.Core.Bool.{Bool, true, false}
@@ -9,7 +10,6 @@ use native.Mathlib.Omega.{arith}
 use lib.Dec.{eqb, leb, ltb}
 use lib.ListN.{length, get_or, length-append}
 use borrow.Author.Tests.{eqb-true, leb-true, ltb-true}
-use Rattle.buffer.specs.declared.Found.TheVariants.{At}
 use Rattle.buffer.specs.Lists.{index}
 use Rattle.buffer.proofs.Bools.{and_left, and_right, true-not-false}
 use Rattle.number.specs.Clock.{is_ahead}
@@ -100,11 +100,11 @@ module _ (prog : List ℕ) (l : Local) (inside : l.pc < length prog) where
   performs-does clock (Operate o) own h = operates-does prog l o st _ λ s. onward-does prog l _ s
   performs-does clock DelayUntil own h =
       number-does prog l CharOrInt st _ λ x rest t.
-      either-does prog l (is_ahead x clock) (goes l []) _ (λ w. (w, omega arith)) (onward-does prog l (At pc) rest)
+      either-does prog l (is_ahead x clock) (goes l []) _ (λ w. (w, omega arith)) (onward-does prog l (Some pc) rest)
   performs-does clock Millis own h = onward-does prog l _ _
   performs-does clock (Print ends) own h =
       popped-does prog l AnyValue st _ λ x rest e t.
-      settle-does prog l (At pc) rest ls (printed x ++ newline ends) λ w.
+      settle-does prog l (Some pc) rest ls (printed x ++ newline ends) λ w.
       (w.loop, omega (arith, length-append (printed x) (newline ends), printed-short st x rest t w.stack, newline-short ends))
   performs-does clock (JumpIf zero) own h = arguments 1 _ λ a. number-does prog l AnyNumber st _ λ x rest t. onward-does prog l _ _
   performs-does clock EndIf own h = number-does prog l AnyNumber st _ λ x rest t. onward-does prog l _ _
@@ -113,11 +113,11 @@ module _ (prog : List ℕ) (l : Local) (inside : l.pc < length prog) where
       let b : ℕ = second_argument prog st ls l.pc in
       arguments 2 _ λ a.
       number-does prog l AnyNumber st _ λ x rest t.
-      either-does prog l (is_zero x) _ _ (onward-does prog l (At (pc + 2 + (b + 1))) rest)
+      either-does prog l (is_zero x) _ _ (onward-does prog l (Some (pc + 2 + (b + 1))) rest)
       (unless-does prog l (leb (c + b) 251) 8 _ (omega arith, omega arith) λ f.
-      onward-does prog l (At (pc + 2)) (rest ++ ((c + b + 4) ∷ [])))
+      onward-does prog l (Some (pc + 2)) (rest ++ ((c + b + 4) ∷ [])))
   performs-does clock EndWhile own h = unless-does prog l (leb 1 (length st)) 5 _ (omega arith, omega arith) λ a. onward-does prog l _ _
-  performs-does clock Loop own h = settle-does prog l (At pc) st pc [] λ w. (inr (omega arith), omega arith)
+  performs-does clock Loop own h = settle-does prog l (Some pc) st pc [] λ w. (inr (omega arith), omega arith)
   performs-does clock EndLoop own h = onward-does prog l _ _
   performs-does clock Stop own h = tt
   performs-does clock (Beyond r) own h =

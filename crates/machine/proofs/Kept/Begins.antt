@@ -1,4 +1,5 @@
 -- A start as facts: the lowest ended slot, the file of that name, and an ID that is left to give.
+use Rattle.std.specs.Prelude.{None, Option, Some}
 use Prim.Native.Nat.{ℕ, ◌<◌}
 use mathlib.Core.Path.{◌≡◌, refl, sym, ap, ◌∙◌, subst}
 use mathlib.Core.Bool.{Bool, true, false, not}
@@ -9,8 +10,6 @@ use lib.Dec.{eqb}
 use lib.ListN.{length}
 use lib.Seq.{get_or-set_other, get_or-set_same}
 use borrow.Author.Tests.{eqb-false, eqb-true, not-true}
-use Rattle.buffer.specs.declared.Found.{Found}
-use Rattle.buffer.specs.declared.Found.TheVariants.{At, Nowhere}
 use Rattle.buffer.proofs.Bools.{true-not-false}
 use Rattle.buffer.proofs.Tables.{index_at}
 use Rattle.disc.specs.Directory.{entry_at, lookup}
@@ -22,11 +21,11 @@ use Rattle.machine.specs.declared.Kernel.{Kernel}
 
 -- Document 01, Run: "12 no ended slot, 10, 13 next ID is 32768. Takes the lowest ended slot"
 pub record Begins (name : List ℕ) (k : Kernel) (disc : List ℕ) (slot : ℕ) (e : Entry) : Type 0 where
-  pub lowest : ended_slot k ≡ At slot
+  pub lowest : ended_slot k ≡ Some slot
   pub inside : slot < length k.processes
   pub free : is_live (process_at k slot) ≡ false
   pub file : ℕ
-  pub found : lookup disc name ≡ At file
+  pub found : lookup disc name ≡ Some file
   pub entry : e ≡ entry_at disc file
   pub unspent : k.next ≡ id_limit → ⊥
 
@@ -35,15 +34,15 @@ pub starting-begins : (name : List ℕ) (k : Kernel) (disc : List ℕ) (slot : �
 unfolding starting ended_slot
 starting-begins name k disc slot e = go (ended_slot k) refl (lookup disc name) refl (eqb k.next id_limit) refl
   where
-    go : (f : Found) → ended_slot k ≡ f → (h : Found) → lookup disc name ≡ h → (b : Bool) → eqb k.next id_limit ≡ b
+    go : (f : Option ℕ) → ended_slot k ≡ f → (h : Option ℕ) → lookup disc name ≡ h → (b : Bool) → eqb k.next id_limit ≡ b
         → start_in f h b disc ≡ starts slot e → Begins name k disc slot e
-    go Nowhere p h q b r t = absurd (let z : ◌≡◌ {A = ℕ} 0 1 = cc in omega arith)
-    go (At s) p Nowhere q b r t = absurd (let z : ◌≡◌ {A = ℕ} 0 1 = cc in omega arith)
-    go (At s) p (At i) q true r t = absurd (let z : ◌≡◌ {A = ℕ} 0 1 = cc in omega arith)
-    go (At s) p (At i) q false r t =
+    go None p h q b r t = absurd (let z : ◌≡◌ {A = ℕ} 0 1 = cc in omega arith)
+    go (Some s) p None q b r t = absurd (let z : ◌≡◌ {A = ℕ} 0 1 = cc in omega arith)
+    go (Some s) p (Some i) q true r t = absurd (let z : ◌≡◌ {A = ℕ} 0 1 = cc in omega arith)
+    go (Some s) p (Some i) q false r t =
         let same : s ≡ slot = cc in
         let that : e ≡ entry_at disc i = cc in
-        let here : ended_slot k ≡ At slot = p ∙ ap (λ (n : ℕ). At n) same in
+        let here : ended_slot k ≡ Some slot = p ∙ ap (λ (n : ℕ). Some n) same in
         let f = index_at (λ x. not (is_live x)) no_process k.processes slot here in
         record {
           lowest = here;

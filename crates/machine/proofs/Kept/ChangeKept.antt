@@ -1,4 +1,5 @@
 -- What every change keeps: a good state stays good, another process is left as it is, an ended ID stays ended, a start is fresh.
+use Rattle.std.specs.Prelude.{None, Some}
 use Prim.Native.Nat.{ℕ}
 use mathlib.Core.Path.{◌≡◌, sym, ap, subst, ◌∙◌}
 use mathlib.Core.Bool.{true}
@@ -6,7 +7,6 @@ use mathlib.Core.List.{List}
 use mathlib.Core.Logic.{◌⊎◌, inl, inr}
 use native.Mathlib.Omega.{arith}
 use lib.ListN.{get_or}
-use Rattle.buffer.specs.declared.Found.TheVariants.{At, Nowhere}
 use Rattle.place.specs.declared.Run.{Run}
 use Rattle.disc.specs.Directory.{contents}
 use Rattle.disc.proofs.Locations.{FileAt}
@@ -46,7 +46,7 @@ own-of-write x = moves x.process x.goes x.kernel
 pub gone-after : {w : ℕ} {k j : Kernel} {disc : List ℕ} (i : ℕ) → Gone i k → Own w k disc j → Gone i j
 gone-after i g x = let r = own-gone i g.given g.none x in record { given = r.0; none = r.1 }
 
-pub no_place : {s : ℕ} → At s ≡ Nowhere → ⊥
+pub no_place : {s : ℕ} → Some s ≡ None → ⊥
 no_place e = let z : ◌≡◌ {A = ℕ} 0 1 = cc in omega arith
 
 module _ (name : List ℕ) (w : ℕ) (k : Kernel) (disc : List ℕ) (j : Kernel) (after : List ℕ) (good : GoodState k disc) where
@@ -86,8 +86,8 @@ module _ (name : List ℕ) (w : ℕ) (k : Kernel) (disc : List ℕ) (j : Kernel)
   change-gone i g (writes x) = gone-after i g (own-of-write x)
 
   -- what a live process does starts at most another one, which is then as a start leaves it
-  pub change-begun : is_live (process_at k w) ≡ true → (i : ℕ) → slot_of k i ≡ Nowhere → Change name w k disc j after
-      → (slot_of j i ≡ Nowhere)
+  pub change-begun : is_live (process_at k w) ≡ true → (i : ℕ) → slot_of k i ≡ None → Change name w k disc j after
+      → (slot_of j i ≡ None)
       ⊎ Begun name i disc j after
   change-begun live i none (writes x) = inl (own-none i none (own-of-write x))
   change-begun live i none (acts m o still x) = go (outside-begun i good none o)
@@ -95,7 +95,7 @@ module _ (name : List ℕ) (w : ℕ) (k : Kernel) (disc : List ℕ) (j : Kernel)
       g : GoodState m after
       g = outside-good name k disc m after good o
 
-      go : (slot_of m i ≡ Nowhere) ⊎ Begun name i disc m after → (slot_of j i ≡ Nowhere) ⊎ Begun name i disc j after
+      go : (slot_of m i ≡ None) ⊎ Begun name i disc m after → (slot_of j i ≡ None) ⊎ Begun name i disc j after
       go (inl e) = inl (own-none i e x)
       go (inr b) =
           let l : is_live (process_at m b.slot) ≡ true = ap is_live b.process in

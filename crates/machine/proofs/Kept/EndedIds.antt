@@ -1,5 +1,6 @@
 -- What happens outside a process ends none and revives none: an ended ID stays ended, and an ID that comes to life is a start, fresh from
 -- its file.
+use Rattle.std.specs.Prelude.{None}
 use Prim.Native.Nat.{ℕ}
 use mathlib.Core.Path.{◌≡◌, refl, sym, ap, ◌∙◌, subst⁻¹}
 use mathlib.Core.Bool.{Bool, true, false}
@@ -8,7 +9,6 @@ use mathlib.Core.Logic.{◌⊎◌, inl, inr, ⊎_elim}
 use native.Mathlib.Omega.{arith}
 use lib.Dec.{eqb}
 use borrow.Author.Tests.{eqb-false, eqb-true}
-use Rattle.buffer.specs.declared.Found.TheVariants.{Nowhere}
 use Rattle.disc.specs.declared.Entry.{Entry}
 use Rattle.machine.specs.Start.{started, started_process}
 use Rattle.machine.specs.State.{is_live, process_at, slot_of}
@@ -22,9 +22,9 @@ use Rattle.machine.proofs.Changes.LiveIds.{none_owned}
 use Rattle.machine.proofs.Changes.Slots.{slot-none, slot-nowhere}
 
 module _ {name : List ℕ} {k : Kernel} {disc : List ℕ} {slot : ℕ} {e : Entry} (b : Begins name k disc slot e) (i : ℕ)
-    (none : slot_of k i ≡ Nowhere) where
+    (none : slot_of k i ≡ None) where
   -- only the next ID comes to life
-  started-missing : (k.next ≡ i → ⊥) → slot_of (started k slot e) i ≡ Nowhere
+  started-missing : (k.next ≡ i → ⊥) → slot_of (started k slot e) i ≡ None
   started-missing other = slot-nowhere (started k slot e) i absent
     where
       absent : (s : ℕ) → is_live (process_at (started k slot e) s) ≡ true → (process_at (started k slot e) s).id ≡ i → ⊥
@@ -58,18 +58,18 @@ module _ {name : List ℕ} {k : Kernel} {disc : List ℕ} {j : Kernel} {after : 
         none = started-missing (starting-begins name k disc slot d t) i gone.none (λ q. omega (arith, gone.given));
       })
 
-  pub outside-begun : slot_of k i ≡ Nowhere → Outside name k disc j after → (slot_of j i ≡ Nowhere) ⊎ Begun name i disc j after
-  outside-begun none (nothing e f) = inl (subst⁻¹ (λ (x : Kernel). slot_of x i ≡ Nowhere) e none)
-  outside-begun none (stores title bytes s a e f) = inl (subst⁻¹ (λ (x : Kernel). slot_of x i ≡ Nowhere) e none)
-  outside-begun none (erases n h u e f) = inl (subst⁻¹ (λ (x : Kernel). slot_of x i ≡ Nowhere) e none)
+  pub outside-begun : slot_of k i ≡ None → Outside name k disc j after → (slot_of j i ≡ None) ⊎ Begun name i disc j after
+  outside-begun none (nothing e f) = inl (subst⁻¹ (λ (x : Kernel). slot_of x i ≡ None) e none)
+  outside-begun none (stores title bytes s a e f) = inl (subst⁻¹ (λ (x : Kernel). slot_of x i ≡ None) e none)
+  outside-begun none (erases n h u e f) = inl (subst⁻¹ (λ (x : Kernel). slot_of x i ≡ None) e none)
   outside-begun none (begins slot d t e f) =
-      subst⁻¹ (λ (x : Kernel). (slot_of x i ≡ Nowhere) ⊎ Begun name i disc x after) e
-      (subst⁻¹ (λ (d' : List ℕ). (slot_of (started k slot d) i ≡ Nowhere)
+      subst⁻¹ (λ (x : Kernel). (slot_of x i ≡ None) ⊎ Begun name i disc x after) e
+      (subst⁻¹ (λ (d' : List ℕ). (slot_of (started k slot d) i ≡ None)
       ⊎ Begun name i disc (started k slot d) d') f (go (eqb k.next i) refl))
     where
       b : Begins name k disc slot d
       b = starting-begins name k disc slot d t
 
-      go : (x : Bool) → eqb k.next i ≡ x → (slot_of (started k slot d) i ≡ Nowhere) ⊎ Begun name i disc (started k slot d) disc
+      go : (x : Bool) → eqb k.next i ≡ x → (slot_of (started k slot d) i ≡ None) ⊎ Begun name i disc (started k slot d) disc
       go true q = inr (started-fresh b i none g (eqb-true k.next i q))
       go false q = inl (started-missing b i none (eqb-false k.next i q))

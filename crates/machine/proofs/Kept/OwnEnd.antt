@@ -1,10 +1,10 @@
 -- What becomes of the acting process itself: as it ends, and its variables after a SET.
+use Rattle.std.specs.Prelude.{None}
 use Prim.Native.Nat.{ℕ}
 use mathlib.Core.Path.{◌≡◌, refl}
 use mathlib.Core.Bool.{true}
 use mathlib.Core.List.{List, []}
 use lib.ListN.{length}
-use Rattle.buffer.specs.declared.Found.TheVariants.{Nowhere}
 use Rattle.buffer.proofs.Bools.{true-not-false}
 use Rattle.disc.specs.Directory.{files}
 use Rattle.variable.specs.Assign.{assigned, assigned_cells, new_cell, value_bytes}
@@ -35,7 +35,7 @@ module _ (k : Kernel) (w : ℕ) (fault : ℕ) where
 
   -- no other live process has its ID
   pub ended-gone : (disc : List ℕ) → GoodState k disc → is_live (process_at k w) ≡ true
-      → slot_of (ended k w fault) (process_at k w).id ≡ Nowhere
+      → slot_of (ended k w fault) (process_at k w).id ≡ None
   unfolding ended slot_of
   ended-gone disc good live =
       slot-nowhere (with_process k w (ended_process (process_at k w) fault)) (process_at k w).id

@@ -1,9 +1,9 @@
 -- What the acting process does spares every other live process, revives no ended ID and gives out no new one.
+use Rattle.std.specs.Prelude.{None}
 use Prim.Native.Nat.{ℕ, ◌<◌}
 use mathlib.Core.Path.{◌≡◌, refl, ap, ◌∙◌, subst⁻¹}
 use mathlib.Core.Bool.{true}
 use mathlib.Core.List.{List}
-use Rattle.buffer.specs.declared.Found.TheVariants.{Nowhere}
 use Rattle.buffer.proofs.Bools.{true-not-false}
 use Rattle.disc.specs.Directory.{files}
 use Rattle.variable.specs.Table.{owned}
@@ -36,7 +36,7 @@ module _ {w : ℕ} {k : Kernel} {disc : List ℕ} {j : Kernel} where
   own-next (sets q name x a goes size sized placed e) = ap (λ (x : Kernel). x.next) e
   own-next (ends fault live e) = ap (λ (x : Kernel). x.next) e
 
-  pub own-none : (i : ℕ) → slot_of k i ≡ Nowhere → Own w k disc j → slot_of j i ≡ Nowhere
+  pub own-none : (i : ℕ) → slot_of k i ≡ None → Own w k disc j → slot_of j i ≡ None
   unfolding ended slot_of
   own-none i none (stays e) = ap (λ (x : Kernel). slot_of x i) e ∙ none
   own-none i none (moves q goes e) = ap (λ (x : Kernel). slot_of x i) e ∙ put-none k w q (λ h. (goes.before, goes.id)) i none
@@ -46,7 +46,7 @@ module _ {w : ℕ} {k : Kernel} {disc : List ℕ} {j : Kernel} where
       ∙ put-none k w (ended_process (process_at k w) fault) (λ h. absurd (true-not-false h refl)) i none
 
   -- an ID that was given out and is not live stays so
-  pub own-gone : (i : ℕ) → i < k.next → slot_of k i ≡ Nowhere → Own w k disc j → (i < j.next) × (slot_of j i ≡ Nowhere)
+  pub own-gone : (i : ℕ) → i < k.next → slot_of k i ≡ None → Own w k disc j → (i < j.next) × (slot_of j i ≡ None)
   own-gone i given none own = (subst⁻¹ (λ (n : ℕ). i < n) (own-next own) given, own-none i none own)
 
   -- ---- another process's variables

@@ -1,4 +1,5 @@
 -- Which of disc, area and output a call never touches, and that it writes no byte of the output behind those its number counts.
+use Rattle.std.specs.Prelude.{None, Option, Some}
 use Prim.Native.Nat.{ℕ, ◌+◌, ◌-◌, ◌≤◌}
 use mathlib.Core.Path.{◌≡◌, refl, sym, ap, ◌∙◌}
 use mathlib.Core.Bool.{Bool, true, false, ◌&&◌, not}
@@ -11,8 +12,6 @@ use lib.ListN.{length, get_or, drop}
 use lib.Seq.{get_or-append-add, get_or-drop}
 use Rattle.buffer.specs.Buffer.{overwrite}
 use Rattle.buffer.specs.Lists.{flat}
-use Rattle.buffer.specs.declared.Found.{Found}
-use Rattle.buffer.specs.declared.Found.TheVariants.{At, Nowhere}
 use Rattle.disc.specs.Directory.{contents, entry_at, files as entries, is_disc_length, lookup, run_of}
 use Rattle.store.specs.Answer.{Reported, file_line, files_answer, reported, retrieve_answer, retrieve_at}
 use Rattle.store.specs.File.{unless}
@@ -75,9 +74,9 @@ module _ (b : Buffers) where
   unfolding retrieve_answer
   retrieve-behind name = by-checks b.disc Reports _ _ (λ e. still _) (λ e. still _) (λ l g. found (lookup b.disc name))
     where
-      found : (f : Found) → Reports (retrieve_at f b.disc b.out)
-      found Nowhere = still _
-      found (At i) =
+      found : (f : Option ℕ) → Reports (retrieve_at f b.disc b.out)
+      found None = still _
+      found (Some i) =
           let e = entry_at b.disc i in
           reports (leb e.len (length b.out)) e.len (contents b.disc (run_of e)) (contents-short b.disc (run_of e))
 
@@ -98,9 +97,9 @@ module _ (b : Buffers) where
   other-leaves (retrieve name) = ((refl, refl), retrieve-behind name)
   other-leaves (erase name) = both (other (erase name)) _ (λ n. (refl, refl)) (found (lookup b.disc name))
     where
-      found : (f : Found) → Leaves (other (erase name)) (erase_at f k b)
-      found Nowhere = ((refl, refl), still _)
-      found (At i) =
+      found : (f : Option ℕ) → Leaves (other (erase name)) (erase_at f k b)
+      found None = ((refl, refl), still _)
+      found (Some i) =
           tried (Leaves (other (erase name))) b (not (in_use k (entry_at b.disc i))) 11 _ ((refl, refl), still _) λ free.
           ((refl, refl), still _)
   other-leaves files = ((refl, refl), files-behind)

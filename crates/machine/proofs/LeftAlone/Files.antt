@@ -1,4 +1,5 @@
 -- A file that a call neither erases nor writes into keeps its name, its place and its bytes.
+use Rattle.std.specs.Prelude.{None, Option, Some}
 use Prim.Native.Nat.{ℕ, ◌+◌, ◌≤◌, ◌<◌}
 use mathlib.Core.Path.{◌≡◌, refl, sym, ap, ◌∙◌, subst, subst⁻¹}
 use mathlib.Core.Bool.{true, false, ◌&&◌, not}
@@ -8,8 +9,6 @@ use native.Mathlib.Omega.{arith}
 use lib.Dec.{leb, ltb}
 use lib.ListN.{length}
 use borrow.Author.Tests.{ltb-true}
-use Rattle.buffer.specs.declared.Found.{Found}
-use Rattle.buffer.specs.declared.Found.TheVariants.{At, Nowhere}
 use Rattle.buffer.proofs.Bools.{and_left, and_right, true-not-false}
 use Rattle.place.specs.Place.{run_from}
 use Rattle.place.specs.declared.Run.{Run}
@@ -88,7 +87,7 @@ module _ {disc name : List ℕ} {i : ℕ} (n : Named disc name i) where
         (stored-contents bytes good a i here.inside)
 
     -- the file of another name goes
-    erased-remains : (title : List ℕ) (m : ℕ) → lookup disc title ≡ At m → (title ≡ name → ⊥) → Remains disc (erased disc m) name i
+    erased-remains : (title : List ℕ) (m : ℕ) → lookup disc title ≡ Some m → (title ≡ name → ⊥) → Remains disc (erased disc m) name i
     erased-remains title m e differ =
         let l = lookup-at disc title m e in
         again-remains (erased disc m)
@@ -177,9 +176,9 @@ module _ (b : Buffers) (name : List ℕ) (i : ℕ) (n : Named b.disc name i) whe
   unfolding answer other_answer
   erase-remains title far = on-tests Kept b _ same same same λ p. found p (lookup b.disc title) refl
     where
-      found : Passes b.disc b.area → (f : Found) → lookup b.disc title ≡ f → Kept (erase_at f k b)
-      found p Nowhere e = same
-      found p (At m) e =
+      found : Passes b.disc b.area → (f : Option ℕ) → lookup b.disc title ≡ f → Kept (erase_at f k b)
+      found p None e = same
+      found p (Some m) e =
           tried Kept b (not (in_use k (entry_at b.disc m))) 11 _ same λ free.
           erased-remains n (passes-good b.disc b.area p).long p.disc-good title m e far
 

@@ -1,5 +1,6 @@
 -- Whatever comes between leaves the process as OPEN left it, but for its state and its share, and the bytes of its open file; or the
 -- process ends.
+use Rattle.std.specs.Prelude.{Option, Some}
 use Prim.Native.Nat.{ℕ, ◌≤◌, ◌<◌}
 use mathlib.Core.Path.{◌≡◌, refl, sym, ap, subst, subst⁻¹, ◌∙◌}
 use mathlib.Core.Bool.{Bool, true, false, ◌||◌, cond, not}
@@ -9,8 +10,6 @@ use lib.Dec.{eqb, leb}
 use lib.ListN.{length}
 use borrow.Author.Tests.{eq-eqb, eqb-false, eqb-true, lt-ltb, ne_eqb, not-true}
 use Rattle.buffer.specs.Lists.{all}
-use Rattle.buffer.specs.declared.Found.{Found}
-use Rattle.buffer.specs.declared.Found.TheVariants.{At}
 use Rattle.buffer.proofs.Bools.{and_both, and-false-right, and_left, and_right, true-not-false}
 use Rattle.buffer.proofs.Disjunctions.{or-false-left, or-false-right}
 use Rattle.disc.specs.Directory.{contents, files}
@@ -81,7 +80,7 @@ module _ (i slot : ℕ) (p : Process) (bytes : List ℕ) (named : p.id ≡ i) (s
       id-here : (process_at k slot).id ≡ i
       id-here = ap (λ (q : Process). q.id) here ∙ named
 
-      slot-here : slot_of k i ≡ At slot
+      slot-here : slot_of k i ≡ Some slot
       slot-here = slot_is good slot i live id-here
 
       same-file : (process_at k slot).file ≡ p.file
@@ -106,13 +105,13 @@ module _ (i slot : ℕ) (p : Process) (bytes : List ℕ) (named : p.id ≡ i) (s
       written : (j : Kernel) → GoodState j s.disc → Kept j s.disc → Kept (kernel_of (kernel_bytes j)) s.disc
       written j g w = subst⁻¹ (λ (x : Kernel). Kept x s.disc) (good-back j s.disc g) w
 
-      becoming : (c : Command) (j : Kernel) → command_at (At slot) c k ≡ becomes j → Kept j s.disc → Left (command_answer (becomes j) b)
+      becoming : (c : Command) (j : Kernel) → command_at (Some slot) c k ≡ becomes j → Kept j s.disc → Left (command_answer (becomes j) b)
       unfolding commanded
       becoming c j e w =
-          written j (command-good good c i j (subst⁻¹ (λ (f : Found). command_at f c k ≡ becomes j) slot-here e)) w
+          written j (command-good good c i j (subst⁻¹ (λ (f : Option ℕ). command_at f c k ≡ becomes j) slot-here e)) w
 
       changes : (c : Command) (new : ℕ) → is_live (with_state (process_at k slot) new) ≡ true
-          → command_at (At slot) c k ≡ changed k slot new
+          → command_at (Some slot) c k ≡ changed k slot new
           → Left (command_answer (changed k slot new) b)
       changes c new h same = go (eqb (process_at k slot).state new) same
         where
@@ -122,7 +121,7 @@ module _ (i slot : ℕ) (p : Process) (bytes : List ℕ) (named : p.id ≡ i) (s
           put : process_at (with_process k slot q) slot ≡ q
           put = put-at k slot q live
 
-          go : (f : Bool) → command_at (At slot) c k ≡ cond f (denied 15) (becomes (with_process k slot q))
+          go : (f : Bool) → command_at (Some slot) c k ≡ cond f (denied 15) (becomes (with_process k slot q))
               → Left (command_answer (cond f (denied 15) (becomes (with_process k slot q))) b)
           go true e = as_it_was
           go false e =
@@ -139,9 +138,9 @@ module _ (i slot : ℕ) (p : Process) (bytes : List ℕ) (named : p.id ≡ i) (s
       unfolding answer commanded
       own-command c =
           subst⁻¹ Left (on-good b _ passes)
-          (subst⁻¹ (λ (f : Found). Left (command_answer (command_at f c k) b)) slot-here (go c))
+          (subst⁻¹ (λ (f : Option ℕ). Left (command_answer (command_at f c k) b)) slot-here (go c))
         where
-          go : (c : Command) → Left (command_answer (command_at (At slot) c k) b)
+          go : (c : Command) → Left (command_answer (command_at (Some slot) c k) b)
           go suspend = changes suspend paused refl refl
           go resume = changes resume running refl refl
           go kill = becoming kill (ended k slot 0) refl killed
@@ -155,7 +154,7 @@ module _ (i slot : ℕ) (p : Process) (bytes : List ℕ) (named : p.id ≡ i) (s
           go (denied n) e = as_it_was
           go (becomes j) e =
               let y = share-is k i new j e in
-              let found : At y.slot ≡ At slot = sym y.found ∙ slot-here in
+              let found : Some y.slot ≡ Some slot = sym y.found ∙ slot-here in
               let here-too : y.slot ≡ slot = cc in
               let q : Process = with_share (process_at k slot) new in
               let put : process_at (with_process k slot q) slot ≡ q = put-at k slot q live in
@@ -172,7 +171,7 @@ module _ (i slot : ℕ) (p : Process) (bytes : List ℕ) (named : p.id ≡ i) (s
         abbrev e : Event
         e = event (turn at clock) s a text
 
-        place : place_in s i ≡ At slot
+        place : place_in s i ≡ Some slot
         place = place-is-slot s i ∙ slot-here
 
         done : is_running (process_at k at) ≡ true → is_done_by a.number ≡ true
@@ -182,7 +181,7 @@ module _ (i slot : ℕ) (p : Process) (bytes : List ℕ) (named : p.id ≡ i) (s
         -- what a turn that is done does not do
         supposed : interferes i (turn at clock) e ≡ false → is_running (process_at k at) ≡ true
             → eqb slot at || write_lands (file_run (process_at k slot).file) at e ≡ false
-        supposed h r = subst (λ (f : Found). turn_interferes f at e ≡ false) place (and-false-right (is_done_by a.number) _ (done r) h)
+        supposed h r = subst (λ (f : Option ℕ). turn_interferes f at e ≡ false) place (and-false-right (is_done_by a.number) _ (done r) h)
 
         own_turn : slot ≡ at → interferes i (turn at clock) e ≡ false → Left a
         own_turn same h = go (is_running (process_at k at)) refl

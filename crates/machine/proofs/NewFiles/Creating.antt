@@ -1,4 +1,5 @@
 -- An OPEN that leaves a file more: the file is open at its first byte and holds zeros, and the stack has room for the empty string.
+use Rattle.std.specs.Prelude.{None, Option, Some}
 use Prim.Native.Nat.{ℕ, ◌+◌, ◌≤◌}
 use mathlib.Core.Path.{◌≡◌, refl, sym, ap, subst⁻¹, ◌∙◌}
 use mathlib.Core.Bool.{Bool, true, false}
@@ -8,8 +9,6 @@ use lib.Dec.{ltb}
 use lib.ListN.{length, get_or, length-replicate}
 use lib.Seq.{take_at}
 use Rattle.buffer.specs.Buffer.{zeros}
-use Rattle.buffer.specs.declared.Found.{Found}
-use Rattle.buffer.specs.declared.Found.TheVariants.{At, Nowhere}
 use Rattle.float.specs.declared.whole.Size.{Size}
 use Rattle.float.specs.declared.whole.Size.TheVariants.{Is, Refused}
 use Rattle.number.specs.declared.Number.{Number}
@@ -95,9 +94,9 @@ module _ {k : Kernel} {disc : List ℕ} (good : GoodState k disc) (slot clock : 
       sized Refused e = same_count e
       sized (Is n) e = judged n (admission disc name n) refl e
 
-      found : (f : Found) → Leaves (answering k slot disc (opened_at k slot disc f name size l))
-      found (At i) e = same_count e
-      found Nowhere e = sized (new_file_size disc size) e
+      found : (f : Option ℕ) → Leaves (answering k slot disc (opened_at k slot disc f name size l))
+      found (Some i) e = same_count e
+      found None e = sized (new_file_size disc size) e
 
   -- ---- the instruction
   abbrev prog : List ℕ

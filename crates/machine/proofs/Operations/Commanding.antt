@@ -1,4 +1,5 @@
 -- Suspend, resume, kill and share as what the process of that ID does.
+use Rattle.std.specs.Prelude.{None, Option, Some}
 use Prim.Native.Nat.{ℕ, ◌≤◌, ◌<◌}
 use mathlib.Core.Path.{◌≡◌, refl, sym, subst, subst⁻¹}
 use mathlib.Core.Bool.{Bool, true, false, cond, ◌&&◌}
@@ -6,8 +7,6 @@ use mathlib.Core.List.{List}
 use native.Mathlib.Omega.{arith}
 use lib.Dec.{eqb, leb}
 use borrow.Author.Tests.{leb-true}
-use Rattle.buffer.specs.declared.Found.{Found}
-use Rattle.buffer.specs.declared.Found.TheVariants.{At, Nowhere}
 use Rattle.store.specs.File.{unless}
 use Rattle.machine.specs.Operations.{Command, Commanded, becomes, refused, suspend, resume, kill, changed, command_at, commanded}
 use Rattle.machine.specs.Operations.{share_at, shared}
@@ -23,10 +22,10 @@ use Rattle.machine.proofs.Kept.OwnKept.{own-good}
 use Rattle.buffer.proofs.Bools.{and_left, and_right}
 
 -- Document 01: "14 no live process of that ID"
-command-nowhere : (k j : Kernel) (c : Command) (id : ℕ) → slot_of k id ≡ Nowhere → commanded c id k ≡ becomes j → ⊥
+command-nowhere : (k j : Kernel) (c : Command) (id : ℕ) → slot_of k id ≡ None → commanded c id k ≡ becomes j → ⊥
 unfolding commanded
 command-nowhere k j c id e h =
-    let no : ◌≡◌ {A = Commanded} (refused 14) (becomes j) = subst (λ (f : Found). command_at f c k ≡ becomes j) e h in
+    let no : ◌≡◌ {A = Commanded} (refused 14) (becomes j) = subst (λ (f : Option ℕ). command_at f c k ≡ becomes j) e h in
     absurd (let z : ◌≡◌ {A = ℕ} 0 1 = cc in omega arith)
 
 module _ {k : Kernel} {disc : List ℕ} (good : GoodState k disc) (slot : ℕ) (live : is_live (process_at k slot) ≡ true) where
@@ -64,25 +63,25 @@ module _ {k : Kernel} {disc : List ℕ} (good : GoodState k disc) (slot : ℕ) (
       go false e = let q : with_process k slot (with_state (process_at k slot) state) ≡ j = cc in
           moves (with_state p state) (with-both state p.share h (live-record good slot live).registers.share) (sym q)
 
-  command-at : (c : Command) (j : Kernel) → command_at (At slot) c k ≡ becomes j → Own slot k disc j
+  command-at : (c : Command) (j : Kernel) → command_at (Some slot) c k ≡ becomes j → Own slot k disc j
   command-at suspend j e = becomes-state paused refl j e
   command-at resume j e = becomes-state running refl j e
   command-at kill j e = let q : ended k slot 0 ≡ j = cc in ends 0 live (sym q)
 
 pub command-own : {k : Kernel} {disc : List ℕ} → GoodState k disc → (c : Command) (id : ℕ) (j : Kernel) → commanded c id k ≡ becomes j
-    → (slot : ℕ) × (slot_of k id ≡ At slot) × Own slot k disc j
+    → (slot : ℕ) × (slot_of k id ≡ Some slot) × Own slot k disc j
 unfolding commanded
 command-own {k} {disc} good c id j h = go (slot_of k id) refl
   where
-    go : (f : Found) → slot_of k id ≡ f → (slot : ℕ) × (slot_of k id ≡ At slot) × Own slot k disc j
-    go Nowhere e = absurd (command-nowhere k j c id e h)
-    go (At slot) e = (slot, e, command-at good slot (slot_at k id slot e).1 c j (subst (λ (f : Found). command_at f c k ≡ becomes j) e h))
+    go : (f : Option ℕ) → slot_of k id ≡ f → (slot : ℕ) × (slot_of k id ≡ Some slot) × Own slot k disc j
+    go None e = absurd (command-nowhere k j c id e h)
+    go (Some slot) e = (slot, e, command-at good slot (slot_at k id slot e).1 c j (subst (λ (f : Option ℕ). command_at f c k ≡ becomes j) e h))
 
 -- ---- share
 -- the slot that the ID has, and the state with its new share
 pub record Shares (k : Kernel) (id turns : ℕ) (j : Kernel) : Type 0 where
   pub slot : ℕ
-  pub found : slot_of k id ≡ At slot
+  pub found : slot_of k id ≡ Some slot
   pub some : 1 ≤ turns
   pub few : turns ≤ max_share
   pub after : j ≡ with_process k slot (with_share (process_at k slot) turns)
@@ -94,7 +93,7 @@ share-is k id turns j h = go (slot_of k id) refl h
     not-refused : (n : ℕ) → ◌≡◌ {A = Commanded} (refused n) (becomes j) → ⊥
     not-refused n e = absurd (let z : ◌≡◌ {A = ℕ} 0 1 = cc in omega arith)
 
-    at : (slot : ℕ) → slot_of k id ≡ At slot → (f : Bool) → leb 1 turns && leb turns max_share ≡ f
+    at : (slot : ℕ) → slot_of k id ≡ Some slot → (f : Bool) → leb 1 turns && leb turns max_share ≡ f
         → unless f (refused 22) (becomes (with_process k slot (with_share (process_at k slot) turns))) ≡ becomes j
         → Shares k id turns j
     at slot e true f q =
@@ -108,9 +107,9 @@ share-is k id turns j h = go (slot_of k id) refl h
         }
     at slot e false f q = absurd (not-refused 22 q)
 
-    go : (f : Found) → slot_of k id ≡ f → share_at f turns k ≡ becomes j → Shares k id turns j
-    go Nowhere e q = absurd (not-refused 14 q)
-    go (At slot) e q = at slot e (leb 1 turns && leb turns max_share) refl q
+    go : (f : Option ℕ) → slot_of k id ≡ f → share_at f turns k ≡ becomes j → Shares k id turns j
+    go None e q = absurd (not-refused 14 q)
+    go (Some slot) e q = at slot e (leb 1 turns && leb turns max_share) refl q
 
 pub command-good : {k : Kernel} {disc : List ℕ} → GoodState k disc → (c : Command) (id : ℕ) (j : Kernel) → commanded c id k ≡ becomes j
     → GoodState j disc

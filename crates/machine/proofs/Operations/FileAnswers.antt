@@ -1,4 +1,5 @@
 -- OPEN, WRITE and the READs: every answer of the disc is a change.
+use Rattle.std.specs.Prelude.{None, Option, Some}
 use Prim.Native.Nat.{ℕ, ◌+◌, ◌≤◌, ◌<◌}
 use mathlib.Core.Path.{◌≡◌, refl, sym, ap, subst⁻¹, ◌∙◌}
 use mathlib.Core.Bool.{Bool, true, false, cond}
@@ -9,8 +10,6 @@ use lib.Dec.{eqb, leb}
 use lib.ListN.{length, drop, get_or, length-replicate}
 use borrow.Author.Tests.{eqb-false, leb-true}
 use Rattle.buffer.specs.Buffer.{zeros}
-use Rattle.buffer.specs.declared.Found.{Found}
-use Rattle.buffer.specs.declared.Found.TheVariants.{At, Nowhere}
 use Rattle.buffer.proofs.Lists.{tab-at, tab-length}
 use Rattle.float.specs.declared.whole.Size.{Size}
 use Rattle.float.specs.declared.whole.Size.TheVariants.{Is, Refused}
@@ -132,12 +131,12 @@ module _ {k : Kernel} {disc : List ℕ} (good : GoodState k disc) (slot : ℕ) (
       sized (Is n) = judged n (admission disc title n) refl
       sized Refused = faulted 13
 
-      found : (f : Found) → lookup disc title ≡ f → Changes (opened_at k slot disc f title size l)
-      found (At i) e =
+      found : (f : Option ℕ) → lookup disc title ≡ f → Changes (opened_at k slot disc f title size l)
+      found (Some i) e =
           let h = (lookup-at disc title i e).inside in
           continued l (opened (run_from (entry_at disc i).start (entry_at disc i).len)) fits
           (entry-opened disc i (entry_at disc i).len (entry_at disc i).start h refl refl (good-entry-at disc good.sound i h).some)
-      found Nowhere e = sized (new_file_size disc size)
+      found None e = sized (new_file_size disc size)
 
   -- ---- WRITE and the READs: "11 no open file; 12 past the file's end"
   in-file : (n : ℕ) (rest : Answered) → (Opened (files disc) p.file → p.file.offset + n ≤ p.file.len → Changes rest)

@@ -1,4 +1,5 @@
 -- FORK: a start in the lowest ended slot and its ID on the stack, or INT 0 where run would refuse.
+use Rattle.std.specs.Prelude.{None, Option, Some}
 use Prim.Native.Nat.{ℕ, ◌+◌, ◌/◌, ◌%◌}
 use mathlib.Core.Path.{◌≡◌, refl, sym, ap, subst, ◌∙◌}
 use mathlib.Core.Bool.{Bool, true, false}
@@ -6,8 +7,6 @@ use mathlib.Core.List.{List, [], ◌∷◌, ◌++◌, append_assoc}
 use mathlib.Core.Logic.{◌⊎◌, inl, inr}
 use lib.Dec.{eqb}
 use borrow.Author.Tests.{eqb-true}
-use Rattle.buffer.specs.declared.Found.{Found}
-use Rattle.buffer.specs.declared.Found.TheVariants.{At, Nowhere}
 use Rattle.buffer.proofs.Bools.{true-not-false}
 use Rattle.disc.specs.Directory.{entry_at, lookup}
 use Rattle.disc.specs.declared.Entry.{Entry}
@@ -66,7 +65,7 @@ module _ (b : Buffers) (slot clock : ℕ) where
     unfolding answered
     refused n e = proceeds 0 k (live b slot may) (ap (λ (s : Starting). forked k slot b.disc s l) e)
 
-    begun : (child i : ℕ) → ended_slot k ≡ At child → lookup b.disc text ≡ At i → eqb k.next id_limit ≡ false
+    begun : (child i : ℕ) → ended_slot k ≡ Some child → lookup b.disc text ≡ Some i → eqb k.next id_limit ≡ false
         → ((child : ℕ) × Starts b.disc b.area text child (state_after b slot clock))
         × Proceeds b slot clock (with_id rest (next_id b.area))
     unfolding answered starting
@@ -110,21 +109,21 @@ module _ (b : Buffers) (slot clock : ℕ) where
       does : Does b slot clock (asks (forks text (at b slot pc rest)))
       does = fork-found b slot clock rest text a name
 
-      go : (x : Found) → ended_slot k ≡ x → (y : Found) → lookup b.disc text ≡ y → (z : Bool) → eqb k.next id_limit ≡ z
+      go : (x : Option ℕ) → ended_slot k ≡ x → (y : Option ℕ) → lookup b.disc text ≡ y → (z : Bool) → eqb k.next id_limit ≡ z
           → (CannotStart b.disc b.area text × Proceeds b slot clock (with_id rest 0))
           ⊎ (((child : ℕ) × Starts b.disc b.area text child (state_after b slot clock))
           × Proceeds b slot clock (with_id rest (next_id b.area)))
-      go Nowhere ended y file z spent =
+      go None ended y file z spent =
           inl (inl (no-ended-slot a.may.passes ended), refused rest text a.may does 12 (rw ended))
-      go (At child) ended Nowhere file z spent =
+      go (Some child) ended None file z spent =
           let good = passes-good b.disc b.area a.may.passes in
           inl (
             inr (inl (lookup-no-file b.disc good.long good.sound text file)),
             refused rest text a.may does 10 (rw (ended, file)),
           )
-      go (At child) ended (At i) file true spent =
+      go (Some child) ended (Some i) file true spent =
           inl (
             inr (inr (sym (next-is b.area) ∙ eqb-true k.next id_limit spent)),
             refused rest text a.may does 13 (rw (ended, file, spent)),
           )
-      go (At child) ended (At i) file false spent = inr (begun rest text a.may does child i ended file spent)
+      go (Some child) ended (Some i) file false spent = inr (begun rest text a.may does child i ended file spent)

@@ -1,11 +1,10 @@
 -- OPEN of a file, of a new one and of one that is refused; CLOSE.
+use Rattle.std.specs.Prelude.{None, Option, Some}
 use Prim.Native.Nat.{ℕ, ◌+◌}
 use mathlib.Core.Path.{◌≡◌, refl, ap, subst⁻¹, ◌∙◌}
 use mathlib.Core.List.{List}
 use mathlib.Core.Logic.{◌⊎◌, inl, inr}
 use Rattle.buffer.specs.Buffer.{zeros}
-use Rattle.buffer.specs.declared.Found.{Found}
-use Rattle.buffer.specs.declared.Found.TheVariants.{At, Nowhere}
 use Rattle.float.specs.declared.whole.Size.{Size}
 use Rattle.float.specs.declared.whole.Size.TheVariants.{Is, Refused}
 use Rattle.number.specs.Value.{number_of}
@@ -81,7 +80,7 @@ module _ (b : Buffers) (slot clock : ℕ) where
       good : GoodState k b.disc
       good = passes-good b.disc b.area a.may.passes
 
-      admit : lookup b.disc text ≡ Nowhere → (n : ℕ) → new_file_size b.disc size ≡ Is n → (v : Admission)
+      admit : lookup b.disc text ≡ None → (n : ℕ) → new_file_size b.disc size ≡ Is n → (v : Admission)
           → admission b.disc text n ≡ v
           → answered k slot b.disc r ≡ created_at k slot b.disc v text n l → NewFile rest text size
       admit new n fit (Denied w) e h =
@@ -94,20 +93,20 @@ module _ (b : Buffers) (slot clock : ℕ) where
           let placed = placed-shortest b.disc n s d.some d.found in
           inr (n, fit, (good-is-name text d.good, d.few, (s, placed, on.0, enters)))
 
-      sized : lookup b.disc text ≡ Nowhere → (s : Size) → new_file_size b.disc size ≡ s
+      sized : lookup b.disc text ≡ None → (s : Size) → new_file_size b.disc size ≡ s
           → answered k slot b.disc r ≡ created k slot b.disc s text l → NewFile rest text size
       sized new Refused e h = inl (by_size e, broken-by b slot clock a.may r does 13 h)
       sized new (Is n) e h = admit new n e (admission b.disc text n) refl h
 
-      found : (f : Found) → lookup b.disc text ≡ f → Opens b slot clock rest text ⊎ (NoFile b.disc text × NewFile rest text size)
-      found (At i) e =
+      found : (f : Option ℕ) → lookup b.disc text ≡ f → Opens b slot clock rest text ⊎ (NoFile b.disc text × NewFile rest text size)
+      found (Some i) e =
           let run : run_of (entry_at b.disc i) ≡ run_from (start_of b.disc i) (size_of b.disc i) =
           λ z. run_from (entry-start b.disc i z) (entry-size b.disc i z) in
           let on = continued b slot clock a.may r does pc rest (opened (run_from (start_of b.disc i) (size_of b.disc i))) b.disc
-          (ap (λ (f : Found). opened_at k slot b.disc f text size l) e
+          (ap (λ (f : Option ℕ). opened_at k slot b.disc f text size l) e
           ∙ ap (λ (w : Run). continues k slot b.disc l (opened w) b.disc) run) in
           inl (i, lookup-named b.disc text i e, on.0, on.1)
-      found Nowhere e = inr (
+      found None e = inr (
         lookup-no-file b.disc good.long good.sound text e,
-        sized e (new_file_size b.disc size) refl (ap (λ (f : Found). opened_at k slot b.disc f text size l) e),
+        sized e (new_file_size b.disc size) refl (ap (λ (f : Option ℕ). opened_at k slot b.disc f text size l) e),
       )

@@ -1,4 +1,5 @@
 -- SET: it lacks space, or the variable is at the start of the shortest free run that fits.
+use Rattle.std.specs.Prelude.{None, Option, Some}
 use Prim.Native.Nat.{ℕ, ◌+◌, ◌≤◌, ◌<◌}
 use mathlib.Core.Path.{◌≡◌, refl, sym, ap, subst, subst⁻¹, ◌∙◌}
 use mathlib.Core.Bool.{Bool, true, false}
@@ -10,8 +11,6 @@ use lib.ListN.{length, length-append}
 use borrow.Author.Tests.{lt-leb}
 use Rattle.buffer.specs.Buffer.{overwrite}
 use Rattle.buffer.specs.Lists.{tab}
-use Rattle.buffer.specs.declared.Found.{Found}
-use Rattle.buffer.specs.declared.Found.TheVariants.{At, Nowhere}
 use Rattle.buffer.proofs.Kept.{any_at}
 use Rattle.buffer.proofs.Lists.{tab-at, tab-length}
 use Rattle.place.specs.Place.{fits, place}
@@ -57,13 +56,13 @@ use Rattle.machine.proofs.Traces.Room.{freed-count-is, room-found}
 
 -- ---- the place of a SET that is done
 placing-place : (runs : List Run) (low high used limit n a : ℕ) → placing runs low high used limit n ≡ Address a
-    → place runs low high n ≡ At a
+    → place runs low high n ≡ Some a
 unfolding placing
 placing-place runs low high used limit n a = go (ltb used limit) (place runs low high n) refl
   where
-    go : (entry : Bool) (f : Found) → place runs low high n ≡ f → if_entry entry (address_or f) ≡ Address a → place runs low high n ≡ At a
-    go true (At s) e h = let same : s ≡ a = cc in e ∙ ap (λ (i : ℕ). At i) same
-    go true Nowhere e h = absurd (let z : ◌≡◌ {A = ℕ} 0 1 = cc in omega arith)
+    go : (entry : Bool) (f : Option ℕ) → place runs low high n ≡ f → if_entry entry (address_or f) ≡ Address a → place runs low high n ≡ Some a
+    go true (Some s) e h = let same : s ≡ a = cc in e ∙ ap (λ (i : ℕ). Some i) same
+    go true None e h = absurd (let z : ◌≡◌ {A = ℕ} 0 1 = cc in omega arith)
     go false f e h = absurd (let z : ◌≡◌ {A = ℕ} 0 1 = cc in omega arith)
 
 module _ (v : Variables) (name id kind : ℕ) (bytes : List ℕ) (a : ℕ)
@@ -82,7 +81,7 @@ module _ (v : Variables) (name id kind : ℕ) (bytes : List ℕ) (a : ℕ)
   unfolding w x
   placed = sym (assigned-placing v name id x) ∙ done
 
-  found : place (taken_runs w) low_end high_end (length bytes) ≡ At a
+  found : place (taken_runs w) low_end high_end (length bytes) ≡ Some a
   unfolding place_for
   found = placing-place (taken_runs w) low_end high_end w.count entry_limit (length bytes) a placed
 

@@ -1,6 +1,7 @@
 -- What one call on good buffers does to kernel state and disc, seen from a process: nothing, something outside every process, something one
 -- process does alone, or the turn of one process. What follows for every other process is stated here without any supposition; only its
 -- program's bytes need that no write goes into them.
+use Rattle.std.specs.Prelude.{None, Option, Some}
 use Prim.Native.Nat.{ℕ}
 use mathlib.Core.Path.{◌≡◌, refl, sym, ap, subst⁻¹, ◌∙◌}
 use mathlib.Core.Bool.{Bool, true, false, ◌&&◌, not}
@@ -9,8 +10,6 @@ use mathlib.Core.Logic.{◌⊎◌, inl}
 use lib.Dec.{leb, ltb}
 use lib.ListN.{length}
 use borrow.Author.Tests.{not-true}
-use Rattle.buffer.specs.declared.Found.{Found}
-use Rattle.buffer.specs.declared.Found.TheVariants.{At, Nowhere}
 use Rattle.buffer.proofs.Bools.{and_right, true-not-false}
 use Rattle.place.specs.declared.Run.{Run}
 use Rattle.disc.specs.Directory.{contents, entry_at, lookup}
@@ -74,7 +73,7 @@ is_round (other o) = false
 pub data Effects (s : Storage) (k j : Kernel) (after : List ℕ) : Call → Type 0 where
   none : {c : Call} → j ≡ k → after ≡ s.disc → Effects s k j after c
   outside : {c : Call} → Outside (start_name c s) k s.disc j after → Effects s k j after c
-  alone : {c : Command} {id : ℕ} (w : ℕ) → is_live (process_at k w) ≡ true → slot_of k id ≡ At w → Own w k s.disc j → after ≡ s.disc
+  alone : {c : Command} {id : ℕ} (w : ℕ) → is_live (process_at k w) ≡ true → slot_of k id ≡ Some w → Own w k s.disc j → after ≡ s.disc
       → Effects s k j after (command c id)
   shares : {id turns : ℕ} → Shares k id turns j → after ≡ s.disc → Effects s k j after (share id turns)
   takes : {slot clock : ℕ} → is_running (process_at k slot) ≡ true → Change (start_name (turn slot clock) s) slot k s.disc j after
@@ -108,9 +107,9 @@ module _ (s : Storage) (out : List ℕ) (passes : Passes s.disc s.area) where
   unfolding answer other_answer
   erase-effects name = subst⁻¹ (Leaves (other (erase name))) (on-good b _ passes) (found (lookup s.disc name) refl)
     where
-      found : (f : Found) → lookup s.disc name ≡ f → Leaves (other (erase name)) (erase_at f k b)
-      found Nowhere e = none refl refl
-      found (At i) e =
+      found : (f : Option ℕ) → lookup s.disc name ≡ f → Leaves (other (erase name)) (erase_at f k b)
+      found None e = none refl refl
+      found (Some i) e =
           tried (Leaves (other (erase name))) b (not (in_use k (entry_at s.disc i))) 11 _ (none refl refl) λ free.
           outside (erases i (lookup-at s.disc name i e).inside (not-true _ free) refl refl)
 
@@ -180,7 +179,7 @@ module _ (s : Storage) (out : List ℕ) (passes : Passes s.disc s.area) where
 -- the call is none of the process in slot own
 pub record Elsewhere (c : Call) (own : ℕ) (k : Kernel) : Type 0 where
   pub turns : OfTurn c (λ slot clock. own ≡ slot → ⊥)
-  pub commands : OfCommand c (λ id. slot_of k id ≡ At own → ⊥)
+  pub commands : OfCommand c (λ id. slot_of k id ≡ Some own → ⊥)
 
 -- and writes nothing into a file
 abbrev pub Unwritten : Call → Run → Storage → Kernel → Kernel → Type 0
@@ -194,9 +193,9 @@ module _ {s : Storage} {k j : Kernel} {after : List ℕ} (g : GoodState k s.disc
   effects-gone i c gone (shares x f) = gone-after i gone (shares-own g x)
   effects-gone i c gone (takes r x) = change-gone _ _ k s.disc j after g i gone x
 
-  pub effects-begun : (i : ℕ) (c : Call) → slot_of k i ≡ Nowhere → Effects s k j after c → (slot_of j i ≡ Nowhere)
+  pub effects-begun : (i : ℕ) (c : Call) → slot_of k i ≡ None → Effects s k j after c → (slot_of j i ≡ None)
       ⊎ Begun (start_name c s) i s.disc j after
-  effects-begun i c h (none e f) = inl (subst⁻¹ (λ (x : Kernel). slot_of x i ≡ Nowhere) e h)
+  effects-begun i c h (none e f) = inl (subst⁻¹ (λ (x : Kernel). slot_of x i ≡ None) e h)
   effects-begun i c h (outside o) = outside-begun i g h o
   effects-begun i c h (alone w l e x f) = inl (own-none i h x)
   effects-begun i c h (shares x f) = inl (own-none i h (shares-own g x))
@@ -213,10 +212,10 @@ module _ {s : Storage} {k j : Kernel} {after : List ℕ} (g : GoodState k s.disc
   effects-untouched own live c away (outside o) = let u = outside-spares g own live o in
       record { process = u.process; variables = u.variables }
   effects-untouched own live (command c id) away (alone w l e x f) =
-      let other : own ≡ w → ⊥ = λ q. away.commands (e ∙ ap At (sym q)) in
+      let other : own ≡ w → ⊥ = λ q. away.commands (e ∙ ap Some (sym q)) in
       record { process = own-process own other x; variables = own-variables own g live other x }
   effects-untouched own live (share id turns) away (shares x f) =
-      let other : own ≡ x.slot → ⊥ = λ q. away.commands (x.found ∙ ap At (sym q)) in
+      let other : own ≡ x.slot → ⊥ = λ q. away.commands (x.found ∙ ap Some (sym q)) in
       record { process = own-process own other (shares-own g x); variables = own-variables own g live other (shares-own g x) }
   effects-untouched own live (turn slot clock) away (takes r x) = change-untouched _ slot k s.disc j after g own live away.turns x
 

@@ -3,7 +3,7 @@ use Prim.Native.Nat.{ℕ}
 use mathlib.Core.Path.{◌≡◌, refl, sym, ap, subst, subst⁻¹, ◌∙◌}
 use mathlib.Core.Bool.{false, not}
 use mathlib.Core.List.{List, [], ◌∷◌, ◌++◌}
-use mathlib.Core.Option.{Option, none, some}
+use Rattle.std.specs.Prelude.{None, Option, Some}
 use borrow.Author.Tests.{not-true}
 use Rattle.buffer.specs.Lists.{all, cons_if, keep}
 use Rattle.buffer.proofs.Bools.{and_left, and_right, true-not-false}
@@ -52,8 +52,8 @@ follow i prog k disc q (e ∷ es) c t h =
     pick : (x : Option Input) → Keeps i prog q e x
         → ((r : Single) → Tracks i prog (kernel_of e.after.area) e.after.disc r → observations rest ≡ single_run prog r (inputs rest))
         → observations (watched_if x o rest) ≡ single_run prog q (inputs (watched_if x o rest))
-    pick none keeps later = later q keeps
-    pick (some x) keeps later = λ z. keeps.0 z ∷ later (next (single prog q x) q) keeps.1 z
+    pick None keeps later = later q keeps
+    pick (Some x) keeps later = λ z. keeps.0 z ∷ later (next (single prog q x) q) keeps.1 z
 
 -- ---- what is refused changes nothing, so the single process may be fed what is not refused
 only-done : (prog : List ℕ) (q : Single) (l : List Watched) → observations l ≡ single_run prog q (inputs l)

@@ -1,4 +1,5 @@
 -- A turn or a command of a process that follows the single process: what is observed is what the single process answers, and it follows on.
+use Rattle.std.specs.Prelude.{Option, Some}
 use Prim.Native.Nat.{ℕ}
 use mathlib.Core.Path.{◌≡◌, refl, sym, subst, subst⁻¹, ◌∙◌}
 use mathlib.Core.Bool.{Bool, true, false, cond, ◌&&◌}
@@ -9,8 +10,6 @@ use lib.IntN.{pos}
 use lib.ListN.{get_or, length}
 use lib.Seq.{take_at}
 use borrow.Author.Tests.{eq-eqb, eqb-true, lt-ltb}
-use Rattle.buffer.specs.declared.Found.{Found}
-use Rattle.buffer.specs.declared.Found.TheVariants.{At}
 use Rattle.variable.specs.Table.{owned}
 use Rattle.variable.specs.Assign.{value_of}
 use Rattle.machine.specs.Answer.{Answer, Buffers, Call, command, turn, answer, command_answer, refused, turned_answer}
@@ -63,10 +62,10 @@ module _ (i : ℕ) (prog : List ℕ) (s : Storage) (out : List ℕ) (q : Single)
     abbrev p : Process
     p = process_at k x.slot
 
-    slot-here : slot_of k i ≡ At x.slot
+    slot-here : slot_of k i ≡ Some x.slot
     slot-here = slot_is good x.slot i x.live x.named
 
-    here : place_in s i ≡ At x.slot
+    here : place_in s i ≡ Some x.slot
     here = place-is-slot s i ∙ slot-here
 
     -- a state that is written is read back and shows the same
@@ -167,23 +166,23 @@ module _ (i : ℕ) (prog : List ℕ) (s : Storage) (out : List ℕ) (q : Single)
     abbrev Commands : Command → Commanded → Response → Type 0
     Commands c d r = Answers (command c i) (command_answer d b) [] r
 
-    becomes-answers : (c : Command) (j : Kernel) (r : Response) → command_at (At x.slot) c k ≡ becomes j
+    becomes-answers : (c : Command) (j : Kernel) (r : Response) → command_at (Some x.slot) c k ≡ becomes j
         → Agrees i prog x.slot q (record { kernel = j; disc = s.disc; out = [] }) r
         → Commands c (becomes j) r
     unfolding commanded
     becomes-answers c j r e agrees =
-        let o = command-own good c i j (subst⁻¹ (λ (f : Found). command_at f c k ≡ becomes j) slot-here e) in
+        let o = command-own good c i j (subst⁻¹ (λ (f : Option ℕ). command_at f c k ≡ becomes j) slot-here e) in
         answers (command c i) (record { kernel = j; disc = s.disc; out = [] }) r _ [] refl
         (own-good o.0 k s.disc j good o.2) agrees
 
     -- "suspend while paused and resume while running (15)"
-    changes : (c : Command) (state : ℕ) → is_live (with_state p state) ≡ true → command_at (At x.slot) c k ≡ changed k x.slot state
+    changes : (c : Command) (state : ℕ) → is_live (with_state p state) ≡ true → command_at (Some x.slot) c k ≡ changed k x.slot state
         → Commands c (changed k x.slot state) (cond (eqb q.state state) (refused_by 15) (in_state q state))
     changes c state live same =
         subst (λ (n : ℕ). Commands c (changed k x.slot state) (cond (eqb n state) (refused_by 15) (in_state q state))) x.holds.state
         (go (eqb p.state state) same)
       where
-        go : (f : Bool) → command_at (At x.slot) c k ≡ cond f (denied 15) (becomes (with_process k x.slot (with_state p state)))
+        go : (f : Bool) → command_at (Some x.slot) c k ≡ cond f (denied 15) (becomes (with_process k x.slot (with_state p state)))
             → Commands c (cond f (denied 15) (becomes (with_process k x.slot (with_state p state))))
             (cond f (refused_by 15) (in_state q state))
         go true h = record { observed = refl; tracked = on x }
@@ -194,10 +193,10 @@ module _ (i : ℕ) (prog : List ℕ) (s : Storage) (out : List ℕ) (q : Single)
     unfolding answer commanded single
     command-answers c =
         subst⁻¹ (λ (a : Answer). Answers (command c i) a [] (single prog q (given c))) (on-good b _ passes)
-        (subst⁻¹ (λ (f : Found). Commands c (command_at f c k) (single prog q (given c))) slot-here
-        (subst⁻¹ (λ (f : Bool). Commands c (command_at (At x.slot) c k) (single_command f q c)) live_state (go c)))
+        (subst⁻¹ (λ (f : Option ℕ). Commands c (command_at f c k) (single prog q (given c))) slot-here
+        (subst⁻¹ (λ (f : Bool). Commands c (command_at (Some x.slot) c k) (single_command f q c)) live_state (go c)))
       where
-        go : (c : Command) → Commands c (command_at (At x.slot) c k) (single_command false q c)
+        go : (c : Command) → Commands c (command_at (Some x.slot) c k) (single_command false q c)
         go suspend = changes suspend paused refl refl
         go resume = changes resume running refl refl
         go kill = becomes-answers kill (ended k x.slot 0) (did [] (over 0)) refl (own-ends i prog k s.disc q good x 0)
@@ -207,6 +206,6 @@ module _ (i : ℕ) (prog : List ℕ) (s : Storage) (out : List ℕ) (q : Single)
   unfolding answer commanded single
   ended-answers c gone over =
       subst⁻¹ (λ (a : Answer). Answers (command c i) a [] (single prog q (given c))) (on-good b _ passes)
-      (subst⁻¹ (λ (f : Found). Answers (command c i) (command_answer (command_at f c k) b) [] (single prog q (given c))) gone.none
+      (subst⁻¹ (λ (f : Option ℕ). Answers (command c i) (command_answer (command_at f c k) b) [] (single prog q (given c))) gone.none
       (subst⁻¹ (λ (n : ℕ). Answers (command c i) (refused 14 b) [] (single_command (eqb n 0) q c)) over
       (record { observed = refl; tracked = off gone over })))

@@ -1,4 +1,5 @@
 -- The events of a run lead where its calls lead.
+use Rattle.std.specs.Prelude.{None, Option, Some}
 use Prim.Native.Nat.{ℕ, suc}
 use mathlib.Core.Path.{◌≡◌, refl, sym, ap, subst⁻¹, ◌∙◌}
 use mathlib.Core.Bool.{Bool, true, false, ◌&&◌, not}
@@ -9,8 +10,6 @@ use lib.ListN.{length}
 use lib.Seq.{take_at}
 use borrow.Author.Tests.{eqb-true}
 use Rattle.buffer.specs.Lists.{all}
-use Rattle.buffer.specs.declared.Found.{Found}
-use Rattle.buffer.specs.declared.Found.TheVariants.{At, Nowhere}
 use Rattle.buffer.proofs.Bools.{and_right}
 use Rattle.disc.specs.Directory.{entry_at, lookup}
 use Rattle.machine.specs.Answer.{Answer, Buffers, Other, store, retrieve, erase, files, free_space, list, Call, turn, round}
@@ -79,9 +78,9 @@ module _ (s : Storage) (out : List ℕ) where
     after-good : (rest : Answer) → Written rest → Written (on_good b rest)
     after-good rest w = subst⁻¹ Written (on-good b rest passes) w
 
-    erased-area : (f : Found) → Written (erase_at f k b)
-    erased-area Nowhere = as_it_was refl
-    erased-area (At i) = tried Written b (not (in_use k (entry_at s.disc i))) 11 _ (as_it_was refl) λ free. as_it_was refl
+    erased-area : (f : Option ℕ) → Written (erase_at f k b)
+    erased-area None = as_it_was refl
+    erased-area (Some i) = tried Written b (not (in_use k (entry_at s.disc i))) 11 _ (as_it_was refl) λ free. as_it_was refl
 
     run-area : (name : List ℕ) (x : Starting) → starting k s.disc name ≡ x → Written (run_at x k b)
     run-area name (refuses n) e = as_it_was refl

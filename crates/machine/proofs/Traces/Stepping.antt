@@ -1,15 +1,13 @@
 -- One event of a run on good buffers, seen from a process that follows the single process: its own turns and commands are answered as the
 -- single process answers them; every other event leaves it as it is.
+use Rattle.std.specs.Prelude.{None, Option, Some}
 use Prim.Native.Nat.{ℕ}
 use mathlib.Core.Path.{◌≡◌, refl, sym, ap, subst, subst⁻¹, ◌∙◌}
 use mathlib.Core.Bool.{Bool, true, false, ◌&&◌, ◌||◌, not}
 use mathlib.Core.List.{List, []}
-use mathlib.Core.Option.{Option, none, some}
 use lib.Dec.{eqb, leb}
 use lib.ListN.{length}
 use borrow.Author.Tests.{eq-eqb, eqb-false, eqb-true, lt-ltb, ne_eqb}
-use Rattle.buffer.specs.declared.Found.{Found}
-use Rattle.buffer.specs.declared.Found.TheVariants.{At}
 use Rattle.buffer.proofs.Bools.{and-false-right, and_both, true-not-false}
 use Rattle.variable.specs.Table.{Cell, owned}
 use Rattle.machine.specs.Answer.{Answer, Buffers, Call, turn, round, command, share, run, other}
@@ -51,8 +49,8 @@ pub record Reports (c : Call) (out : List ℕ) (a : Answer) (text : List ℕ) : 
 
 -- what is asked of an event: after an input, the single process's answer; after any other, nothing has changed
 abbrev pub Keeps : ℕ → List ℕ → Single → Event → Option Input → Type 0
-Keeps i prog q e none = Tracks i prog (kernel_of e.after.area) e.after.disc q
-Keeps i prog q e (some x) =
+Keeps i prog q e None = Tracks i prog (kernel_of e.after.area) e.after.disc q
+Keeps i prog q e (Some x) =
     (observed_by e.number e i ≡ observed_of (single prog q x))
     × Tracks i prog (kernel_of e.after.area) e.after.disc (next (single prog q x) q)
 
@@ -110,7 +108,7 @@ module _ (i : ℕ) (prog : List ℕ) (s : Storage) (out : List ℕ) (q : Single)
   good : GoodState k s.disc
   good = passes-good s.disc s.area passes
 
-  place_of : (x : Follows i prog k s.disc q) → place_in s i ≡ At x.slot
+  place_of : (x : Follows i prog k s.disc q) → place_in s i ≡ Some x.slot
   place_of x = place-is-slot s i ∙ slot_is good x.slot i x.live x.named
 
   abbrev after : Call → Kernel
@@ -143,13 +141,13 @@ module _ (i : ℕ) (prog : List ℕ) (s : Storage) (out : List ℕ) (q : Single)
       → Keeps i prog q (event (command c id) s (answer (command c id) b) []) (input_if (eqb id i) (given c))
   command-step c id t = go (eqb id i) refl
     where
-      own : Tracks i prog k s.disc q → Keeps i prog q (event (command c i) s (answer (command c i) b) []) (some (given c))
+      own : Tracks i prog k s.disc q → Keeps i prog q (event (command c i) s (answer (command c i) b) []) (Some (given c))
       own (on x) = let r = command-answers i prog s out q passes x c in (r.observed, r.tracked)
       own (off gone over) = let r = ended-answers i prog s out q passes c gone over in (r.observed, r.tracked)
 
       go : (f : Bool) → eqb id i ≡ f → Keeps i prog q (event (command c id) s (answer (command c id) b) []) (input_if f (given c))
       go true e =
-          subst⁻¹ (λ (n : ℕ). Keeps i prog q (event (command c n) s (answer (command c n) b) []) (some (given c))) (eqb-true id i e) (own t)
+          subst⁻¹ (λ (n : ℕ). Keeps i prog q (event (command c n) s (answer (command c n) b) []) (Some (given c))) (eqb-true id i e) (own t)
       go false e = kept (command c id) refl
           (λ x. (record { turns = tt; commands = λ at. eqb-false id i e (sym (slot_at k id x.slot at).2 ∙ x.named) }, tt)) t
 
@@ -172,7 +170,7 @@ module _ (i : ℕ) (prog : List ℕ) (s : Storage) (out : List ℕ) (q : Single)
           given (declined n) h = x
           given (becomes j) h =
               let y = share-is k id turns j h in
-              let found : At y.slot ≡ At x.slot =
+              let found : Some y.slot ≡ Some x.slot =
               sym y.found ∙ slot_is good x.slot id x.live (x.named ∙ sym (eqb-true id i e)) in
               let here : y.slot ≡ x.slot = cc in
               subst⁻¹ (λ (l : Kernel). Follows i prog l s.disc q)
@@ -206,13 +204,13 @@ module _ (i : ℕ) (prog : List ℕ) (s : Storage) (out : List ℕ) (q : Single)
         → is_running (process_at k slot) ≡ true
         → turn_disturbs i x.slot slot clock e ≡ false
     supposed x h r =
-        subst (λ (f : Found). turn_disturbs_at i f slot clock e ≡ false) (place_of x) (and-false-right (is_done_by a.number) _ (done r) h)
+        subst (λ (f : Option ℕ). turn_disturbs_at i f slot clock e ≡ false) (place_of x) (and-false-right (is_done_by a.number) _ (done r) h)
 
     own-step : (x : Follows i prog k s.disc q) → x.slot ≡ slot → is_done_by a.number
-        && turn_disturbs_at i (place_in s i) slot clock e ≡ false → Keeps i prog q e (some (tick clock))
+        && turn_disturbs_at i (place_in s i) slot clock e ≡ false → Keeps i prog q e (Some (tick clock))
     own-step x here h = subst
         (λ (n : ℕ). Keeps i prog q (event (turn n clock) s (answer (turn n clock) b) (output_text (answer (turn n clock) b)))
-        (some (tick clock))) here (r.observed, r.tracked)
+        (Some (tick clock))) here (r.observed, r.tracked)
       where
         shelter : is_running (process_at k x.slot) ≡ true → Sheltered i prog s out q passes x clock
         shelter w =
@@ -240,10 +238,10 @@ module _ (i : ℕ) (prog : List ℕ) (s : Storage) (out : List ℕ) (q : Single)
     turn_step : Tracks i prog k s.disc q → is_done_by a.number && turn_disturbs_at i (place_in s i) slot clock e ≡ false
         → Keeps i prog q e (input_if (is_at (place_in s i) slot) (tick clock))
     turn_step (off g over) h =
-        subst⁻¹ (λ (f : Found). Keeps i prog q e (input_if (is_at f slot) (tick clock))) (place-is-slot s i
+        subst⁻¹ (λ (f : Option ℕ). Keeps i prog q e (input_if (is_at f slot) (tick clock))) (place-is-slot s i
         ∙ g.none) (gone (turn slot clock) refl g over)
     turn_step (on x) h =
-        subst⁻¹ (λ (f : Found). Keeps i prog q e (input_if (is_at f slot) (tick clock))) (place_of x) (go (eqb x.slot slot) refl)
+        subst⁻¹ (λ (f : Option ℕ). Keeps i prog q e (input_if (is_at f slot) (tick clock))) (place_of x) (go (eqb x.slot slot) refl)
       where
         go : (f : Bool) → eqb x.slot slot ≡ f → Keeps i prog q e (input_if f (tick clock))
         go true m = own-step x (eqb-true _ _ m) h

@@ -1,4 +1,5 @@
 -- `operations::retrieve` meets its contract: behind the tests of the disc, the file found is copied, if the output has room.
+use Rattle.std.specs.Prelude.{Option, Some}
 use Prim.Native.Nat.{ℕ, ◌≤◌, ◌<◌}
 use mathlib.Core.Path.{◌≡◌, sym, ap, subst⁻¹, ◌∙◌}
 use mathlib.Core.List.{List, ◌++◌}
@@ -7,8 +8,6 @@ use native.Mathlib.Omega.{arith}
 use lib.ListN.{drop, length, take}
 use lib.Seq.{length-take-le}
 use Rattle.buffer.specs.Buffer.{overwrite}
-use Rattle.buffer.specs.declared.Found.{Found}
-use Rattle.buffer.specs.declared.Found.TheVariants.{At}
 use Rattle.disc.specs.Directory.{contents, entry_at, file_count, lookup, run_of}
 use Rattle.disc.proofs.Locations.{Held, file-held, held-inside}
 use Rattle.disc.specs.declared.Entry.{Entry}
@@ -22,8 +21,8 @@ use Rattle.disc_operation.proofs.Outputs.{file-done, file-short}
 use Rattle.disc_operation.proofs.operations.retrieve.Goals as goal
 
 -- a disc that has passed the tests, and the place that the search has found in it
-module _ (disc name : List ℕ) (passed : checked disc ≡ Usable) {found : Found} {i : ℕ} (sought : found ≡ lookup disc name)
-    (at : found ≡ At i) where
+module _ (disc name : List ℕ) (passed : checked disc ≡ Usable) {found : Option ℕ} {i : ℕ} (sought : found ≡ lookup disc name)
+    (at : found ≡ Some i) where
   inside : i < file_count disc
   inside = (lookup-at disc name i (sym sought ∙ at)).inside
 
@@ -34,7 +33,7 @@ module _ (disc name : List ℕ) (passed : checked disc ≡ Usable) {found : Foun
   unfolding retrieve_answer
   chosen out x =
       rw passed
-      (ap (λ (e : Entry). retrieve_file e disc out) x ∙ ap (λ (f : Found). retrieve_at f disc out) (sym at ∙ sought))
+      (ap (λ (e : Entry). retrieve_file e disc out) x ∙ ap (λ (f : Option ℕ). retrieve_at f disc out) (sym at ∙ sought))
 
 -- read whole into as many bytes as the file has
 read-whole : (disc : List ℕ) (e : Entry) (out got : List ℕ) → Held disc (run_of e) → e.len ≤ length out
@@ -52,32 +51,32 @@ returns-in-Unusable c = rw (sym c.check.ensures ∙ c.in-Unusable.is)
 pub find-requires : goal.find-requires
 find-requires c = (usable c.args.disc.now (sym c.check.ensures ∙ c.in_default.is)).ready
 
-pub returns-in-Nowhere : goal.returns-in-Nowhere
+pub returns-in-None : goal.returns-in-None
 unfolding retrieve_answer
-returns-in-Nowhere c =
+returns-in-None c =
     rw (sym c.check.ensures ∙ c.in_default.is)
-    (ap (λ (x : Found). retrieve_at x c.args.disc.now c.args.out.now) (sym c.in-Nowhere.is ∙ c.find.ensures))
+    (ap (λ (x : Option ℕ). retrieve_at x c.args.disc.now c.args.out.now) (sym c.in-None.is ∙ c.find.ensures))
 
 pub entry_at-entry-requires : goal.entry_at-entry-requires
 entry_at-entry-requires c =
     let passed = sym c.check.ensures ∙ c.in_default.is in
     let r = (usable c.args.disc.now passed).ready in
-    (r.low, omega (arith, inside c.args.disc.now c.args.name.now passed c.find.ensures c.in-At.is, r.few))
+    (r.low, omega (arith, inside c.args.disc.now c.args.name.now passed c.find.ensures c.in-Some.is, r.few))
 
 pub returns-then-out-len : goal.returns-then-out-len
 returns-then-out-len c =
     let a = c.args in
     file-short c.entry_at-entry.result a.disc.now a.out.now c.if-out-len.true
-    ∙ chosen a.disc.now a.name.now (sym c.check.ensures ∙ c.in_default.is) c.find.ensures c.in-At.is a.out.now c.entry_at-entry.ensures
+    ∙ chosen a.disc.now a.name.now (sym c.check.ensures ∙ c.in_default.is) c.find.ensures c.in-Some.is a.out.now c.entry_at-entry.ensures
 
-pub slice_bounds-read_at-end-in-At : goal.slice_bounds-read_at-end-in-At
-slice_bounds-read_at-end-in-At c = sym (length-take-le c.entry_at-entry.result.len c.args.out.now c.if-out-len.false)
+pub slice_bounds-read_at-end-in-Some : goal.slice_bounds-read_at-end-in-Some
+slice_bounds-read_at-end-in-Some c = sym (length-take-le c.entry_at-entry.result.len c.args.out.now c.if-out-len.false)
 
 pub read_at-requires : goal.read_at-requires
 read_at-requires c =
     let a = c.args in (
       omega (arith, length-take-le c.entry_at-entry.result.len a.out.now c.if-out-len.false),
-      held-inside (file a.disc.now a.name.now (sym c.check.ensures ∙ c.in_default.is) c.find.ensures c.in-At.is c.entry_at-entry.ensures),
+      held-inside (file a.disc.now a.name.now (sym c.check.ensures ∙ c.in_default.is) c.find.ensures c.in-Some.is c.entry_at-entry.ensures),
     )
 
 pub returns-else-out-len : goal.returns-else-out-len
@@ -85,7 +84,7 @@ returns-else-out-len c =
     let a = c.args in
     let e = c.entry_at-entry.result in
     let passed = sym c.check.ensures ∙ c.in_default.is in
-    let held = file a.disc.now a.name.now passed c.find.ensures c.in-At.is c.entry_at-entry.ensures in
+    let held = file a.disc.now a.name.now passed c.find.ensures c.in-Some.is c.entry_at-entry.ensures in
     file-done e a.disc.now a.out.now _ c.if-out-len.false
     (read-whole a.disc.now e a.out.now c.read_at.new.out held c.if-out-len.false c.read_at.ensures)
-    ∙ chosen a.disc.now a.name.now passed c.find.ensures c.in-At.is a.out.now c.entry_at-entry.ensures
+    ∙ chosen a.disc.now a.name.now passed c.find.ensures c.in-Some.is a.out.now c.entry_at-entry.ensures

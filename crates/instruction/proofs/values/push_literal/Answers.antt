@@ -1,4 +1,5 @@
 -- The argument bytes are a part of the code.
+use Rattle.std.specs.Prelude.{Some}
 use mathlib.Core.List.{[]}
 use mathlib.Core.Path.{ap}
 use Prim.Native.Nat.{ℕ, ◌+◌, ◌≤◌, ◌<◌}
@@ -7,7 +8,6 @@ use lib.Seq.{take-length}
 use native.Mathlib.Omega.{arith}
 use borrow.Author.Tests.{le-leb, lt-leb}
 use Rattle.buffer.specs.Buffer.{part}
-use Rattle.buffer.specs.declared.Found.TheVariants.{At}
 use Rattle.buffer.proofs.Parts.{part-to}
 use Rattle.machine.specs.Effect.{Effect, settle}
 use Rattle.machine.specs.Stack.{push}
@@ -24,7 +24,7 @@ pub returns : goal.returns
 returns c =
     let a = c.args in
     let pushed : ℕ → Effect =
-    λ n. settle a.code.now (At (a.at + 1 + n)) (push a.stack.now a.kind (part a.code.now (a.at + 1) n)) a.loopstart [] in
+    λ n. settle a.code.now (Some (a.at + 1 + n)) (push a.stack.now a.kind (part a.code.now (a.at + 1) n)) a.loopstart [] in
     let h : a.at + 1 + a.kind ≤ length a.code.now = omega (arith, c.wide.ensures, c.if-code-to.false) in
     rw (le-leb _ _ h)
     (means-as {e = pushed c.wide.result}

@@ -1,6 +1,5 @@
 -- The stack's size is tested first, then the place.
-use Rattle.std.proofs.Common.{[], ◌++◌, take, append_assoc, arith}
-use Rattle.buffer.specs.declared.Found.TheVariants.{At}
+use Rattle.std.proofs.Common.{[], ◌++◌, take, append_assoc, arith, Some}
 use Rattle.machine.proofs.Instructions.Settling.{settle-full, settle_goes, settle-outside}
 use Rattle.stack.proofs.Steps.{last-means, pushed-length, step-means}
 use Rattle.stack.proofs.ends.push_bytes.Goals as goal
@@ -10,7 +9,7 @@ returns-then-kept-head-gt-STACK_SIZE c =
     let a = c.args in
     let pushed = take a.kept a.stack.now ++ a.head.now ++ a.tail.now in
     let high = pushed-length a.stack.now a.head.now a.tail.now a.kept c.requires.0.there in
-    rw (settle-full a.code.now pushed a.loopstart [] (At a.to) (omega arith)) (last-means a.stack.now c.last_step.ensures)
+    rw (settle-full a.code.now pushed a.loopstart [] (Some a.to) (omega arith)) (last-means a.stack.now c.last_step.ensures)
 
 pub returns-then-code-to : goal.returns-then-code-to
 returns-then-code-to c =

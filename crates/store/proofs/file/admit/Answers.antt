@@ -1,4 +1,5 @@
 -- `file::admit` meets its contract: its tests are those of `admission`, in their order.
+use Rattle.std.specs.Prelude.{None, Option}
 use Prim.Native.Nat.{ℕ, ◌-◌, ◌<◌, ◌≤◌}
 use mathlib.Core.Path.{◌≡◌, sym, ap, ◌∙◌}
 use mathlib.Core.Bool.{true}
@@ -6,8 +7,6 @@ use mathlib.Core.List.{List}
 use native.Mathlib.Omega.{arith}
 use borrow.Author.Tests.{le-leb, lt-leb, le-ltb, lt-ltb}
 use lib.ListN.{length, take}
-use Rattle.buffer.specs.declared.Found.{Found}
-use Rattle.buffer.specs.declared.Found.TheVariants.{Nowhere}
 use Rattle.place.specs.Place.{filled, place}
 use Rattle.place.specs.declared.Run.{Run}
 use Rattle.disc.specs.Directory.{file_count, lookup, taken}
@@ -24,17 +23,17 @@ module _ (d name : List ℕ) (n count : ℕ) (good : good_name name ≡ true) (s
   small = omega (arith, fits, size-limit-is d)
 
   -- what is left of the definition behind the first tests
-  rest : (f : Found) → f ≡ lookup d name → admission d name n ≡ deny_if_found f (start_or (place_of d n))
+  rest : (f : Option ℕ) → f ≡ lookup d name → admission d name n ≡ deny_if_found f (start_or (place_of d n))
   unfolding admission
   rest f found = rw (good, le-leb _ _ some, le-leb _ _ small, lt-ltb (file_count d) max_files (omega arith), found)
 
   -- and behind the lookup
-  last : Nowhere ≡ lookup d name → (runs : List Run) → runs ≡ filled (taken d) → (f : Found)
+  last : None ≡ lookup d name → (runs : List Run) → runs ≡ filled (taken d) → (f : Option ℕ)
       → f ≡ place (take count runs) data_start (length d) n → admission d name n ≡ start_or f
   unfolding place_of
   last new runs r f placed =
       let e : take count runs ≡ taken d = taken-first d runs count (omega arith) counted r in
-      rest Nowhere new ∙ ap start_or (sym (rw (← e) placed))
+      rest None new ∙ ap start_or (sym (rw (← e) placed))
 
 pub returns-then-not-is_good_name : goal.returns-then-not-is_good_name
 unfolding admission
@@ -63,23 +62,23 @@ returns-then-count-ge-MAX_FILES c =
       le-ltb (file_count c.args.disc.now) max_files (omega arith),
     )
 
-pub returns-in-At : goal.returns-in-At
-returns-in-At c =
+pub returns-in-Some : goal.returns-in-Some
+returns-in-Some c =
     sym (rest c.args.disc.now c.args.name.now c.args.n c.file_count-count.result
     (sym c.is_good_name.ensures ∙ c.if-not-is_good_name.false) c.if-n-lt1.false (rw c.size_limit.ensures at c.if-size_limit-n.false)
     c.if-count-ge-MAX_FILES.false
-    c.file_count-count.ensures _ c.in-At.ensures)
+    c.file_count-count.ensures _ c.in-Some.ensures)
 
-pub returns-in-At-find_place : goal.returns-in-At-find_place
-returns-in-At-find_place c =
+pub returns-in-Some-find_place : goal.returns-in-Some-find_place
+returns-in-Some-find_place c =
     sym (last c.args.disc.now c.args.name.now c.args.n c.file_count-count.result
     (sym c.is_good_name.ensures ∙ c.if-not-is_good_name.false) c.if-n-lt1.false (rw c.size_limit.ensures at c.if-size_limit-n.false)
     c.if-count-ge-MAX_FILES.false
-    c.file_count-count.ensures c.in_default.ensures c.taken_runs-runs.result c.taken_runs-runs.ensures _ c.in-At-find_place.ensures)
+    c.file_count-count.ensures c.in_default.ensures c.taken_runs-runs.result c.taken_runs-runs.ensures _ c.in-Some-find_place.ensures)
 
-pub returns-in-Nowhere : goal.returns-in-Nowhere
-returns-in-Nowhere c =
+pub returns-in-None : goal.returns-in-None
+returns-in-None c =
     sym (last c.args.disc.now c.args.name.now c.args.n c.file_count-count.result
     (sym c.is_good_name.ensures ∙ c.if-not-is_good_name.false) c.if-n-lt1.false (rw c.size_limit.ensures at c.if-size_limit-n.false)
     c.if-count-ge-MAX_FILES.false
-    c.file_count-count.ensures c.in_default.ensures c.taken_runs-runs.result c.taken_runs-runs.ensures _ c.in-Nowhere.ensures)
+    c.file_count-count.ensures c.in_default.ensures c.taken_runs-runs.result c.taken_runs-runs.ensures _ c.in-None.ensures)

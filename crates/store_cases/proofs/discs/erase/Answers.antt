@@ -11,4 +11,4 @@ pub erase_entry-requires-clause-readable : goal.erase_entry-requires-clause-read
 erase_entry-requires-clause-readable c = (usable _ (sym c.check.ensures ∙ c.in-Usable.is)).ready
 
 pub erase_entry-requires-clause-i_bound : goal.erase_entry-requires-clause-i_bound
-erase_entry-requires-clause-i_bound c = (lookup-at _ _ _ (sym c.find.ensures ∙ c.in-At.is)).inside
+erase_entry-requires-clause-i_bound c = (lookup-at _ _ _ (sym c.find.ensures ∙ c.in-Some.is)).inside

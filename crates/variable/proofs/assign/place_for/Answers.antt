@@ -9,12 +9,12 @@ pub returns-then-limit-used : goal.returns-then-limit-used
 unfolding placing
 returns-then-limit-used c = rw (le-ltb c.args.used c.args.limit (omega arith))
 
-pub returns-in-At : goal.returns-in-At
+pub returns-in-Some : goal.returns-in-Some
 unfolding placing
-returns-in-At c =
-    rw (lt-ltb c.args.used c.args.limit (omega arith)) (ap address_or (sym c.in-At.is ∙ c.find_place.ensures))
+returns-in-Some c =
+    rw (lt-ltb c.args.used c.args.limit (omega arith)) (ap address_or (sym c.in-Some.is ∙ c.find_place.ensures))
 
-pub returns-in-Nowhere : goal.returns-in-Nowhere
+pub returns-in-None : goal.returns-in-None
 unfolding placing
-returns-in-Nowhere c =
-    rw (lt-ltb c.args.used c.args.limit (omega arith)) (ap address_or (sym c.in-Nowhere.is ∙ c.find_place.ensures))
+returns-in-None c =
+    rw (lt-ltb c.args.used c.args.limit (omega arith)) (ap address_or (sym c.in-None.is ∙ c.find_place.ensures))
