@@ -8,7 +8,7 @@ ghost use Rattle.buffer.specs.Lists.{same};
 pub fn word(lo: u8, hi: u8) -> u16
     ensures { result ≡ lo + hi * 256 }
 {
-    lo as u16 + hi as u16 * 256
+    u16::from_le_bytes([lo, hi])
 }
 
 pub fn word_at(bytes: &[u8], at: usize) -> u16
@@ -18,30 +18,24 @@ pub fn word_at(bytes: &[u8], at: usize) -> u16
     word(bytes[at], bytes[at + 1])
 }
 
-fn four(lo: u16, hi: u16) -> u32
-    ensures { result ≡ lo + hi * 65536 }
-{
-    lo as u32 + hi as u32 * 65536
-}
-
 // Four bytes as one number, so that they are compared at once.
 pub fn four_at(bytes: &[u8], at: usize) -> u32
     requires { at + 4 ≤ length bytes.now }
     ensures { result ≡ four_at bytes.now at }
 {
-    four(word_at(bytes, at), word_at(bytes, at + 2))
+    u32::from_le_bytes([bytes[at], bytes[at + 1], bytes[at + 2], bytes[at + 3]])
 }
 
 pub fn low(word: u16) -> u8
     ensures { result ≡ word % 256 }
 {
-    (word % 256) as u8
+    word.to_le_bytes()[0]
 }
 
 pub fn high(word: u16) -> u8
     ensures { result ≡ word / 256 }
 {
-    (word / 256) as u8
+    word.to_le_bytes()[1]
 }
 
 // Fills dst with the bytes of src from place at.
@@ -49,11 +43,8 @@ pub fn copy_part(dst: &mut [u8], src: &[u8], at: usize)
     requires { at + length dst.old ≤ length src.now }
     ensures { dst.new ≡ part src.now at (length dst.old) }
 {
-    let mut i = 0;
-    while i < dst.len() {
-        dst[i] = src[at + i];
-        i += 1;
-    }
+    let n = dst.len();
+    dst.copy_from_slice(&src[at..at + n]);
 }
 
 // Lays src over dst from place at.
@@ -61,11 +52,7 @@ pub fn overwrite_at(dst: &mut [u8], at: usize, src: &[u8])
     requires { at + length src.now ≤ length dst.old }
     ensures { dst.new ≡ overwrite dst.old at src.now }
 {
-    let mut i = 0;
-    while i < src.len() {
-        dst[at + i] = src[i];
-        i += 1;
-    }
+    dst[at..at + src.len()].copy_from_slice(src);
 }
 
 // The same, answering the place behind: a text is written piece after piece.
@@ -82,25 +69,11 @@ pub fn zero_at(dst: &mut [u8], at: usize, n: usize)
     requires { at + n ≤ length dst.old }
     ensures { dst.new ≡ overwrite dst.old at (zeros n) }
 {
-    let mut i: usize = 0;
-    while i < n {
-        dst[at + i] = 0;
-        i += 1;
-    }
+    dst[at..at + n].fill(0);
 }
 
 pub fn same_bytes(a: &[u8], b: &[u8]) -> bool
     ensures { result ≡ same a.now b.now }
 {
-    if a.len() != b.len() {
-        return false;
-    }
-    let mut i = 0;
-    while i < a.len() {
-        if a[i] != b[i] {
-            return false;
-        }
-        i += 1;
-    }
-    true
+    a == b
 }
