@@ -7,12 +7,11 @@ use native.Mathlib.Nat.{not-suc-le-zero, pow-suc, div-lt_iff_lt-mul}
 use native.Mathlib.Numerals.{add-one}
 use native.Mathlib.Omega.{arith}
 use lib.Dec.{leb}
-use lib.ListN.{length, replicate, set, take, drop, length-append, length-drop, length-replicate, length-set, take-append-drop}
-use lib.Seq.{drop-cons, get_or-set_same, drop-set-lt, take-set-le, take-take, drop_at, take-length}
+use lib.ListN.{length, replicate, set, take, drop, length-append, length-set}
+use lib.Seq.{drop-cons, get_or-set_same, drop-set-lt, take-set-le, take-take}
 use borrow.Author.Tests.{le-leb}
 use Rattle.buffer.proofs.Lists.{take-replicate}
-use Rattle.decimal.specs.Decimal.{decimal, digits_of, if_more, last_digits, max_digits}
-use Rattle.decimal.specs.declared.Digits.{Digits}
+use Rattle.decimal.specs.Decimal.{if_more, last_digits}
 
 -- a number that needs another digit has room for it
 pub room : (s r : ℕ) → 10 ≤ r → r < 10 ^ (s + 1) → 0 < s
@@ -48,16 +47,6 @@ zeros-shorter b s d h e =
     ∙ ap (take (s - 1)) e
     ∙ take-replicate 0 s (s - 1) (omega arith)
 
-module _ (n : ℕ) (b : List ℕ) (s : ℕ) (size : length b ≡ max_digits) (inside : s < max_digits) where
-  zeros-first : take s b ≡ replicate s 0 → decimal n ≡ drop s b → replicate s 0 ++ decimal n ≡ b
-  zeros-first zeros digits = rw (← zeros, digits) (take-append-drop s b)
-
-  pub as-digits : take s b ≡ replicate s 0 → decimal n ≡ drop s b → digits_of n ≡ record { bytes = b; start = s }
-  as-digits zeros digits =
-      let long : length (decimal n) ≡ max_digits - s = ap length digits ∙ length-drop s b ∙ omega arith in
-      let m : max_digits - length (decimal n) ≡ s = omega arith in
-      rw m (ap (λ (l : List ℕ). record { bytes = l; start = s }) (zeros-first zeros digits))
-
 -- ---- how many digits
 pub digits-few : (f n : ℕ) → length (last_digits f n) ≤ f
 unfolding last_digits
@@ -70,11 +59,3 @@ digits-few (suc f) n =
     if-more-few : (more : Bool) (l : List ℕ) → length (if_more more l) ≤ length l
     if-more-few true l = omega arith
     if-more-few false l = omega arith
-
--- the part from start on is all the digits
-pub digits-part : (n : ℕ) (d : Digits) → d ≡ digits_of n → take (max_digits - d.start) (drop d.start d.bytes) ≡ decimal n
-digits-part n d e =
-    let long = digits-few max_digits n in
-    let k : ℕ = max_digits - length (decimal n) in
-    let m : max_digits - k ≡ length (decimal n) = omega arith in
-    rw (e, m, drop_at (replicate k 0) (decimal n) k (length-replicate k 0)) (take-length (decimal n))

@@ -1,7 +1,5 @@
 -- A number in decimal digits.
-use Rattle.std.specs.Prelude.{ℕ, zero, suc, ◌+◌, ◌-◌, ◌/◌, ◌%◌, Bool, true, false, List, [], ◌∷◌, ◌++◌, leb, length}
-use Rattle.std.specs.Prelude.{replicate}
-use Rattle.decimal.specs.declared.Digits.{Digits}
+use Rattle.std.specs.Prelude.{ℕ, zero, suc, ◌+◌, ◌/◌, ◌%◌, Bool, true, false, List, [], ◌∷◌, ◌++◌, leb}
 
 abbrev pub if_more : Bool → List ℕ → List ℕ
 if_more true l = l
@@ -19,11 +17,3 @@ max_digits = 10
 -- all digits of an n below 10 ^ 10, as every 32-bit number is
 abbrev pub decimal : ℕ → List ℕ
 decimal n = last_digits max_digits n
-
--- the digits of n at the end, zeros before them
-abbrev pub digits_of : ℕ → Digits
-digits_of n = record {
-  bytes = replicate (max_digits - length (decimal n)) 0
-      ++ decimal n;
-  start = max_digits - length (decimal n);
-}

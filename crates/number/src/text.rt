@@ -44,10 +44,7 @@ fn signed_decimal(negative: bool, n: u32, tail: &[u8]) -> Text
     requires { length tail.now < 6 }
     ensures { result ≡ laid (sign negative ++ (decimal n ++ tail.now)) }
 {
-    let digits = decimal::digits_of(n);
-    let start = digits.start;
-    let bytes = digits.bytes;
-    signed(negative, &bytes[start..], tail)
+    signed(negative, decimal::digits_of(n).as_slice(), tail)
 }
 
 fn magnitude(x: i16) -> u32
