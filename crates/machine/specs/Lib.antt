@@ -7,6 +7,8 @@ pub mod GoodArea
 -- one instruction, as a function of its process
 pub mod Stack
 pub mod Instruction
+-- the faults by name
+pub mod Fault
 pub mod Effect
 pub mod Asking
 pub mod Exec

@@ -2,6 +2,7 @@
 // comes in crates that use this one.
 #![tactic(auto)]
 
+pub mod fault;
 pub mod instruction;
 pub mod limits;
 
