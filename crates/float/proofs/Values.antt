@@ -1,4 +1,5 @@
 -- The definitions of Whole and Print at a value that equals a fraction a / c. Assumes nothing.
+use Rattle.std.specs.Prelude.{None, Option, ℤ}
 use Rattle.std.proofs.Common.{◌≡◌, ℕ, ◌-◌, ◌*◌, ◌%◌, ◌^◌, ◌<◌, ◌≤◌, Bool, true, false, cond, not, ◌&&◌, eqb, ltb, sym, refl, ap, ◌∙◌, subst}
 use Rattle.std.proofs.Common.{le_trans, lt_of_lt_of_le, mul_assoc, mul-le-mul, le-div_iff_mul-le, arith, pow_pos, pow_mono, shl_exact}
 use Rattle.std.proofs.Common.{le-ltb, lt-ltb, ne_eqb}
@@ -13,8 +14,6 @@ use Rattle.float.specs.declared.decode.Decoded.TheVariants.{NotANumber, Infinite
 use Rattle.float.specs.declared.print.Printed.TheVariants as printed
 use Rattle.float.specs.declared.whole.Rounding.{Rounding}
 use Rattle.float.specs.declared.whole.Rounding.TheVariants.{HalfAway}
-use Rattle.float.specs.declared.whole.Whole.{Whole}
-use Rattle.float.specs.declared.whole.Whole.TheVariants.{OutOfRange}
 use Rattle.float.proofs.Fractions.{cut-least, fraction-le, whole_same, whole-shifted-left, whole-shifted-right}
 use Rattle.float.proofs.Ranges.{too_large}
 use Rattle.float.proofs.Tests.{and-true, ltb-same, zero-product}
@@ -77,12 +76,12 @@ module _ {x : Float} {s : Bool} {t k : ℕ} (d : IsFinite x s t k) where
   at_least : 158 ≤ k → 4294967296 * 2 ^ 149 ≤ t * 2 ^ k
   at_least h = mul-le-mul {n₁ = 8388608} {m₁ = 2 ^ 158} (d.full (omega arith)) (pow_mono h)
 
-  pub whole-finite : (r : Rounding) (max : ℕ) {q : ℕ} {o : Whole} → q ≡ whole_size r s (t * 2 ^ k) (2 ^ 149) → o ≡ within max (signed s q)
+  pub whole-finite : (r : Rounding) (max : ℕ) {q : ℕ} {o : Option ℤ} → q ≡ whole_size r s (t * 2 ^ k) (2 ^ 149) → o ≡ within max (signed s q)
       → o ≡ whole_of r max x
   whole-finite r max e h = h ∙ ap (λ (n : ℕ). within max (signed s n)) e
       ∙ whole-of-value s (t * 2 ^ k) (2 ^ 149) (pow_pos 149) r max x d.value
 
-  pub whole-large : (r : Rounding) (max : ℕ) → max < 65536 → 158 ≤ k → OutOfRange ≡ whole_of r max x
+  pub whole-large : (r : Rounding) (max : ℕ) → max < 65536 → 158 ≤ k → None ≡ whole_of r max x
   whole-large r max m h =
       whole-finite r max refl (too_large s (whole_size r s (t * 2 ^ k) (2 ^ 149)) max (lt_of_lt_of_le (omega arith) beyond))
     where
@@ -134,11 +133,11 @@ module _ (x : Float) {p : Decoded} (d : IsDecoded x p) where
   pub finite : {s : Bool} {t k : ℕ} → p ≡ Finite s t k → IsFinite x s t k
   finite e = subst (IsDecoded x) e d
 
-  pub whole_nan : (r : Rounding) (max : ℕ) → p ≡ NotANumber → OutOfRange ≡ whole_of r max x
+  pub whole_nan : (r : Rounding) (max : ℕ) → p ≡ NotANumber → None ≡ whole_of r max x
   unfolding whole_of
   whole_nan r max e = ap (whole_of r max) (sym (subst (IsDecoded x) e d))
 
-  pub whole-infinite : (r : Rounding) (max : ℕ) (s : Bool) → p ≡ Infinite s → OutOfRange ≡ whole_of r max x
+  pub whole-infinite : (r : Rounding) (max : ℕ) (s : Bool) → p ≡ Infinite s → None ≡ whole_of r max x
   unfolding whole_of
   whole-infinite r max s e = ap (whole_of r max) (sym (subst (IsDecoded x) e d))
 

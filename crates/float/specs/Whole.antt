@@ -1,15 +1,11 @@
 -- Whole numbers out of a FLOAT, on its exact value. Definitions only.
+use Rattle.std.specs.Prelude.{None, Option, Some}
 use Rattle.std.specs.Prelude.{ℕ, zero, suc, ◌+◌, ◌-◌, ◌*◌, ◌/◌, Bool, true, false, cond, not, ◌&&◌, ℤ, pos, negsuc}
 use Rattle.std.specs.Prelude.{neg_ℤ, int_le, Float}
 use Rattle.std.specs.Float.{nan, inf, fin}
 use Rattle.std.specs.Float.Ieee.{up, down}
 use Rattle.float.specs.declared.whole.Rounding.{Rounding}
 use Rattle.float.specs.declared.whole.Rounding.TheVariants.{TowardZero, HalfAway, Down, Up}
-use Rattle.float.specs.declared.whole.Size.{Size}
-use Rattle.float.specs.declared.whole.Size.TheVariants as size
-use Rattle.float.specs.declared.whole.Size.TheVariants.{Refused}
-use Rattle.float.specs.declared.whole.Whole.{Whole}
-use Rattle.float.specs.declared.whole.Whole.TheVariants.{Is, OutOfRange}
 
 -- n / d to the nearest whole number, a half to the next one up
 abbrev pub half_away : ℕ → ℕ → ℕ
@@ -37,22 +33,22 @@ signed true q = neg_ℤ (pos q)
 abbrev pub in_range : ℕ → ℤ → Bool
 in_range max z = int_le (negsuc max) z && int_le z (pos max)
 
-abbrev pub within : ℕ → ℤ → Whole
-within max z = cond (in_range max z) (Is z) OutOfRange
+abbrev pub within : ℕ → ℤ → Option ℤ
+within max z = cond (in_range max z) (Some z) None
 
 -- The test comes after cutting or rounding.
-unfoldable pub whole_of : Rounding → ℕ → Float → Whole
-whole_of rounding max nan = OutOfRange
-whole_of rounding max (inf s) = OutOfRange
+unfoldable pub whole_of : Rounding → ℕ → Float → Option ℤ
+whole_of rounding max nan = None
+whole_of rounding max (inf s) = None
 whole_of rounding max (fin s m e) = within max (signed s (whole_size rounding s (m * up e) (down e)))
 
 -- Document 01: "size (cut toward zero; NaN and infinities count as refused sizes)". A size is from 1 to max.
-abbrev pub sized : Whole → Size
-sized (Is (pos zero)) = Refused
-sized (Is (pos (suc n))) = size.Is (suc n)
-sized (Is (negsuc n)) = Refused
-sized OutOfRange = Refused
+abbrev pub sized : Option ℤ → Option ℕ
+sized (Some (pos zero)) = None
+sized (Some (pos (suc n))) = Some (suc n)
+sized (Some (negsuc n)) = None
+sized None = None
 
-unfoldable pub size_of : ℕ → Float → Size
+unfoldable pub size_of : ℕ → Float → Option ℕ
 unfolding whole_of
 size_of max x = sized (whole_of TowardZero max x)

@@ -14,12 +14,6 @@ pub enum Rounding {
     Up,
 }
 
-#[derive(Clone, Copy)]
-pub enum Whole {
-    Is(i32),
-    OutOfRange,
-}
-
 // The size of the whole number for a * 2^k smallest values.
 pub fn whole_size(rounding: Rounding, negative: bool, a: u64, k: u64) -> u64
     requires { (a < 2 ^ 32) × (k < 158) }
@@ -37,31 +31,31 @@ pub fn whole_size(rounding: Rounding, negative: bool, a: u64, k: u64) -> u64
     }
 }
 
-fn in_range(negative: bool, size: u64, max: u16) -> Whole
+fn in_range(negative: bool, size: u64, max: u16) -> Option<i32>
     ensures { result ≡ within max (signed negative size) }
 {
     if negative {
         if size <= max as u64 + 1 {
-            Whole::Is(-(size as i32))
+            Some(-(size as i32))
         } else {
-            Whole::OutOfRange
+            None
         }
     } else {
         if size <= max as u64 {
-            Whole::Is(size as i32)
+            Some(size as i32)
         } else {
-            Whole::OutOfRange
+            None
         }
     }
 }
 
 // The whole number that x is rounded to, if it is from -max - 1 to max.
-pub fn to_whole(x: f32, rounding: Rounding, max: u16) -> Whole
+pub fn to_whole(x: f32, rounding: Rounding, max: u16) -> Option<i32>
     ensures { result ≡ whole_of rounding max x }
 {
     match decode(x) {
-        Decoded::NotANumber => Whole::OutOfRange,
-        Decoded::Infinite(_) => Whole::OutOfRange,
+        Decoded::NotANumber => None,
+        Decoded::Infinite(_) => None,
         Decoded::Finite(negative, significand, exponent) => {
             if exponent < LARGE {
                 in_range(
@@ -70,28 +64,16 @@ pub fn to_whole(x: f32, rounding: Rounding, max: u16) -> Whole
                     max,
                 )
             } else {
-                Whole::OutOfRange
+                None
             }
         }
     }
 }
 
-#[derive(Clone, Copy)]
-pub enum Size {
-    Is(u16),
-    Refused,
-}
-
 // OPEN's size, from 1 to max.
-pub fn to_size(x: f32, max: u16) -> Size
+pub fn to_size(x: f32, max: u16) -> Option<u16>
     ensures { result ≡ size_of max x }
 {
-    match to_whole(x, Rounding::TowardZero, max) {
-        Whole::Is(z) => if z > 0 {
-            Size::Is(z as u16)
-        } else {
-            Size::Refused
-        },
-        Whole::OutOfRange => Size::Refused,
-    }
+    let z = to_whole(x, Rounding::TowardZero, max)?;
+    if z > 0 { Some(z as u16) } else { None }
 }

@@ -1,10 +1,9 @@
 -- What disc and process table answer to an instruction that reaches beyond its process.
+use Rattle.std.specs.Prelude.{None, Option, Some}
 use Rattle.std.specs.Prelude.{ℕ, ◌+◌, ◌-◌, ◌/◌, ◌%◌, Bool, true, false, cond, ◌&&◌, List, [], ◌∷◌, ◌++◌, eqb, leb, pos}
-use Rattle.std.specs.Prelude.{length, drop, None, Option, Some}
+use Rattle.std.specs.Prelude.{length, drop}
 use Rattle.buffer.specs.Buffer.{zeros}
 use Rattle.buffer.specs.Lists.{any}
-use Rattle.float.specs.declared.whole.Size.{Size}
-use Rattle.float.specs.declared.whole.Size.TheVariants.{Is, Refused}
 use Rattle.number.specs.Compare.{equals, size_within}
 use Rattle.number.specs.declared.Number.{Number}
 use Rattle.place.specs.declared.Run.{Run}
@@ -49,7 +48,7 @@ abbrev pub push_id : Local → ℕ → Local
 push_id l id = pushed l (push l.stack 2 (id / 256 ∷ id % 256 ∷ []))
 
 -- the size that OPEN's new file may have: what fits between the data's start and the disc's end, 863 or 3,935
-abbrev pub new_file_size : List ℕ → Number → Size
+abbrev pub new_file_size : List ℕ → Number → Option ℕ
 new_file_size disc size = size_within (length disc - data_start) size
 
 module _ (k : Kernel) (slot : ℕ) (disc : List ℕ) where
@@ -68,9 +67,9 @@ module _ (k : Kernel) (slot : ℕ) (disc : List ℕ) where
       continues l (opened (record { start = s; len = n })) (stored disc name (zeros n) s)
   created_at (Denied r) name n l = breaks 13
 
-  abbrev pub created : Size → List ℕ → Local → Answered
-  created (Is n) name l = created_at (admission disc name n) name n l
-  created Refused name l = breaks 13
+  abbrev pub created : Option ℕ → List ℕ → Local → Answered
+  created (Some n) name l = created_at (admission disc name n) name n l
+  created None name l = breaks 13
 
   -- Document 01: "size [..] matters only for a new file"
   abbrev pub opened_at : Option ℕ → List ℕ → Number → Local → Answered

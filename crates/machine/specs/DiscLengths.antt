@@ -1,9 +1,8 @@
 -- Document 02, Q-2: a disc of either length.
+use Rattle.std.specs.Prelude.{None, Option, Some}
 use Rattle.std.specs.Prelude.{ℕ, ◌-◌, ◌*◌, ◌/◌, ◌≤◌, ◌≡◌, false, List, ◌⊎◌, eqb, ℤ, pos, neg_ℤ, length}
 use Rattle.std.specs.Float.{fin}
 use Rattle.std.specs.Float.Ieee.{up, down}
-use Rattle.float.specs.declared.whole.Size.{Size}
-use Rattle.float.specs.declared.whole.Size.TheVariants.{Is, Refused}
 use Rattle.number.specs.declared.Number.TheVariants.{Int, Float}
 use Rattle.disc.specs.Directory.{DiscLength, is_disc_length}
 use Rattle.disc.specs.Layout.{data_start, long_disc, short_disc}
@@ -30,8 +29,8 @@ EmptyDiscTakes =
     (fitting × (a.number ≡ pos 0)) ⊎ ((fitting → ⊥) × (a.number ≡ neg_ℤ (pos 6)))
 
 -- OPEN's new file likewise: a size of n, whole or "cut toward zero", is taken just where n bytes fit
-abbrev pub Taken : (disc : List ℕ) (n : ℕ) → Size → Type 0
-Taken disc n size = (Fitting disc n × (size ≡ Is n)) ⊎ ((Fitting disc n → ⊥) × (size ≡ Refused))
+abbrev pub Taken : (disc : List ℕ) (n : ℕ) → Option ℕ → Type 0
+Taken disc n size = (Fitting disc n × (size ≡ Some n)) ⊎ ((Fitting disc n → ⊥) × (size ≡ None))
 
 abbrev pub OpenTakes : Type 0
 OpenTakes =

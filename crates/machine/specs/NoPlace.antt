@@ -1,7 +1,6 @@
 -- What it is that a place is lacking: a table is full, or no free run is long enough.
+use Rattle.std.specs.Prelude.{None, Option, Some}
 use Rattle.std.specs.Prelude.{ℕ, ◌≤◌, ◌≡◌, false, List, ◌⊎◌}
-use Rattle.float.specs.declared.whole.Size.{Size}
-use Rattle.float.specs.declared.whole.Size.TheVariants.{Is, Refused}
 use Rattle.place.specs.Place.{fits}
 use Rattle.place.specs.declared.Run.{Run}
 use Rattle.disc.specs.Layout.{max_files}
@@ -19,8 +18,8 @@ abbrev pub Lacking : Variables → ℕ → Type 0
 Lacking v n = (entry_limit ≤ v.count) ⊎ NoneFits (taken_runs v) low_end high_end n
 
 -- Document 01, fault 13: "OPEN's new file refused by name, size or store's 8 or 9"
-pub data NewFileRefused (disc name : List ℕ) (size : Size) : Type 0 where
+pub data NewFileRefused (disc name : List ℕ) (size : Option ℕ) : Type 0 where
   by_name : (IsName name → ⊥) → NewFileRefused disc name size
-  by_size : size ≡ Refused → NewFileRefused disc name size
+  by_size : size ≡ None → NewFileRefused disc name size
   by-full : files_on disc ≡ max_files → NewFileRefused disc name size
-  by-no-run : (n : ℕ) → size ≡ Is n → ((start : ℕ) → Free disc n start → ⊥) → NewFileRefused disc name size
+  by-no-run : (n : ℕ) → size ≡ Some n → ((start : ℕ) → Free disc n start → ⊥) → NewFileRefused disc name size

@@ -1,9 +1,9 @@
 -- The instructions that reach beyond their process, exactly: from the byte at PC and the stack, what is due is done,
 -- and which fault comes of what.
+use Rattle.std.specs.Prelude.{Some}
 use Rattle.std.specs.Prelude.{ℕ, ◌+◌, ◌/◌, ◌%◌, ◌≤◌, ◌<◌, ◌≡◌, true, false, List, [], ◌∷◌, ◌++◌, ◌⊎◌, pos, length}
 use Rattle.std.specs.Prelude.{get_or}
 use Rattle.buffer.specs.Buffer.{overwrite, part, zeros}
-use Rattle.float.specs.declared.whole.Size.TheVariants.{Is}
 use Rattle.number.specs.Compare.{equals}
 use Rattle.number.specs.Value.{number_of}
 use Rattle.disc.specs.Layout.{max_files}
@@ -71,7 +71,7 @@ module _ (b : Buffers) (slot clock : ℕ) where
       → let size = new_file_size b.disc (number_of kind bytes) in
       Opens rest text
       ⊎ (NoFile b.disc text × ((NewFileRefused b.disc text size × Faults 13)
-      ⊎ ((n : ℕ) × (size ≡ Is n) × Creates rest text n)))
+      ⊎ ((n : ℕ) × (size ≡ Some n) × Creates rest text n)))
 
   abbrev pub CloseExactly : Type 0
   CloseExactly = AtPc b slot 54 → Proceeds (stack_in b slot)

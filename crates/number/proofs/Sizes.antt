@@ -1,4 +1,5 @@
 -- A whole number as a size from 1 to max, by the two tests of it. Assumes nothing.
+use Rattle.std.specs.Prelude.{None, Some}
 use Rattle.std.proofs.Common.{◌≡◌, ℕ, zero, suc, ◌<◌, ◌≤◌, Bool, true, false, cond, T, ℤ, pos, negsuc, nat_abs, sym, refl, ap, ◌∙◌}
 use Rattle.std.proofs.Common.{lt_of_le_of_lt, arith, to_z-of_z, w16, w32, Fits, SFits, to_z, of_z, ltb-true, leb-true}
 use mathlib.Core.Path.{subst⁻¹}
@@ -6,11 +7,9 @@ use lib.Signed.{lt_z, le_z, non_neg}
 use mir.Facts.{to_z_pos}
 use Rattle.integer.proofs.Representation.{true-not-false}
 use Rattle.float.specs.Whole.{in_range, within, sized}
-use Rattle.float.specs.declared.whole.Size.TheVariants.{Is, Refused}
-use Rattle.float.specs.declared.whole.Whole.TheVariants as whole
 
 -- below 1 it is refused, inside the range or not
-refused : (b : Bool) (z : ℤ) → lt_z z (pos 1) ≡ true → Refused ≡ sized (cond b (whole.Is z) whole.OutOfRange)
+refused : (b : Bool) (z : ℤ) → lt_z z (pos 1) ≡ true → None ≡ sized (cond b (Some z) None)
 refused false z h = refl
 refused true (pos zero) h = refl
 refused true (pos (suc n)) h = absurd (above (ltb-true (suc n) 1 h))
@@ -19,13 +18,13 @@ refused true (pos (suc n)) h = absurd (above (ltb-true (suc n) 1 h))
     above k = omega arith
 refused true (negsuc n) h = refl
 
-above-max : (max : ℕ) (z : ℤ) → lt_z z (pos 1) ≡ false → le_z z (pos max) ≡ false → Refused ≡ sized (within max z)
-above-max max (pos n) h k = ap (λ (b : Bool). sized (cond b (whole.Is (pos n)) whole.OutOfRange)) (sym k)
+above-max : (max : ℕ) (z : ℤ) → lt_z z (pos 1) ≡ false → le_z z (pos max) ≡ false → None ≡ sized (within max z)
+above-max max (pos n) h k = ap (λ (b : Bool). sized (cond b (Some (pos n)) None)) (sym k)
 above-max max (negsuc n) h k = true-not-false refl h
 
-in-range : (max : ℕ) (z : ℤ) → lt_z z (pos 1) ≡ false → le_z z (pos max) ≡ true → Is (nat_abs z) ≡ sized (within max z)
+in-range : (max : ℕ) (z : ℤ) → lt_z z (pos 1) ≡ false → le_z z (pos max) ≡ true → Some (nat_abs z) ≡ sized (within max z)
 in-range max (pos zero) h k = true-not-false refl h
-in-range max (pos (suc n)) h k = ap (λ (b : Bool). sized (cond b (whole.Is (pos (suc n))) whole.OutOfRange)) (sym k)
+in-range max (pos (suc n)) h k = ap (λ (b : Bool). sized (cond b (Some (pos (suc n))) None)) (sym k)
 in-range max (negsuc n) h k = true-not-false refl h
 
 size-at-most : (max : ℕ) (z : ℤ) → lt_z z (pos 1) ≡ false → le_z z (pos max) ≡ true → T (non_neg z) × (nat_abs z ≤ max)
@@ -43,16 +42,16 @@ module _ (max : ℕ) (fm : Fits w16 max) (z : ℤ) (fz : SFits w32 z) where
   high : {t : Bool} → le_z (to_z w32 (of_z w32 z)) (to_z w32 max) ≡ t → le_z z (pos max) ≡ t
   high h = ap (λ (y : ℤ). le_z y (pos max)) (sym (to_z-of_z fz)) ∙ ap (le_z (to_z w32 (of_z w32 z))) (sym max-reads) ∙ h
 
-  pub size-refused-low : lt_z (to_z w32 (of_z w32 z)) (pos 1) ≡ true → Refused ≡ sized (within max z)
+  pub size-refused-low : lt_z (to_z w32 (of_z w32 z)) (pos 1) ≡ true → None ≡ sized (within max z)
   size-refused-low h = refused (in_range max z) z (low h)
 
   module _ (h : lt_z (to_z w32 (of_z w32 z)) (pos 1) ≡ false) where
-    pub size-refused-high : le_z (to_z w32 (of_z w32 z)) (to_z w32 max) ≡ false → Refused ≡ sized (within max z)
+    pub size-refused-high : le_z (to_z w32 (of_z w32 z)) (to_z w32 max) ≡ false → None ≡ sized (within max z)
     size-refused-high k = above-max max z (low h) (high k)
 
     module _ (k : le_z (to_z w32 (of_z w32 z)) (to_z w32 max) ≡ true) where
-      pub size_is : Is (nat_abs (to_z w32 (of_z w32 z))) ≡ sized (within max z)
-      size_is = ap (λ (y : ℤ). Is (nat_abs y)) (to_z-of_z fz) ∙ in-range max z (low h) (high k)
+      pub size_is : Some (nat_abs (to_z w32 (of_z w32 z))) ≡ sized (within max z)
+      size_is = ap (λ (y : ℤ). Some (nat_abs y)) (to_z-of_z fz) ∙ in-range max z (low h) (high k)
 
       pub size-casts : T (non_neg (to_z w32 (of_z w32 z))) × Fits w16 (nat_abs (to_z w32 (of_z w32 z)))
       size-casts =

@@ -4,7 +4,7 @@ ghost use Rattle.float.specs.Whole.{within, sized};
 ghost use Rattle.number.specs.Compare.{equals, size_within};
 
 use crate::Number;
-use float::whole::{Size, to_size};
+use float::whole::to_size;
 
 // Document 01: "WAITUNTILDONE stays while a live process has that ID."
 pub fn equals_whole(a: Number, z: i32) -> bool
@@ -17,21 +17,21 @@ pub fn equals_whole(a: Number, z: i32) -> bool
     }
 }
 
-fn whole_size(z: i32, max: u16) -> Size
+fn whole_size(z: i32, max: u16) -> Option<u16>
     ensures { result ≡ sized (within max z) }
 {
     if z < 1 {
-        return Size::Refused;
+        return None;
     }
     if z <= max as i32 {
-        Size::Is(z as u16)
+        Some(z as u16)
     } else {
-        Size::Refused
+        None
     }
 }
 
 // Document 01: "size (cut toward zero; NaN and infinities count as refused sizes)". OPEN's sizes are from 1 to `max`.
-pub fn size_within(a: Number, max: u16) -> Size
+pub fn size_within(a: Number, max: u16) -> Option<u16>
     ensures { result ≡ size_within max a }
 {
     match a {

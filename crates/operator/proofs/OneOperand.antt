@@ -1,5 +1,6 @@
 -- Negation, absolute value and whole root of CHAR and INT, and FLOATs converted to either: one law for both, over the width w, k the type.
 -- Assumes nothing.
+use Rattle.std.specs.Prelude.{None, Option, Some}
 use mathlib.Core.Path.{◌≡◌, refl, sym, ◌∙◌, ap, subst, subst⁻¹}
 use mathlib.Core.Bool.{true, false}
 use Prim.Native.Nat.{ℕ, ◌*◌, ◌≤◌, ◌<◌, ◌^◌}
@@ -19,8 +20,6 @@ use Rattle.root.specs.Root.{whole_root}
 use Rattle.root.proofs.Squares.{root_below, root_is}
 use Rattle.float.specs.Whole.{whole_of, whole_size, signed}
 use Rattle.float.specs.declared.whole.Rounding.{Rounding}
-use Rattle.float.specs.declared.whole.Whole.{Whole}
-use Rattle.float.specs.declared.whole.Whole.TheVariants.{Is, OutOfRange as Beyond}
 use Rattle.float.proofs.Ranges.{within-mag}
 use Rattle.number.specs.declared.Number.{Number}
 use Rattle.number.proofs.Signs.{not-negative, sign_read, size-negated, size_same}
@@ -70,14 +69,14 @@ module _ (w : Width) (k : ℤ → Number) (x : ℤ) (f : SFits w x) where
     root-reads = ap (λ (z : ℤ). Value (k z)) (to_z_pos w below ∙ ap pos root-is-of) ∙ root-of-size k x (sign_read w x f h)
 
 -- a FLOAT as a whole number from −max − 1 to max
-within-range : (r : Rounding) (max : ℕ) (x : Float) {z : ℤ} → Is z ≡ whole_of r max x → mag z ≤ max
+within-range : (r : Rounding) (max : ℕ) (x : Float) {z : ℤ} → Some z ≡ whole_of r max x → mag z ≤ max
 unfolding whole_of
 within-range r max nan e = let clash : ◌≡◌ {A = ℕ} 0 1 = cc in omega arith
 within-range r max (inf s) e = let clash : ◌≡◌ {A = ℕ} 0 1 = cc in omega arith
 within-range r max (fin s m p) e = within-mag max (signed s (whole_size r s (m * up p) (down p))) e
 
-module _ (w : Width) {max : ℕ} (small : max < 2 ^ hbits w) (r : Rounding) (x : Float) {o : Whole} (eo : o ≡ whole_of r max x) where
-  module _ (z : ℤ) (ez : o ≡ Is z) (f : SFits w32 z) where
+module _ (w : Width) {max : ℕ} (small : max < 2 ^ hbits w) (r : Rounding) (x : Float) {o : Option ℤ} (eo : o ≡ whole_of r max x) where
+  module _ (z : ℤ) (ez : o ≡ Some z) (f : SFits w32 z) where
     fits : SFits w z
     fits = record { sfits = lt_of_le_of_lt (within-range r max x (sym ez ∙ eo)) small }
 
@@ -88,5 +87,5 @@ module _ (w : Width) {max : ℕ} (small : max < 2 ^ hbits w) (r : Rounding) (x :
     narrowed k = ap (λ (y : ℤ). Value (k y)) (ap (λ (y : ℤ). to_z w (of_z w y)) (to_z-of_z f) ∙ to_z-of_z fits) ∙ ap (value_or k) (sym ez
         ∙ eo)
 
-  pub beyond : o ≡ Beyond → (k : ℤ → Number) → OutOfRange ≡ value_or k (whole_of r max x)
+  pub beyond : o ≡ None → (k : ℤ → Number) → OutOfRange ≡ value_or k (whole_of r max x)
   beyond e k = ap (value_or k) (sym e ∙ eo)

@@ -1,4 +1,5 @@
 -- TOCHAR, TOINT, TOFLOAT, ROUND, FLOOR and CEIL.
+use Rattle.std.specs.Prelude.{None, Option, Some}
 use Rattle.std.specs.Prelude.{◌%◌, ℤ, Float as Binary32}
 use Rattle.std.specs.Float.{binary32}
 use Rattle.std.specs.Float.Ieee.{of_int}
@@ -6,8 +7,6 @@ use Rattle.std.specs.Int.{w8, w16}
 use Rattle.std.proofs.Common.{to_z, of_z}
 use Rattle.float.specs.Whole.{whole_of}
 use Rattle.float.specs.declared.whole.Rounding.TheVariants.{TowardZero, HalfAway, Down, Up}
-use Rattle.float.specs.declared.whole.Whole.{Whole}
-use Rattle.float.specs.declared.whole.Whole.TheVariants.{Is, OutOfRange as Beyond}
 use Rattle.number.specs.declared.Number.{Number}
 use Rattle.number.specs.declared.Number.TheVariants.{Char, Int, Float}
 use Rattle.operator.specs.declared.Outcome.{Outcome}
@@ -26,9 +25,9 @@ converted_whole Floor x = Value (Int x)
 converted_whole Ceil x = Value (Int x)
 
 -- Document 01: "8 conversion of NaN or to a whole outside the type's range". k is the type.
-abbrev pub value_or : (ℤ → Number) → Whole → Outcome
-value_or k (Is z) = Value (k z)
-value_or k Beyond = OutOfRange
+abbrev pub value_or : (ℤ → Number) → Option ℤ → Outcome
+value_or k (Some z) = Value (k z)
+value_or k None = OutOfRange
 
 -- Document 01: "TOINT and TOCHAR of a FLOAT cut toward zero; ROUND goes half away from zero." TOFLOAT of a FLOAT is
 -- never asked: the pop refuses it.

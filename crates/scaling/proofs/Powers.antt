@@ -1,4 +1,5 @@
 -- POW: the exponent by its two tests; one factor more, modulo the width and rounded. Assumes nothing.
+use Rattle.std.specs.Prelude.{None, Some}
 use mathlib.Core.Path.{◌≡◌, refl, sym, ◌∙◌, ap}
 use mathlib.Core.Bool.{Bool, true, false, cond}
 use Prim.Native.Nat.{ℕ, suc, ◌+◌, ◌≤◌}
@@ -16,22 +17,21 @@ use Rattle.integer.proofs.Modular.{reads-wrapped}
 use Rattle.integer.proofs.Reduction.{wrapped-factor, wrapped-narrow}
 use Rattle.integer.proofs.Representation.{true-not-false, widened}
 use Rattle.scaling.specs.Power.{max_exponent, power_real, whole_exponent}
-use Rattle.scaling.specs.declared.power.Exponent.TheVariants.{Is, Refused}
 
 -- ---- the exponent
-negative : (z : ℤ) → lt_z z (pos 0) ≡ true → Refused ≡ whole_exponent z
+negative : (z : ℤ) → lt_z z (pos 0) ≡ true → None ≡ whole_exponent z
 negative (pos n) h = absurd (below (ltb-true n 0 h))
   where
     below : suc n ≤ 0 → ⊥
     below k = omega arith
 negative (negsuc n) h = refl
 
-too_large : (z : ℤ) → lt_z z (pos 0) ≡ false → le_z z (pos max_exponent) ≡ false → Refused ≡ whole_exponent z
-too_large (pos n) h k = ap (λ (b : Bool). cond b (Is n) Refused) (sym k)
+too_large : (z : ℤ) → lt_z z (pos 0) ≡ false → le_z z (pos max_exponent) ≡ false → None ≡ whole_exponent z
+too_large (pos n) h k = ap (λ (b : Bool). cond b (Some n) None) (sym k)
 too_large (negsuc n) h k = true-not-false refl h
 
-taken : (z : ℤ) → lt_z z (pos 0) ≡ false → le_z z (pos max_exponent) ≡ true → Is (nat_abs z) ≡ whole_exponent z
-taken (pos n) h k = ap (λ (b : Bool). cond b (Is n) Refused) (sym k)
+taken : (z : ℤ) → lt_z z (pos 0) ≡ false → le_z z (pos max_exponent) ≡ true → Some (nat_abs z) ≡ whole_exponent z
+taken (pos n) h k = ap (λ (b : Bool). cond b (Some n) None) (sym k)
 taken (negsuc n) h k = true-not-false refl h
 
 small : (z : ℤ) → lt_z z (pos 0) ≡ false → le_z z (pos max_exponent) ≡ true → T (non_neg z) × Fits w8 (nat_abs z)
@@ -43,15 +43,15 @@ module _ (z : ℤ) (f : SFits w16 z) where
   abbrev reading : ℤ
   reading = to_z w16 (of_z w16 z)
 
-  pub exponent-negative : lt_z reading (pos 0) ≡ true → Refused ≡ whole_exponent z
+  pub exponent-negative : lt_z reading (pos 0) ≡ true → None ≡ whole_exponent z
   exponent-negative h = negative reading h ∙ ap whole_exponent (to_z-of_z f)
 
   module _ (h : lt_z reading (pos 0) ≡ false) where
-    pub exponent-too-large : le_z reading (pos max_exponent) ≡ false → Refused ≡ whole_exponent z
+    pub exponent-too-large : le_z reading (pos max_exponent) ≡ false → None ≡ whole_exponent z
     exponent-too-large k = too_large reading h k ∙ ap whole_exponent (to_z-of_z f)
 
     module _ (k : le_z reading (pos max_exponent) ≡ true) where
-      pub exponent-taken : Is (nat_abs reading) ≡ whole_exponent z
+      pub exponent-taken : Some (nat_abs reading) ≡ whole_exponent z
       exponent-taken = taken reading h k ∙ ap whole_exponent (to_z-of_z f)
 
       pub exponent-casts : T (non_neg reading) × Fits w8 (nat_abs reading)

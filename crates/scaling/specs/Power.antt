@@ -1,4 +1,5 @@
 -- POW.
+use Rattle.std.specs.Prelude.{None, Option, Some}
 use Rattle.std.specs.Prelude.{ℕ, zero, suc, cond, leb, ℤ, pos, negsuc, Float as Binary32}
 use Rattle.std.proofs.Math.IntN.{pow}
 use Rattle.std.specs.Float.{binary32}
@@ -12,22 +13,20 @@ use Rattle.number.specs.declared.promotion.Pair.{Pair}
 use Rattle.number.specs.declared.promotion.Pair.TheVariants.{Chars, Ints, Floats}
 use Rattle.operator.specs.declared.Outcome.{Outcome}
 use Rattle.operator.specs.declared.Outcome.TheVariants.{Value, OutOfRange}
-use Rattle.scaling.specs.declared.power.Exponent.{Exponent}
-use Rattle.scaling.specs.declared.power.Exponent.TheVariants.{Is, Refused}
 
 -- Document 02, Q-3: "POW takes a whole y from 0 to 15, else fault 8".
 abbrev pub max_exponent : ℕ
 max_exponent = 15
 
-abbrev pub whole_exponent : ℤ → Exponent
-whole_exponent (pos n) = cond (leb n max_exponent) (Is n) Refused
-whole_exponent (negsuc n) = Refused
+abbrev pub whole_exponent : ℤ → Option ℕ
+whole_exponent (pos n) = cond (leb n max_exponent) (Some n) None
+whole_exponent (negsuc n) = None
 
 -- "a FLOAT y is fault 6": the pop refuses it, so a FLOAT is never asked here.
-abbrev pub exponent : Number → Exponent
+abbrev pub exponent : Number → Option ℕ
 exponent (Char y) = whole_exponent y
 exponent (Int y) = whole_exponent y
-exponent (Float y) = Refused
+exponent (Float y) = None
 
 -- "multiplying from the left starting at 1": of whole numbers the library's power; of FLOATs one rounding for each
 -- product
@@ -41,9 +40,9 @@ raised (Chars x y) n = Char (wrapped w8 (pow x n))
 raised (Ints x y) n = Int (wrapped w16 (pow x n))
 raised (Floats x y) n = Float (power_real x n)
 
-abbrev pub raised_by : Pair → Exponent → Outcome
-raised_by pair (Is n) = Value (raised pair n)
-raised_by pair Refused = OutOfRange
+abbrev pub raised_by : Pair → Option ℕ → Outcome
+raised_by pair (Some n) = Value (raised pair n)
+raised_by pair None = OutOfRange
 
 unfoldable pub power : Number → Number → Outcome
 power x y = raised_by (promoted x y) (exponent y)

@@ -1,7 +1,8 @@
 -- OPEN and WRITE on two good states that show the same: both go on alike, unless one of them refuses a place or a size.
+use Rattle.std.specs.Prelude.{None, Option, Some}
 use Rattle.std.proofs.Math.Bool.{or-true}
 use Rattle.std.proofs.Common.{ℕ, zero, suc, cond, ◌≡◌, ◌+◌, ◌<◌, ◌≤◌, Bool, true, false, ◌||◌, List, [], ◌∷◌, ◌++◌, refl, sym, ap, ◌∙◌}
-use Rattle.std.proofs.Common.{subst, length, arith, None, Option, Some}
+use Rattle.std.proofs.Common.{subst, length, arith}
 use mathlib.Core.Logic.{◌⊎◌, inl, inr, ⊎_elim}
 use lib.Dec.{ltb}
 use lib.IntN.{ℤ, pos, negsuc}
@@ -11,9 +12,6 @@ use lib.ListN.{length-replicate}
 use borrow.Author.Tests.{leb-true}
 use Rattle.buffer.specs.Buffer.{zeros}
 use Rattle.float.specs.Whole.{in_range, size_of, sized, whole_of}
-use Rattle.float.specs.declared.whole.Size.{Size}
-use Rattle.float.specs.declared.whole.Size.TheVariants.{Is, Refused}
-use Rattle.float.specs.declared.whole.Whole.TheVariants as whole
 use Rattle.number.specs.Compare.{size_within}
 use Rattle.number.specs.declared.Number.{Number}
 use Rattle.number.specs.declared.Number.TheVariants.{Char, Int, Float}
@@ -47,28 +45,28 @@ use Rattle.views.proofs.Turning.{SameAnswered, both-break, both-go, file₁, fil
 use Rattle.views.proofs.Turning.{size-same, with-open}
 
 -- ---- sizes: within two limits a number is the same size
-refused-size : (n : ℕ) → Refused ≡ Is n → ⊥
+refused-size : (n : ℕ) → None ≡ Some n → ⊥
 refused-size n e = let z : ◌≡◌ {A = ℕ} 0 1 = cc in omega arith
 
-size-is : {n m : ℕ} → Is n ≡ Is m → n ≡ m
+size-is : {n m : ℕ} → Some n ≡ Some m → n ≡ m
 size-is e = cc
 
 positive : {n m : ℕ} → pos n ≡ pos m → n ≡ m
 positive e = cc
 
-within-size : (b : Bool) (z : ℤ) (n : ℕ) → sized (cond b (whole.Is z) whole.OutOfRange) ≡ Is n → z ≡ pos n
+within-size : (b : Bool) (z : ℤ) (n : ℕ) → sized (cond b (Some z) None) ≡ Some n → z ≡ pos n
 within-size false z n e = absurd (refused-size n e)
 within-size true (pos zero) n e = absurd (refused-size n e)
 within-size true (pos (suc k)) n e = ap pos (size-is e)
 within-size true (negsuc k) n e = absurd (refused-size n e)
 
-same-size : (a b : ℕ) (size : Number) (n m : ℕ) → size_within a size ≡ Is n → size_within b size ≡ Is m → n ≡ m
+same-size : (a b : ℕ) (size : Number) (n m : ℕ) → size_within a size ≡ Some n → size_within b size ≡ Some m → n ≡ m
 unfolding size_of whole_of
 same-size a b (Char x) n m e f = positive (sym (within-size (in_range a x) x n e) ∙ within-size (in_range b x) x m f)
 same-size a b (Int x) n m e f = positive (sym (within-size (in_range a x) x n e) ∙ within-size (in_range b x) x m f)
 same-size a b (Float x) n m e f = float-size x e f
   where
-    float-size : (x : Floating) → size_of a x ≡ Is n → size_of b x ≡ Is m → n ≡ m
+    float-size : (x : Floating) → size_of a x ≡ Some n → size_of b x ≡ Some m → n ≡ m
     float-size nan e f = absurd (refused-size n e)
     float-size (inf s) e f = absurd (refused-size n e)
     float-size (fin s k t) e f = positive (sym (within-size (in_range a _) _ n e) ∙ within-size (in_range b _) _ m f)
@@ -196,20 +194,20 @@ module _ (k₁ k₂ : Kernel) (d₁ d₂ : List ℕ) (g₁ : GoodState k₁ d₁
     created-by name n l _ _ e f (both-denied r) = both-break refl
     created-by name n l _ _ e f (both-start s t) = new-start name n s t e f l
 
-    abbrev Opens : Size → Size → List ℕ → Local → Type 0
+    abbrev Opens : Option ℕ → Option ℕ → List ℕ → Local → Type 0
     Opens a b name l =
         (new_lacks a d₁ name || new_lacks b d₂ name ≡ true) ⊎ SameAnswered (created k₁ slot d₁ a name l) (created k₂ slot d₂ b name l)
 
-    sized-alike : (name : List ℕ) (n : ℕ) (l : Local) → Opens (Is n) (Is n) name l
+    sized-alike : (name : List ℕ) (n : ℕ) (l : Local) → Opens (Some n) (Some n) name l
     sized-alike name n l =
         ⊎_elim inl (λ b. inr (created-by name n l (admission d₁ name n) (admission d₂ name n) refl refl b)) (admitted-alike name n)
 
-    new-alike : (name : List ℕ) (size : Number) (l : Local) (a b : Size) → new_file_size d₁ size ≡ a → new_file_size d₂ size ≡ b
+    new-alike : (name : List ℕ) (size : Number) (l : Local) (a b : Option ℕ) → new_file_size d₁ size ≡ a → new_file_size d₂ size ≡ b
         → Opens a b name l
-    new-alike name size l Refused b e f = inl refl
-    new-alike name size l (Is n) Refused e f = inl (or-true (new_lacks (Is n) d₁ name))
-    new-alike name size l (Is n) (Is m) e f =
-        subst (λ (x : ℕ). Opens (Is n) (Is x) name l) (same-size _ _ size n m e f) (sized-alike name n l)
+    new-alike name size l None b e f = inl refl
+    new-alike name size l (Some n) None e f = inl (or-true (new_lacks (Some n) d₁ name))
+    new-alike name size l (Some n) (Some m) e f =
+        subst (λ (x : ℕ). Opens (Some n) (Some x) name l) (same-size _ _ size n m e f) (sized-alike name n l)
 
     pub opens-same : (name : List ℕ) (size : Number) (l : Local)
         → (request_lacks (opens name size l) d₁ || request_lacks (opens name size l) d₂ ≡ true)

@@ -3,8 +3,6 @@
 use Rattle.std.specs.Prelude.{None, Option, Some}
 use Rattle.std.specs.Prelude.{ℕ, ◌≡◌, Bool, true, false, cond, ◌&&◌, ◌||◌, not, List, [], ◌∷◌, map, eqb, length}
 use Rattle.buffer.specs.Lists.{index}
-use Rattle.float.specs.declared.whole.Size.{Size}
-use Rattle.float.specs.declared.whole.Size.TheVariants.{Is, Refused}
 use Rattle.place.specs.declared.Run.{Run}
 use Rattle.disc.specs.Directory.{contents, files as entries, lookup, run_of}
 use Rattle.disc.specs.declared.Entry.{Entry}
@@ -109,11 +107,11 @@ abbrev pub lacks_room : Admission → Bool
 lacks_room (Start s) = false
 lacks_room (Denied r) = is_of_room r
 
-abbrev pub new_lacks : Size → List ℕ → List ℕ → Bool
-new_lacks Refused disc name = true
-new_lacks (Is n) disc name = lacks_room (admission disc name n)
+abbrev pub new_lacks : Option ℕ → List ℕ → List ℕ → Bool
+new_lacks None disc name = true
+new_lacks (Some n) disc name = lacks_room (admission disc name n)
 
-abbrev pub open_lacks : Option ℕ → Size → List ℕ → List ℕ → Bool
+abbrev pub open_lacks : Option ℕ → Option ℕ → List ℕ → List ℕ → Bool
 open_lacks (Some i) size disc name = false
 open_lacks None size disc name = new_lacks size disc name
 

@@ -8,8 +8,6 @@ use mathlib.Core.Logic.{◌⊎◌, inl, inr}
 use native.Mathlib.Omega.{arith}
 use lib.Dec.{eqb, leb}
 use lib.ListN.{length}
-use Rattle.float.specs.declared.whole.Size.{Size}
-use Rattle.float.specs.declared.whole.Size.TheVariants.{Is, Refused}
 use Rattle.number.specs.declared.Number.{Number}
 use Rattle.disc.specs.Directory.{lookup}
 use Rattle.store.specs.File.{admission}
@@ -50,9 +48,9 @@ module _ (k : Kernel) (slot : ℕ) (disc : List ℕ) where
       admit n (Start s) = tt
       admit n (Denied r) = refl
 
-      sized : (s : Size) → Breaks (λ m. m ≡ 13) (created k slot disc s name l)
-      sized (Is n) = admit n (admission disc name n)
-      sized Refused = refl
+      sized : (s : Option ℕ) → Breaks (λ m. m ≡ 13) (created k slot disc s name l)
+      sized (Some n) = admit n (admission disc name n)
+      sized None = refl
 
   in-file : (P : ℕ → Type 0) (n : ℕ) (rest : Answered) → P 11 → P 12 → Breaks P rest
       → Breaks P (with_open_file k slot disc (inside k slot disc n rest))

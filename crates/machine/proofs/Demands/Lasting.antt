@@ -8,8 +8,6 @@ use lib.Dec.{eqb, leb}
 use lib.ListN.{length, get_or, set, length-set}
 use lib.Seq.{get_or-set_same}
 use Rattle.buffer.specs.Lists.{any}
-use Rattle.float.specs.declared.whole.Size.{Size}
-use Rattle.float.specs.declared.whole.Size.TheVariants.{Is, Refused}
 use Rattle.number.specs.declared.Number.{Number}
 use Rattle.place.specs.Place.{run_from}
 use Rattle.disc.specs.Directory.{lookup}
@@ -59,9 +57,9 @@ module _ (k : Kernel) (slot : ℕ) (running : is_running (process_at k slot) ≡
         admit n (Start s) = continued-running l (opened (run_from s n))
         admit n (Denied r) = tt
 
-        sized : (s : Size) → Left (created k slot disc s name l)
-        sized (Is n) = admit n (admission disc name n)
-        sized Refused = tt
+        sized : (s : Option ℕ) → Left (created k slot disc s name l)
+        sized (Some n) = admit n (admission disc name n)
+        sized None = tt
 
     in-file : (n : ℕ) (rest : Answered) → Left rest → Left (with_open_file k slot disc (inside k slot disc n rest))
     in-file n rest left = go (eqb p.file.len 0) (leb (p.file.offset + n) p.file.len)

@@ -13,10 +13,6 @@ use borrow.Author.Tests.{le-leb}
 use Rattle.buffer.specs.Buffer.{zeros}
 use Rattle.buffer.proofs.Bools.{and_both, true-not-false}
 use Rattle.float.specs.Whole.{in_range, signed, sized, size_of, within}
-use Rattle.float.specs.declared.whole.Size.{Size}
-use Rattle.float.specs.declared.whole.Size.TheVariants.{Is, Refused as Improper}
-use Rattle.float.specs.declared.whole.Whole.TheVariants as whole
-use Rattle.float.specs.declared.whole.Whole.TheVariants.{OutOfRange}
 use Rattle.number.specs.Compare.{size_within}
 use Rattle.number.specs.declared.Number.{Number}
 use Rattle.number.specs.declared.Number.TheVariants.{Char, Int, Float}
@@ -40,10 +36,10 @@ use Rattle.machine.specs.declared.OpenFile.{OpenFile}
 use Rattle.machine.proofs.Fields.Names.{is-name-good}
 
 -- a size that is not refused is one of the disc's
-sized-within : (max n : ℕ) (z : ℤ) → sized (within max z) ≡ Is n → leb 1 n && leb n max ≡ true
+sized-within : (max n : ℕ) (z : ℤ) → sized (within max z) ≡ Some n → leb 1 n && leb n max ≡ true
 sized-within max n z e = go (in_range max z) refl z refl e
   where
-    go : (inside : Bool) → in_range max z ≡ inside → (y : ℤ) → y ≡ z → sized (cond inside (whole.Is y) OutOfRange) ≡ Is n → leb 1 n
+    go : (inside : Bool) → in_range max z ≡ inside → (y : ℤ) → y ≡ z → sized (cond inside (Some y) None) ≡ Some n → leb 1 n
         && leb n max ≡ true
     go false p y q h = absurd (let x : ◌≡◌ {A = ℕ} 0 1 = cc in omega arith)
     go true p (pos zero) q h = absurd (let x : ◌≡◌ {A = ℕ} 0 1 = cc in omega arith)
@@ -53,20 +49,20 @@ sized-within max n z e = go (in_range max z) refl z refl e
         let below : leb (suc m) max ≡ true = subst (λ (y : ℤ). in_range max y ≡ true) (sym q) p in
         subst (λ (i : ℕ). leb 1 i && leb i max ≡ true) x (and_both (le-leb 1 (suc m) (omega arith)) below)
 
-size-within : (max n : ℕ) (size : Number) → size_within max size ≡ Is n → leb 1 n && leb n max ≡ true
+size-within : (max n : ℕ) (size : Number) → size_within max size ≡ Some n → leb 1 n && leb n max ≡ true
 unfolding size_of
 size-within max n (Char x) e = sized-within max n x e
 size-within max n (Int x) e = sized-within max n x e
 size-within max n (Float x) e = float-within x e
   where
-    float-within : (x : Binary32) → size_of max x ≡ Is n → leb 1 n && leb n max ≡ true
+    float-within : (x : Binary32) → size_of max x ≡ Some n → leb 1 n && leb n max ≡ true
     float-within nan e = absurd (let x : ◌≡◌ {A = ℕ} 0 1 = cc in omega arith)
     float-within (inf s) e = absurd (let x : ◌≡◌ {A = ℕ} 0 1 = cc in omega arith)
     float-within (fin s m e) h = sized-within max n (signed s (m * up e / down e)) h
 
 module _ (disc name : List ℕ) (long : is_disc_length (length disc) ≡ true) (good : good_disc disc ≡ true) where
   -- a file of that name would have been opened, so that it exists is no reason
-  denial-refuses : (n : ℕ) (size : Size) → size ≡ Is n → good_size disc n ≡ true → lookup disc name ≡ None → (r : Refusal)
+  denial-refuses : (n : ℕ) (size : Option ℕ) → size ≡ Some n → good_size disc n ≡ true → lookup disc name ≡ None → (r : Refusal)
       → admission disc name n ≡ Denied r → Denial disc name n r → NewFileRefused disc name size
   denial-refuses n size e fit new WrongLength a d = absurd (true-not-false long d)
   denial-refuses n size e fit new BadDisc a d = absurd (true-not-false good d)
@@ -79,7 +75,7 @@ module _ (disc name : List ℕ) (long : is_disc_length (length disc) ≡ true) (
   denial-refuses n size e fit new ShortOutput a d = absurd d
   denial-refuses n size e fit new NoSuchFile a d = absurd d
 
-  pub new-file-refused : (size : Number) (n : ℕ) → new_file_size disc size ≡ Is n → lookup disc name ≡ None → (r : Refusal)
+  pub new-file-refused : (size : Number) (n : ℕ) → new_file_size disc size ≡ Some n → lookup disc name ≡ None → (r : Refusal)
       → admission disc name n ≡ Denied r → NewFileRefused disc name (new_file_size disc size)
   new-file-refused size n e new r a =
       denial-refuses n _ e (size-within (length disc - data_start) n size e) new r a (denied disc name n r a)
@@ -92,14 +88,14 @@ module _ (disc name : List ℕ) (long : is_disc_length (length disc) ≡ true) (
   unfolding answered
   open-cases k slot l size P goes refused = found (lookup disc name) refl
     where
-      create : lookup disc name ≡ None → (n : ℕ) → new_file_size disc size ≡ Is n → (a : Admission)
+      create : lookup disc name ≡ None → (n : ℕ) → new_file_size disc size ≡ Some n → (a : Admission)
           → admission disc name n ≡ a → P (created_at k slot disc a name n l)
       create new n e (Start s) a = goes (opened (run_from s n)) (stored disc name (zeros n) s)
       create new n e (Denied r) a = refused new (new-file-refused size n e new r a)
 
-      judged : lookup disc name ≡ None → (s : Size) → new_file_size disc size ≡ s → P (created k slot disc s name l)
-      judged new Improper e = refused new (by_size e)
-      judged new (Is n) e = create new n e (admission disc name n) refl
+      judged : lookup disc name ≡ None → (s : Option ℕ) → new_file_size disc size ≡ s → P (created k slot disc s name l)
+      judged new None e = refused new (by_size e)
+      judged new (Some n) e = create new n e (admission disc name n) refl
 
       found : (f : Option ℕ) → lookup disc name ≡ f → P (opened_at k slot disc f name size l)
       found (Some i) e = goes (opened (run_from (entry_at disc i).start (entry_at disc i).len)) disc

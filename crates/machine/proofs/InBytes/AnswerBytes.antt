@@ -11,8 +11,6 @@ use lib.ListN.{drop, length, length-append}
 use borrow.Author.Tests.{leb-true}
 use Rattle.buffer.specs.Buffer.{zeros}
 use Rattle.buffer.specs.Lists.{any}
-use Rattle.float.specs.declared.whole.Size.{Size}
-use Rattle.float.specs.declared.whole.Size.TheVariants.{Is, Refused}
 use Rattle.number.specs.declared.Number.{Number}
 use Rattle.place.specs.Place.{run_from}
 use Rattle.disc.specs.Directory.{contents, entry_at, files, lookup}
@@ -102,9 +100,9 @@ module _ {k : Kernel} {disc : List ℕ} (good : GoodState k disc) (h : ByteKerne
       judged n (Start s) e = create n s (admitted disc name n s e)
       judged n (Denied r) e = omega arith
 
-      sized : (s : Size) → ByteAnswered (created k slot disc s name l)
-      sized (Is n) = judged n (admission disc name n) refl
-      sized Refused = omega arith
+      sized : (s : Option ℕ) → ByteAnswered (created k slot disc s name l)
+      sized (Some n) = judged n (admission disc name n) refl
+      sized None = omega arith
 
       found : (f : Option ℕ) → ByteAnswered (opened_at k slot disc f name size l)
       found (Some i) =

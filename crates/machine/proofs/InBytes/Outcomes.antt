@@ -1,4 +1,5 @@
 -- What an operator answers to numbers that fit their types fits its type.
+use Rattle.std.specs.Prelude.{None, Option, Some}
 use Prim.Native.Nat.{ℕ, zero, suc, ◌*◌, ◌/◌, ◌%◌, ◌<◌, ◌^◌}
 use mathlib.Core.Path.{◌≡◌, refl, sym}
 use mathlib.Core.Bool.{Bool, true, false, cond, not}
@@ -19,8 +20,6 @@ use Rattle.float.specs.Sqrt.{root_of_units, sqrt_of}
 use Rattle.float.specs.Whole.{whole_of}
 use Rattle.float.specs.declared.whole.Rounding.{Rounding}
 use Rattle.float.specs.declared.whole.Rounding.TheVariants.{TowardZero, HalfAway, Down, Up}
-use Rattle.float.specs.declared.whole.Whole.{Whole}
-use Rattle.float.specs.declared.whole.Whole.TheVariants.{Is, OutOfRange as Beyond}
 use Rattle.float.proofs.Sizes.{whole-fits}
 use Rattle.operator.specs.Arithmetic.{arithmetic, divisible, real, whole}
 use Rattle.operator.specs.Binary.{binary, bitwise, compared, connected, extremum, replaces, whole_bits}
@@ -111,9 +110,9 @@ module _ (w : Width) (k : ℤ → Number) (is : (z : ℤ) → SFits w z → Fits
   cut-answers : (r : Rounding) (max : ℕ) (x : Binary32) → max < 2 ^ hbits w → Answers (value_or k (whole_of r max x))
   cut-answers r max x h = go (whole_of r max x) refl
     where
-      go : (o : Whole) → whole_of r max x ≡ o → Answers (value_or k o)
-      go (Is z) e = is z (whole-fits w r max x h (sym e))
-      go Beyond e = tt
+      go : (o : Option ℤ) → whole_of r max x ≡ o → Answers (value_or k o)
+      go (Some z) e = is z (whole-fits w r max x h (sym e))
+      go None e = tt
 
 -- ---- FLOATs
 real-answers : (o : Arithmetic) (x y : Binary32) → Answers (real o x y)

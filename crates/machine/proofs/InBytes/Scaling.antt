@@ -1,4 +1,5 @@
 -- What CONSTRAIN, MAP and POW answer to numbers that fit their types fits its type.
+use Rattle.std.specs.Prelude.{None, Option, Some}
 use Prim.Native.Nat.{ℕ, zero, suc}
 use lib.Dec.{T}
 use lib.Ieee.{Float as Binary32, binary32, fits}
@@ -19,8 +20,6 @@ use Rattle.scaling.specs.Map.{exact, map_exact, map_real, mapped, mapped_as, rea
 use Rattle.scaling.specs.Power.{exponent, power, power_real, raised, raised_by}
 use Rattle.scaling.specs.declared.map.Kind.{Kind}
 use Rattle.scaling.specs.declared.map.Kind.TheVariants as kind
-use Rattle.scaling.specs.declared.power.Exponent.{Exponent}
-use Rattle.scaling.specs.declared.power.Exponent.TheVariants.{Is, Refused}
 use Rattle.machine.proofs.InBytes.Outcomes.{Answers, divisible-answers, extremum-fits, promoted-fit}
 
 pub constrained-fits : (x a b : Number) → Fits x → Fits a → Fits b → Fits (constrained x a b)
@@ -55,6 +54,6 @@ pub power-answers : (x y : Number) → Answers (power x y)
 unfolding power
 power-answers x y = go (exponent y)
   where
-    go : (e : Exponent) → Answers (raised_by (promoted x y) e)
-    go (Is n) = raised-fits (promoted x y) n
-    go Refused = tt
+    go : (e : Option ℕ) → Answers (raised_by (promoted x y) e)
+    go (Some n) = raised-fits (promoted x y) n
+    go None = tt

@@ -9,8 +9,6 @@ use lib.Dec.{ltb}
 use lib.ListN.{length, get_or, length-replicate}
 use lib.Seq.{take_at}
 use Rattle.buffer.specs.Buffer.{zeros}
-use Rattle.float.specs.declared.whole.Size.{Size}
-use Rattle.float.specs.declared.whole.Size.TheVariants.{Is, Refused}
 use Rattle.number.specs.declared.Number.{Number}
 use Rattle.operator.specs.Instruction.{lookup as lookup_operator, operator_of}
 use Rattle.operator.specs.declared.instruction.Types.TheVariants.{AnyNumber, AnyString}
@@ -90,9 +88,9 @@ module _ {k : Kernel} {disc : List ℕ} (good : GoodState k disc) (slot clock : 
           subst⁻¹ (λ (r : Process). Fresh p.id r (stored disc name (zeros n) s))
           (put-at k slot (with_file (with_local p l) (opened (run_from s n))) live) (create name l room n s (admitted disc name n s q))
 
-      sized : (s : Size) → Leaves (answering k slot disc (created k slot disc s name l))
-      sized Refused e = same_count e
-      sized (Is n) e = judged n (admission disc name n) refl e
+      sized : (s : Option ℕ) → Leaves (answering k slot disc (created k slot disc s name l))
+      sized None e = same_count e
+      sized (Some n) e = judged n (admission disc name n) refl e
 
       found : (f : Option ℕ) → Leaves (answering k slot disc (opened_at k slot disc f name size l))
       found (Some i) e = same_count e

@@ -11,8 +11,6 @@ use lib.ListN.{length, drop, get_or, length-replicate}
 use borrow.Author.Tests.{eqb-false, leb-true}
 use Rattle.buffer.specs.Buffer.{zeros}
 use Rattle.buffer.proofs.Lists.{tab-at, tab-length}
-use Rattle.float.specs.declared.whole.Size.{Size}
-use Rattle.float.specs.declared.whole.Size.TheVariants.{Is, Refused}
 use Rattle.number.specs.declared.Number.{Number}
 use Rattle.place.specs.Place.{run_from}
 use Rattle.disc.specs.Directory.{contents, entry_at, file_count, files, lookup}
@@ -127,9 +125,9 @@ module _ {k : Kernel} {disc : List ℕ} (good : GoodState k disc) (slot : ℕ) (
       judged n (Start s) e = create n s (admitted disc title n s e)
       judged n (Denied r) e = faulted 13
 
-      sized : (s : Size) → Changes (created k slot disc s title l)
-      sized (Is n) = judged n (admission disc title n) refl
-      sized Refused = faulted 13
+      sized : (s : Option ℕ) → Changes (created k slot disc s title l)
+      sized (Some n) = judged n (admission disc title n) refl
+      sized None = faulted 13
 
       found : (f : Option ℕ) → lookup disc title ≡ f → Changes (opened_at k slot disc f title size l)
       found (Some i) e =

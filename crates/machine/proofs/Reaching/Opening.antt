@@ -5,8 +5,6 @@ use mathlib.Core.Path.{◌≡◌, refl, ap, subst⁻¹, ◌∙◌}
 use mathlib.Core.List.{List}
 use mathlib.Core.Logic.{◌⊎◌, inl, inr}
 use Rattle.buffer.specs.Buffer.{zeros}
-use Rattle.float.specs.declared.whole.Size.{Size}
-use Rattle.float.specs.declared.whole.Size.TheVariants.{Is, Refused}
 use Rattle.number.specs.Value.{number_of}
 use Rattle.number.specs.declared.Number.{Number}
 use Rattle.place.specs.Place.{run_from}
@@ -59,7 +57,7 @@ module _ (b : Buffers) (slot clock : ℕ) where
   abbrev NewFile : List ℕ → List ℕ → Number → Type 0
   NewFile rest text size =
       (NewFileRefused b.disc text (new_file_size b.disc size) × Faults b slot clock 13)
-      ⊎ ((n : ℕ) × (new_file_size b.disc size ≡ Is n) × Creates b slot clock rest text n)
+      ⊎ ((n : ℕ) × (new_file_size b.disc size ≡ Some n) × Creates b slot clock rest text n)
 
   pub open-exactly : OpenExactly b slot clock
   unfolding answered
@@ -80,7 +78,7 @@ module _ (b : Buffers) (slot clock : ℕ) where
       good : GoodState k b.disc
       good = passes-good b.disc b.area a.may.passes
 
-      admit : lookup b.disc text ≡ None → (n : ℕ) → new_file_size b.disc size ≡ Is n → (v : Admission)
+      admit : lookup b.disc text ≡ None → (n : ℕ) → new_file_size b.disc size ≡ Some n → (v : Admission)
           → admission b.disc text n ≡ v
           → answered k slot b.disc r ≡ created_at k slot b.disc v text n l → NewFile rest text size
       admit new n fit (Denied w) e h =
@@ -93,10 +91,10 @@ module _ (b : Buffers) (slot clock : ℕ) where
           let placed = placed-shortest b.disc n s d.some d.found in
           inr (n, fit, (good-is-name text d.good, d.few, (s, placed, on.0, enters)))
 
-      sized : lookup b.disc text ≡ None → (s : Size) → new_file_size b.disc size ≡ s
+      sized : lookup b.disc text ≡ None → (s : Option ℕ) → new_file_size b.disc size ≡ s
           → answered k slot b.disc r ≡ created k slot b.disc s text l → NewFile rest text size
-      sized new Refused e h = inl (by_size e, broken-by b slot clock a.may r does 13 h)
-      sized new (Is n) e h = admit new n e (admission b.disc text n) refl h
+      sized new None e h = inl (by_size e, broken-by b slot clock a.may r does 13 h)
+      sized new (Some n) e h = admit new n e (admission b.disc text n) refl h
 
       found : (f : Option ℕ) → lookup b.disc text ≡ f → Opens b slot clock rest text ⊎ (NoFile b.disc text × NewFile rest text size)
       found (Some i) e =

@@ -1,9 +1,9 @@
 -- A file of the size asked for, cut toward zero, or fault 13.
+use Rattle.std.specs.Prelude.{Option}
 use Prim.Native.Nat.{ℕ}
 use mathlib.Core.Path.{◌≡◌, sym, ap, ◌∙◌}
 use mathlib.Core.List.{List}
 use native.Mathlib.Omega.{arith}
-use Rattle.float.specs.declared.whole.Size.{Size}
 use Rattle.number.specs.Compare.{size_within}
 use Rattle.number.specs.declared.Number.{Number}
 use Rattle.machine.specs.Area.{kernel_of}
@@ -16,7 +16,7 @@ use Rattle.request.proofs.Answering.{answers, breaks-off}
 use Rattle.request.proofs.open.open_new.Goals as goal
 
 -- the size that the test gives is the one that the disc's limit gives
-size-is : (disc : List ℕ) (size : Number) {max : ℕ} {s t : Size} → t ≡ s → t ≡ size_within max size → max ≡ size_limit disc
+size-is : (disc : List ℕ) (size : Number) {max : ℕ} {s t : Option ℕ} → t ≡ s → t ≡ size_within max size → max ≡ size_limit disc
     → s ≡ new_file_size disc size
 size-is disc size e f g = sym e ∙ f ∙ ap (λ (m : ℕ). size_within m size) (g ∙ size-limit-is disc)
 
@@ -26,7 +26,7 @@ overflow_cast-max c = omega (arith, c.size_limit-max.ensures, size-limit-is c.ar
 pub returns-in-Is : goal.returns-in-Is
 returns-in-Is c =
     let a = c.args in
-    let answer : Size → Answered =
+    let answer : Option ℕ → Answered =
     λ x. created (kernel_of a.area.now) a.slot a.disc.now x (about a.d) (keeping (stack_of a.p) a.d) in
     answers c.requires.0 a.disc.now c.create_file.ensures
     (ap answer (size-is a.disc.now a.size c.in-Is.is c.size_within.ensures c.size_limit-max.ensures))
@@ -34,7 +34,7 @@ returns-in-Is c =
 pub returns-in-Refused : goal.returns-in-Refused
 returns-in-Refused c =
     let a = c.args in
-    let answer : Size → Answered =
+    let answer : Option ℕ → Answered =
     λ x. created (kernel_of a.area.now) a.slot a.disc.now x (about a.d) (keeping (stack_of a.p) a.d) in
     breaks-off c.requires.0 a.disc.now
     (ap answer (sym (size-is a.disc.now a.size c.in-Refused.is c.size_within.ensures c.size_limit-max.ensures)))
