@@ -1,47 +1,18 @@
--- Patterns of 32 bits: which are a NaN's, and what value the three fields of another one make. Assumes nothing.
-use Rattle.std.proofs.Common.{◌≡◌, ℕ, zero, suc, ◌+◌, ◌-◌, ◌*◌, ◌/◌, ◌%◌, ◌^◌, ◌<◌, ◌≤◌, Bool, true, false, cond, not, T, eqb, leb, ◌⊎◌}
-use Rattle.std.proofs.Common.{sym, refl, ap, ◌∙◌, subst, inl, inr, arith, le-ltb, lt-ltb, ne_eqb, eqb-true}
+-- Patterns of 32 bits: NaN's, and what value the three fields of another one make. Assumes nothing.
+use Rattle.std.proofs.Common.{◌≡◌, ℕ, zero, suc, ◌+◌, ◌-◌, ◌*◌, ◌/◌, ◌%◌, ◌^◌, Bool, true, false, cond, T, eqb, leb, ◌⊎◌}
+use Rattle.std.proofs.Common.{sym, refl, ap, ◌∙◌, subst, inl, inr, arith, ne_eqb, eqb-true}
 use mathlib.Core.Path.{subst⁻¹}
 use borrow.Author.Tests.{eqb-false}
-use lib.Ieee.{Float, nan, inf, fin, Format, binary32, fits, hid, is_nan, nan_bits, ne, odd, of_bits, of_fields, ones, to_bits, top}
-use lib.Ieee.Bits.{nan_bits_above, nan_bits_is, of_bits-to_bits}
-use lib.Ieee.Compare.{differs_from_itself, nan_differs}
+use lib.Ieee.{Float, nan, inf, binary32, fits, odd, of_bits, of_fields, to_bits}
+use lib.Ieee.Bits.{of_bits-to_bits}
 use lib.Ieee.Exact.{HasValue, odd_sign}
 use lib.Ieee.Scale.{finite}
 use Rattle.float.specs.Decode.{IsFinite}
-use Rattle.float.proofs.Tests.{true-false}
 
 -- Document 01: "A NaN result is stored as hex 7FC00000."
 pub nan_pattern : to_bits binary32 nan ≡ 2143289344
 unfolding to_bits
 nan_pattern = refl
-
-pub pattern-nan : of_bits binary32 2143289344 ≡ nan
-unfolding of_bits
-pattern-nan = refl
-
--- ---- a NaN is what differs from itself
-pub equal_no_nan : (x : Float) → ne x x ≡ false → T (not (is_nan x))
-unfolding is_nan
-equal_no_nan nan h = true-false nan_differs h
-equal_no_nan (inf s) h = tt
-equal_no_nan (fin s m e) h = tt
-
-pub unequal-nan : (x : Float) → ne x x ≡ true → x ≡ nan
-unequal-nan x h = differs_from_itself x (subst T (sym h) tt)
-
-is-nan : (x : Float) → is_nan x ≡ true → x ≡ nan
-unfolding is_nan
-is-nan nan h = refl
-is-nan (inf s) h = true-false h refl
-is-nan (fin s m e) h = true-false h refl
-
--- ---- a NaN's pattern, its sign aside, is above that of the infinity
-pub low-no-nan : (f : Format) (n : ℕ) → n % top f ≤ ones f * hid f → T (not (nan_bits f n))
-low-no-nan f n h = subst (λ (b : Bool). T (not b)) (sym (nan_bits_above f n ∙ le-ltb _ _ h)) tt
-
-pub high-nan : (f : Format) (n : ℕ) → ones f * hid f < n % top f → of_bits f n ≡ nan
-high-nan f n h = is-nan (of_bits f n) (sym (nan_bits_is f n) ∙ nan_bits_above f n ∙ lt-ltb _ _ h)
 
 -- ---- the fields of a pattern b
 pub read_back : (x : Float) (b : ℕ) → fits binary32 x ≡ true → b ≡ to_bits binary32 x → of_bits binary32 b ≡ x

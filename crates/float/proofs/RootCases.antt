@@ -1,12 +1,11 @@
 -- The root of each kind of value. Assumes nothing.
 use Rattle.std.proofs.Common.{◌≡◌, ℕ, zero, suc, ◌*◌, ◌/◌, ◌^◌, ◌<◌, Bool, true, false, ℤ, sym, refl, ap, ◌∙◌, true≢false, mul-pos}
 use Rattle.std.proofs.Common.{zero-mul, mul-div_cancel, arith, pow_pos}
-use lib.Ieee.{Float, nan, inf, fin, binary32, down, of_bits, up}
+use lib.Ieee.{Float, nan, inf, fin, down, up}
 use lib.Ieee.Exact.{HasValue}
 use lib.Ieee.Fits.{down_pos, up_pos}
 use Rattle.float.specs.Decode.{IsFinite}
 use Rattle.float.specs.Sqrt.{root_of_units, sqrt_of}
-use Rattle.float.proofs.Patterns.{pattern-nan}
 
 module _ (x : Float) where
   pub root-nan : x ≡ nan → x ≡ sqrt_of x
@@ -17,9 +16,9 @@ module _ (x : Float) where
   unfolding sqrt_of
   root-infinite s e f = e ∙ ap inf f ∙ ap (λ (b : Bool). sqrt_of (inf b)) (sym f) ∙ ap sqrt_of (sym e)
 
-  pub root-minus-infinite : (s : Bool) {r : Float} → x ≡ inf s → s ≡ true → r ≡ of_bits binary32 2143289344 → r ≡ sqrt_of x
+  pub root-minus-infinite : (s : Bool) → x ≡ inf s → s ≡ true → nan ≡ sqrt_of x
   unfolding sqrt_of
-  root-minus-infinite s e f u = u ∙ pattern-nan ∙ ap (λ (b : Bool). sqrt_of (inf b)) (sym f) ∙ ap sqrt_of (sym e)
+  root-minus-infinite s e f = ap (λ (b : Bool). sqrt_of (inf b)) (sym f) ∙ ap sqrt_of (sym e)
 
 -- ---- a finite value that is a / 2 ^ 149: it is zero where a is
 none : (n : ℕ) → 0 < n → n ≡ 0 → ⊥
@@ -40,12 +39,12 @@ module _ (s : Bool) (a : ℕ) where
     above t e v = none (a * down e) (mul-pos some (down_pos e)) (sym v.1 ∙ ap (λ (n : ℕ). n * 2 ^ 149) (zero-mul (up e))
         ∙ zero-mul (2 ^ 149))
 
-    root-negative : (x : Float) {r : Float} → HasValue x s a (2 ^ 149) → s ≡ true → r ≡ of_bits binary32 2143289344 → r ≡ sqrt_of x
+    root-negative : (x : Float) → HasValue x s a (2 ^ 149) → s ≡ true → nan ≡ sqrt_of x
     unfolding sqrt_of
-    root-negative nan v f u = absurd v
-    root-negative (inf t) v f u = absurd v
-    root-negative (fin t zero e) v f u = absurd (above t e v)
-    root-negative (fin t (suc m) e) v f u = u ∙ pattern-nan ∙ ap (λ (b : Bool). sqrt_of (fin b (suc m) e)) (sym (v.0 ∙ f))
+    root-negative nan v f = absurd v
+    root-negative (inf t) v f = absurd v
+    root-negative (fin t zero e) v f = absurd (above t e v)
+    root-negative (fin t (suc m) e) v f = ap (λ (b : Bool). sqrt_of (fin b (suc m) e)) (sym (v.0 ∙ f))
 
     pub root-positive : (x : Float) → HasValue x s a (2 ^ 149) → s ≡ false → root_of_units a ≡ sqrt_of x
     unfolding sqrt_of
@@ -64,8 +63,8 @@ module _ {x : Float} {s : Bool} {t k : ℕ} (d : IsFinite x s t k) where
     above_zero : 0 < t * 2 ^ k
     above_zero = mul-pos {m = t} (omega arith) (pow_pos k)
 
-    pub finite-negative : {r : Float} → s ≡ true → r ≡ of_bits binary32 2143289344 → r ≡ sqrt_of x
-    finite-negative e u = root-negative s (t * 2 ^ k) above_zero x d.value e u
+    pub finite-negative : s ≡ true → nan ≡ sqrt_of x
+    finite-negative e = root-negative s (t * 2 ^ k) above_zero x d.value e
 
     pub finite-positive : s ≡ false → root_of_units (t * 2 ^ k) ≡ sqrt_of x
     finite-positive e = root-positive s (t * 2 ^ k) above_zero x d.value e

@@ -3,7 +3,7 @@ ghost use Rattle.std.specs.Prelude.{◌≡◌, ◌*◌, ◌^◌, ◌<◌, ◌≤
 ghost use Rattle.float.specs.Sqrt.{CorrectlyRounded, root_of_units, sqrt_of};
 ghost use Rattle.float.specs.Scale.{IsScaled};
 
-use crate::bits::{NAN, from_bits};
+use crate::bits::from_bits;
 use crate::decode::{Decoded, UNIT, decode};
 
 // significand * 2^exponent as radicand * 4^shift, the radicand even, from 2^48 up and below 2^50: its root has 25
@@ -45,13 +45,13 @@ pub fn sqrt(x: f32) -> f32
 {
     match decode(x) {
         Decoded::NotANumber => x,
-        Decoded::Infinite(negative) => if negative { from_bits(NAN) } else { x },
+        Decoded::Infinite(negative) => if negative { f32::NAN } else { x },
         Decoded::Finite(negative, significand, exponent) => {
             if significand == 0 {
                 return x;
             }
             if negative {
-                from_bits(NAN)
+                f32::NAN
             } else {
                 positive_root(significand, exponent)
             }

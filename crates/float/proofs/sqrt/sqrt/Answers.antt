@@ -9,10 +9,10 @@ pub returns-in-NotANumber : goal.returns-in-NotANumber
 returns-in-NotANumber c = root-nan c.args.x (subst (IsDecoded c.args.x) c.in-NotANumber.is c.decode.ensures)
 
 pub returns-then-negative : goal.returns-then-negative
+unfolding lib.Ieee.of_bits
 returns-then-negative c =
     let g = c.in-Infinite in
     root-minus-infinite c.args.x g.negative (subst (IsDecoded c.args.x) g.is c.decode.ensures) c.if-negative.true
-    c.from_bits.ensures
 
 pub returns-else-negative : goal.returns-else-negative
 returns-else-negative c =
@@ -24,9 +24,10 @@ returns-then-significand-eq0 c =
     finite-zero (finite c.args.x c.decode.ensures c.in-Finite.is) c.if-significand-eq0.true
 
 pub returns-then-negative-2 : goal.returns-then-negative-2
+unfolding lib.Ieee.of_bits
 returns-then-negative-2 c =
     let parts = finite c.args.x c.decode.ensures c.in-Finite.is in
-    finite-negative parts c.if-significand-eq0.false c.if-negative-2.true c.from_bits-then-negative-2.ensures
+    finite-negative parts c.if-significand-eq0.false c.if-negative-2.true
 
 pub returns-else-negative-2 : goal.returns-else-negative-2
 returns-else-negative-2 c =
