@@ -1,14 +1,6 @@
--- The root stays between low and low + width, which falls to 1.
-use native.Mathlib.Omega.{arith}
-use Rattle.root.proofs.Bisection.{upper-half, lower-half, single}
+-- The library's root meets the two bounds, and no other number does.
+use Rattle.root.proofs.Squares.{root-met}
 use Rattle.root.proofs.whole_root.Goals as goal
-use Rattle.root.proofs.whole_root.Goals.{then-low-half, else-low-half}
-
-pub loop-width-preserved : goal.loop-width-preserved
-loop-width-preserved c = let l = c.loop-width in elim c.if-low-half.branch [
-  | then-low-half w ↦ upper-half c.args.n l.low l.width l.invariant (omega arith) w.low-is w.if-low-half.true
-  | else-low-half w ↦ lower-half c.args.n l.low l.width l.invariant (omega arith) w.low-is w.if-low-half.false
-]
 
 pub returns : goal.returns
-returns c = single c.args.n c.loop-width.low c.loop-width.width c.loop-width.invariant c.loop-width-test.false
+returns c = root-met (record { low = c.isqrt.ensures.square_le; high = c.isqrt.ensures.next_square_gt })
