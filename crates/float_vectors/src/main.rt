@@ -8,7 +8,7 @@ use float::bits::{from_bytes, to_bits};
 use float::compare::{equals_whole, is_zero};
 use float::print::{Printed, to_printed};
 use float::sqrt::sqrt;
-use float::whole::{Rounding, Size, Whole, to_size, to_whole};
+use float::whole::{Rounding, to_size, to_whole};
 use std::io;
 use std::io::Read;
 
@@ -34,17 +34,17 @@ fn put(line: &mut [u8; LINE], at: usize, count: usize, value: u64)
 }
 
 // 32 bits in two's complement, and 2^32 for out of range.
-fn whole_code(w: Whole) -> u64 {
+fn whole_code(w: Option<i32>) -> u64 {
     match w {
-        Whole::Is(z) => u64::from(z.cast_unsigned()),
-        Whole::OutOfRange => 0x1_0000_0000,
+        Some(z) => u64::from(z.cast_unsigned()),
+        None => 0x1_0000_0000,
     }
 }
 
-fn size_code(s: Size) -> u64 {
+fn size_code(s: Option<u16>) -> u64 {
     match s {
-        Size::Is(n) => n as u64,
-        Size::Refused => 0,
+        Some(n) => n as u64,
+        None => 0,
     }
 }
 

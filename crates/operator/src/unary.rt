@@ -7,7 +7,7 @@ ghost use Rattle.operator.specs.Unary.{negated, magnitude, absolute, square_root
 use crate::binary::flagged;
 use crate::operators::{Arithmetic, Binary, Connective, Conversion, Unary};
 use crate::{Outcome, binary};
-use float::whole::{Rounding, Whole, to_whole};
+use float::whole::{Rounding, to_whole};
 use number::Number;
 use number::value::is_zero;
 
@@ -63,8 +63,8 @@ fn float_to_char(x: f32) -> Outcome
     ensures { result ≡ value_or Number.Char (whole_of Rounding.TowardZero 127 x) }
 {
     match to_whole(x, Rounding::TowardZero, LARGEST_CHAR) {
-        Whole::Is(z) => Outcome::Value(Number::Char(z as i8)),
-        Whole::OutOfRange => Outcome::OutOfRange,
+        Some(z) => Outcome::Value(Number::Char(z as i8)),
+        None => Outcome::OutOfRange,
     }
 }
 
@@ -72,8 +72,8 @@ fn float_to_int(x: f32, rounding: Rounding) -> Outcome
     ensures { result ≡ value_or Number.Int (whole_of rounding 32767 x) }
 {
     match to_whole(x, rounding, LARGEST_INT) {
-        Whole::Is(z) => Outcome::Value(Number::Int(z as i16)),
-        Whole::OutOfRange => Outcome::OutOfRange,
+        Some(z) => Outcome::Value(Number::Int(z as i16)),
+        None => Outcome::OutOfRange,
     }
 }
 

@@ -9,7 +9,6 @@ ghost use Rattle.stack.specs.Steps.{about, keeping};
 ghost use Rattle.disc.specs.Directory.{Readable};
 ghost use Rattle.store.specs.File.{admission};
 
-use float::whole::Size;
 use machine::{OpenFile, Process};
 use number::Number;
 use number::compare::size_within;
@@ -63,8 +62,8 @@ fn open_new(disc: &mut [u8], area: &mut [u8], slot: usize, p: Process, d: Step, 
 {
     let max = store::file::size_limit(disc);
     match size_within(size, max as u16) {
-        Size::Is(n) => create_file(disc, area, slot, p, d, n),
-        Size::Refused => finish(area, slot, FILE_REFUSED),
+        Some(n) => create_file(disc, area, slot, p, d, n),
+        None => finish(area, slot, FILE_REFUSED),
     }
 }
 

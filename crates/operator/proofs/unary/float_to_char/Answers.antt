@@ -9,8 +9,8 @@ use Rattle.operator.proofs.unary.float_to_char.Goals as goal
 
 pub overflow_cast-result : goal.overflow_cast-result
 overflow_cast-result c =
-    narrows w8 (omega arith) TowardZero c.args.x c.to_whole.ensures c.in-Is.z c.in-Is.is (search rules)
+    narrows w8 (omega arith) TowardZero c.args.x c.to_whole.ensures c.in-Some.z c.in-Some.is (search rules)
 
-pub returns-in-Is : goal.returns-in-Is
-returns-in-Is c =
-    narrowed w8 (omega arith) TowardZero c.args.x c.to_whole.ensures c.in-Is.z c.in-Is.is (search rules) Char
+pub returns-in-Some : goal.returns-in-Some
+returns-in-Some c =
+    narrowed w8 (omega arith) TowardZero c.args.x c.to_whole.ensures c.in-Some.z c.in-Some.is (search rules) Char

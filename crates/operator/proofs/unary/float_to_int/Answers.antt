@@ -8,8 +8,8 @@ use Rattle.operator.proofs.unary.float_to_int.Goals as goal
 
 pub overflow_cast-result : goal.overflow_cast-result
 overflow_cast-result c =
-    narrows w16 (omega arith) c.args.rounding c.args.x c.to_whole.ensures c.in-Is.z c.in-Is.is (search rules)
+    narrows w16 (omega arith) c.args.rounding c.args.x c.to_whole.ensures c.in-Some.z c.in-Some.is (search rules)
 
-pub returns-in-Is : goal.returns-in-Is
-returns-in-Is c =
-    narrowed w16 (omega arith) c.args.rounding c.args.x c.to_whole.ensures c.in-Is.z c.in-Is.is (search rules) Int
+pub returns-in-Some : goal.returns-in-Some
+returns-in-Some c =
+    narrowed w16 (omega arith) c.args.rounding c.args.x c.to_whole.ensures c.in-Some.z c.in-Some.is (search rules) Int
