@@ -9,35 +9,29 @@ use number::Number;
 use number::promotion::{Pair, promote};
 use operator::Outcome;
 
-#[derive(Clone, Copy)]
-pub enum Exponent {
-    Is(u8),
-    Refused,
-}
-
 const MAX_EXPONENT: i16 = 15;
 
 // Document 02, Q-3: "POW takes a whole y from 0 to 15, else fault 8".
-fn whole_exponent(y: i16) -> Exponent
+fn whole_exponent(y: i16) -> Option<u8>
     ensures { result ≡ whole_exponent y }
 {
     if y < 0 {
-        return Exponent::Refused;
+        return None;
     }
     if y <= MAX_EXPONENT {
-        Exponent::Is(y as u8)
+        Some(y as u8)
     } else {
-        Exponent::Refused
+        None
     }
 }
 
-fn exponent_of(y: Number) -> Exponent
+fn exponent_of(y: Number) -> Option<u8>
     ensures { result ≡ exponent y }
 {
     match y {
         Number::Char(z) => whole_exponent(z as i16),
         Number::Int(z) => whole_exponent(z),
-        Number::Float(_) => Exponent::Refused,
+        Number::Float(_) => None,
     }
 }
 
@@ -76,12 +70,12 @@ fn raise(pair: Pair, n: u8) -> Number
     }
 }
 
-fn raise_by(pair: Pair, exponent: Exponent) -> Outcome
+fn raise_by(pair: Pair, exponent: Option<u8>) -> Outcome
     ensures { result ≡ raised_by pair exponent }
 {
     match exponent {
-        Exponent::Is(n) => Outcome::Value(raise(pair, n)),
-        Exponent::Refused => Outcome::OutOfRange,
+        Some(n) => Outcome::Value(raise(pair, n)),
+        None => Outcome::OutOfRange,
     }
 }
 

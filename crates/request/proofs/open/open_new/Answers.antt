@@ -23,19 +23,19 @@ size-is disc size e f g = sym e ∙ f ∙ ap (λ (m : ℕ). size_within m size) 
 pub overflow_cast-max : goal.overflow_cast-max
 overflow_cast-max c = omega (arith, c.size_limit-max.ensures, size-limit-is c.args.disc.now, c.requires.1.high)
 
-pub returns-in-Is : goal.returns-in-Is
-returns-in-Is c =
+pub returns-in-Some : goal.returns-in-Some
+returns-in-Some c =
     let a = c.args in
     let answer : Option ℕ → Answered =
     λ x. created (kernel_of a.area.now) a.slot a.disc.now x (about a.d) (keeping (stack_of a.p) a.d) in
     answers c.requires.0 a.disc.now c.create_file.ensures
-    (ap answer (size-is a.disc.now a.size c.in-Is.is c.size_within.ensures c.size_limit-max.ensures))
+    (ap answer (size-is a.disc.now a.size c.in-Some.is c.size_within.ensures c.size_limit-max.ensures))
 
-pub returns-in-Refused : goal.returns-in-Refused
-returns-in-Refused c =
+pub returns-in-None : goal.returns-in-None
+returns-in-None c =
     let a = c.args in
     let answer : Option ℕ → Answered =
     λ x. created (kernel_of a.area.now) a.slot a.disc.now x (about a.d) (keeping (stack_of a.p) a.d) in
     breaks-off c.requires.0 a.disc.now
-    (ap answer (sym (size-is a.disc.now a.size c.in-Refused.is c.size_within.ensures c.size_limit-max.ensures)))
+    (ap answer (sym (size-is a.disc.now a.size c.in-None.is c.size_within.ensures c.size_limit-max.ensures)))
     c.finish.ensures
