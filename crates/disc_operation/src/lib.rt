@@ -1,5 +1,4 @@
-// The operations on the disc alone, and their answers by document 01's numbers.
+// The operations on the disc alone.
 #![tactic(auto)]
 
-pub mod numbers;
 pub mod operations;

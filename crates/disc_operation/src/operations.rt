@@ -8,65 +8,53 @@ ghost use Rattle.store.specs.Answer.{retrieve_answer, store_answer, updated};
 
 use disc::Entry;
 use place::Run;
-use store::{Admission, Answer, Checked, Refusal};
+use store::{Answer, Refusal};
 
 // Document 01: "1: a buffer has the wrong length. 2: disc not good." Every operation tries these first.
-pub fn check(disc: &[u8]) -> Checked
+pub fn check(disc: &[u8]) -> Result<(), Refusal>
     ensures { result ≡ checked disc.now }
 {
     if !disc::good::is_disc_length(disc.len()) {
-        return Checked::Unusable(Refusal::WrongLength);
+        return Err(Refusal::WrongLength);
     }
     if !disc::good::is_good_disc(disc) {
-        return Checked::Unusable(Refusal::BadDisc);
+        return Err(Refusal::BadDisc);
     }
-    Checked::Usable
+    Ok(())
 }
 
 pub fn store(disc: &mut [u8], name: &[u8], data: &[u8]) -> Answer
     ensures { updated result disc.new ≡ store_answer disc.old name.now
         «data».now }
 {
-    if let Checked::Unusable(refusal) = check(disc) {
-        return Answer::Refused(refusal);
-    }
-    match store::file::admit(disc, name, data.len()) {
-        Admission::Denied(refusal) => Answer::Refused(refusal),
-        Admission::Start(start) => {
-            store::file::enter(disc, name, data.len(), start);
-            let run = Run {
-                start: start as u16,
-                len: data.len() as u16,
-            };
-            store::file::write_at(disc, run, 0, data);
-            Answer::Done(0)
-        }
-    }
+    check(disc)?;
+    let start = store::file::admit(disc, name, data.len())?;
+    store::file::enter(disc, name, data.len(), start);
+    let run = Run {
+        start: start as u16,
+        len: data.len() as u16,
+    };
+    store::file::write_at(disc, run, 0, data);
+    Ok(0)
 }
 
 pub fn retrieve(disc: &[u8], name: &[u8], out: &mut [u8]) -> Answer
     ensures { reported result out.new ≡ retrieve_answer disc.now name.now
         out.old }
 {
-    if let Checked::Unusable(refusal) = check(disc) {
-        return Answer::Refused(refusal);
+    check(disc)?;
+    let i = disc::directory::find(disc, name).ok_or(Refusal::NoSuchFile)?;
+    let entry = disc::directory::entry_at(disc, i);
+    let len = entry.len as usize;
+    if out.len() < len {
+        return Err(Refusal::ShortOutput);
     }
-    match disc::directory::find(disc, name) {
-        None => Answer::Refused(Refusal::NoSuchFile),
-        Some(i) => {
-            let entry = disc::directory::entry_at(disc, i);
-            let len = entry.len as usize;
-            if out.len() < len {
-                return Answer::Refused(Refusal::ShortOutput);
-            }
-            let run = Run {
-                start: entry.start,
-                len: entry.len,
-            };
-            store::file::read_at(disc, run, 0, &mut out[..len]);
-            Answer::Done(entry.len)
-        }
-    }
+    let run = Run {
+        start: entry.start,
+        len: entry.len,
+    };
+    store::file::read_at(disc, run, 0, &mut out[..len]);
+    Ok(entry.len)
 }
 
 // Document 01, Files: "a line per file, name, space, length, newline".
@@ -121,21 +109,17 @@ fn put_files(disc: &[u8], out: &mut [u8]) -> usize
 pub fn files(disc: &[u8], out: &mut [u8]) -> Answer
     ensures { reported result out.new ≡ files_answer disc.now out.old }
 {
-    if let Checked::Unusable(refusal) = check(disc) {
-        return Answer::Refused(refusal);
-    }
+    check(disc)?;
     if out.len() < files_length(disc) {
-        return Answer::Refused(Refusal::ShortOutput);
+        return Err(Refusal::ShortOutput);
     }
-    Answer::Done(put_files(disc, out) as u16)
+    Ok(put_files(disc, out) as u16)
 }
 
 // Document 01: "Free space: the longest free run, however many files there are."
 pub fn free_space(disc: &[u8]) -> Answer
     ensures { answer_number result ≡ free_space_answer disc.now }
 {
-    if let Checked::Unusable(refusal) = check(disc) {
-        return Answer::Refused(refusal);
-    }
-    Answer::Done(store::file::room_on(disc) as u16)
+    check(disc)?;
+    Ok(store::file::room_on(disc) as u16)
 }

@@ -1,5 +1,6 @@
 -- What disc and process table answer to an instruction that reaches beyond its process.
 use Rattle.std.specs.Prelude.{None, Option, Some}
+use Rattle.std.specs.Prelude.{Ok, Err, Result}
 use Rattle.std.specs.Prelude.{ℕ, ◌+◌, ◌-◌, ◌/◌, ◌%◌, Bool, true, false, cond, ◌&&◌, List, [], ◌∷◌, ◌++◌, eqb, leb, pos}
 use Rattle.std.specs.Prelude.{length, drop}
 use Rattle.buffer.specs.Buffer.{zeros}
@@ -11,8 +12,7 @@ use Rattle.disc.specs.Directory.{contents, entry_at, lookup}
 use Rattle.disc.specs.Layout.{data_start}
 use Rattle.disc.specs.Name.{trimmed}
 use Rattle.store.specs.File.{admission, read_at, stored, written_at}
-use Rattle.store.specs.declared.Admission.{Admission}
-use Rattle.store.specs.declared.Admission.TheVariants.{Start, Denied}
+use Rattle.store.specs.declared.Refusal.{Refusal}
 use Rattle.machine.specs.Effect.{Request, opens, closes, writes, reads, reads_string, forks, awaits}
 use Rattle.machine.specs.Limits.{stack_size}
 use Rattle.machine.specs.Stack.{push, push_string}
@@ -62,10 +62,10 @@ module _ (k : Kernel) (slot : ℕ) (disc : List ℕ) where
   -- ---- OPEN
   -- Document 01, fault 13: "OPEN's new file refused by name, size or store's 8 or 9". Document 02, Q-8: "OPEN now fills
   -- a file it creates with zeros."
-  abbrev pub created_at : Admission → List ℕ → ℕ → Local → Answered
-  created_at (Start s) name n l =
+  abbrev pub created_at : Result ℕ Refusal → List ℕ → ℕ → Local → Answered
+  created_at (Ok s) name n l =
       continues l (opened (record { start = s; len = n })) (stored disc name (zeros n) s)
-  created_at (Denied r) name n l = breaks 13
+  created_at (Err r) name n l = breaks 13
 
   abbrev pub created : Option ℕ → List ℕ → Local → Answered
   created (Some n) name l = created_at (admission disc name n) name n l

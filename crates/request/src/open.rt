@@ -15,7 +15,6 @@ use number::compare::size_within;
 use process::advance::go_on;
 use process::ending::finish;
 use stack::Step;
-use store::Admission;
 
 // Document 01, fault 13: "OPEN's new file refused by name, size or store's 8 or 9"
 const FILE_REFUSED: u8 = 13;
@@ -45,11 +44,11 @@ fn create_file(disc: &mut [u8], area: &mut [u8], slot: usize, p: Process, d: Ste
     let bytes = d.bytes;
     let len = d.len as usize;
     match store::file::admit(disc, &bytes[..len], n as usize) {
-        Admission::Start(start) => {
+        Ok(start) => {
             store::file::create(disc, &bytes[..len], n as usize, start);
             open_run(area, slot, p, d, start as u16, n);
         }
-        Admission::Denied(_) => finish(area, slot, FILE_REFUSED),
+        Err(_) => finish(area, slot, FILE_REFUSED),
     }
 }
 

@@ -1,4 +1,5 @@
 -- Why a file is admitted, and why it is not.
+use Rattle.std.specs.Prelude.{Ok, Err, Result}
 use Rattle.std.specs.Prelude.{None, Option, Some}
 use Prim.Native.Nat.{ℕ, ◌-◌, ◌≤◌, ◌<◌}
 use mathlib.Core.Path.{◌≡◌, refl, subst, subst⁻¹}
@@ -17,11 +18,10 @@ use Rattle.disc.specs.Layout.{data_start, max_files}
 use Rattle.disc.specs.Name.{good_name}
 use Rattle.disc.proofs.Goodness.{good-disc-is}
 use Rattle.store.specs.File.{admission, deny_if_found, good_size, place_of, start_or, unless}
-use Rattle.store.specs.declared.Admission.{Admission}
-use Rattle.store.specs.declared.Admission.TheVariants.{Start, Denied}
 use Rattle.store.specs.declared.Refusal.{Refusal}
-use Rattle.store.specs.declared.Refusal.TheVariants.{WrongLength, BadDisc, ShortOutput, BadName, BadSize, NameExists, DirectoryFull}
-use Rattle.store.specs.declared.Refusal.TheVariants.{NoRun, NoSuchFile}
+use Rattle.store.specs.declared.Refusal.TheVariants.{WrongLength, BadDisc, BadArea, ShortOutput, BadName, BadSize, NameExists}
+use Rattle.store.specs.declared.Refusal.TheVariants.{DirectoryFull, NoRun, NoSuchFile, FileInUse, NoSlot, NoId, NoProcess, SameState}
+use Rattle.store.specs.declared.Refusal.TheVariants.{NotRunning, BadShare}
 use Rattle.store.proofs.Rooms.{found-fits, no-place-none-fit}
 
 -- admitted at start s
@@ -47,12 +47,20 @@ Denial disc name n BadSize = good_size disc n ≡ false
 Denial disc name n DirectoryFull = max_files ≤ file_count disc
 Denial disc name n NameExists = (i : ℕ) × (lookup disc name ≡ Some i)
 Denial disc name n NoRun = (s : ℕ) → fits (taken disc) data_start (length disc) n s ≡ false
+Denial disc name n BadArea = ⊥
 Denial disc name n ShortOutput = ⊥
 Denial disc name n NoSuchFile = ⊥
+Denial disc name n FileInUse = ⊥
+Denial disc name n NoSlot = ⊥
+Denial disc name n NoId = ⊥
+Denial disc name n NoProcess = ⊥
+Denial disc name n SameState = ⊥
+Denial disc name n NotRunning = ⊥
+Denial disc name n BadShare = ⊥
 
-abbrev Verdict : List ℕ → List ℕ → ℕ → Admission → Type 0
-Verdict disc name n (Start s) = Admitted disc name n s
-Verdict disc name n (Denied r) = Denial disc name n r
+abbrev Verdict : List ℕ → List ℕ → ℕ → Result ℕ Refusal → Type 0
+Verdict disc name n (Ok s) = Admitted disc name n s
+Verdict disc name n (Err r) = Denial disc name n r
 
 module _ (disc name : List ℕ) (n : ℕ) where
   verdict : Verdict disc name n (admission disc name n)
@@ -64,7 +72,7 @@ module _ (disc name : List ℕ) (n : ℕ) where
           → (f : Option ℕ)
           → lookup disc name ≡ f → (g : Option ℕ) → place_of disc n ≡ g
           → Verdict disc name n
-          (unless a (Denied BadName) (unless b (Denied BadSize) (unless c (Denied DirectoryFull) (deny_if_found f (start_or g)))))
+          (unless a (Err BadName) (unless b (Err BadSize) (unless c (Err DirectoryFull) (deny_if_found f (start_or g)))))
       go false p b q c r f t g u = p
       go true p false q c r f t g u = q
       go true p true q false r f t g u = ltb-false (file_count disc) max_files r
@@ -80,12 +88,12 @@ module _ (disc name : List ℕ) (n : ℕ) where
             placed = found-fits disc n s u;
           }
 
-  pub admitted : (s : ℕ) → admission disc name n ≡ Start s → Admitted disc name n s
-  admitted s e = subst (λ (a : Admission). Verdict disc name n a) e verdict
+  pub admitted : (s : ℕ) → admission disc name n ≡ Ok s → Admitted disc name n s
+  admitted s e = subst (λ (a : Result ℕ Refusal). Verdict disc name n a) e verdict
 
-  pub denied : (r : Refusal) → admission disc name n ≡ Denied r → Denial disc name n r
-  denied r e = subst (λ (a : Admission). Verdict disc name n a) e verdict
+  pub denied : (r : Refusal) → admission disc name n ≡ Err r → Denial disc name n r
+  denied r e = subst (λ (a : Result ℕ Refusal). Verdict disc name n a) e verdict
 
   -- refusal 8 only with ten files
-  pub denied-full : good_disc disc ≡ true → admission disc name n ≡ Denied DirectoryFull → file_count disc ≡ max_files
+  pub denied-full : good_disc disc ≡ true → admission disc name n ≡ Err DirectoryFull → file_count disc ≡ max_files
   denied-full g e = let full : max_files ≤ file_count disc = denied DirectoryFull e in omega (arith, (good-disc-is disc g).few)

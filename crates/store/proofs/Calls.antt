@@ -1,4 +1,5 @@
 -- The calls as a whole: a refused number is below zero, why store is refused, and what free space says.
+use Rattle.std.specs.Prelude.{Ok, Err, Result}
 use Rattle.std.specs.Prelude.{None, Some}
 use Prim.Native.Nat.{ℕ, ◌<◌}
 use mathlib.Core.Path.{◌≡◌, refl, subst}
@@ -12,12 +13,10 @@ use lib.Signed.{◌<ℤ◌}
 use Rattle.disc.specs.Directory.{good_disc, is_disc_length}
 use Rattle.store.specs.Answer.{Updated, answer_number, free_space_answer, store_answer, store_at, updated}
 use Rattle.store.specs.File.{admission, place_of, room_on, stored}
-use Rattle.store.specs.declared.Admission.{Admission}
-use Rattle.store.specs.declared.Admission.TheVariants.{Start, Denied}
-use Rattle.store.specs.declared.Answer.TheVariants.{Done, Refused}
 use Rattle.store.specs.declared.Refusal.{Refusal}
-use Rattle.store.specs.declared.Refusal.TheVariants.{WrongLength, BadDisc, ShortOutput, BadName, BadSize, NameExists, DirectoryFull}
-use Rattle.store.specs.declared.Refusal.TheVariants.{NoRun, NoSuchFile}
+use Rattle.store.specs.declared.Refusal.TheVariants.{WrongLength, BadDisc, BadArea, ShortOutput, BadName, BadSize, NameExists}
+use Rattle.store.specs.declared.Refusal.TheVariants.{DirectoryFull, NoRun, NoSuchFile, FileInUse, NoSlot, NoId, NoProcess, SameState}
+use Rattle.store.specs.declared.Refusal.TheVariants.{NotRunning, BadShare}
 use Rattle.store.proofs.Checks.{by-checks}
 use Rattle.store.proofs.Admissions.{Admitted, Denial, admitted, denied}
 use Rattle.store.proofs.Rooms.{room-on-fits, room-on-most}
@@ -27,9 +26,10 @@ use Rattle.store.proofs.Rooms.{room-on-fits, room-on-most}
 pub done-not-below : (n : ℕ) → pos n <ℤ pos 0 → ⊥
 done-not-below n h = let l : n < 0 = ltb→lt n 0 h.lt in omega arith
 
-pub refused-below : (r : Refusal) → answer_number (Refused r) <ℤ pos 0
+pub refused-below : (r : Refusal) → answer_number (Err r) <ℤ pos 0
 refused-below WrongLength = record { lt = tt }
 refused-below BadDisc = record { lt = tt }
+refused-below BadArea = record { lt = tt }
 refused-below ShortOutput = record { lt = tt }
 refused-below BadName = record { lt = tt }
 refused-below BadSize = record { lt = tt }
@@ -37,24 +37,31 @@ refused-below NameExists = record { lt = tt }
 refused-below DirectoryFull = record { lt = tt }
 refused-below NoRun = record { lt = tt }
 refused-below NoSuchFile = record { lt = tt }
+refused-below FileInUse = record { lt = tt }
+refused-below NoSlot = record { lt = tt }
+refused-below NoId = record { lt = tt }
+refused-below NoProcess = record { lt = tt }
+refused-below SameState = record { lt = tt }
+refused-below NotRunning = record { lt = tt }
+refused-below BadShare = record { lt = tt }
 
-pub refused-not-done : (r : Refusal) (n : ℕ) → answer_number (Refused r) ≡ pos n → ⊥
+pub refused-not-done : (r : Refusal) (n : ℕ) → answer_number (Err r) ≡ pos n → ⊥
 refused-not-done r n e = done-not-below n (subst (λ (z : ℤ). z <ℤ pos 0) e (refused-below r))
 
 -- ---- store by cases: refused, with the disc as it was, or done
 pub store-cases : (disc name bytes : List ℕ) (P : Updated → Type 0)
-    → ((r : Refusal) → Denial disc name (length bytes) r → P (updated (Refused r) disc))
+    → ((r : Refusal) → Denial disc name (length bytes) r → P (updated (Err r) disc))
     → ((s : ℕ) → is_disc_length (length disc) ≡ true → good_disc disc ≡ true → Admitted disc name (length bytes) s
-    → P (updated (Done 0) (stored disc name bytes s)))
+    → P (updated (Ok 0) (stored disc name bytes s)))
     → P (store_answer disc name bytes)
 unfolding store_answer
 store-cases disc name bytes P refused done =
     by-checks disc P _ _ (refused WrongLength) (refused BadDisc) (go (admission disc name (length bytes)) refl)
   where
-    go : (a : Admission) → admission disc name (length bytes) ≡ a → is_disc_length (length disc) ≡ true → good_disc disc ≡ true
+    go : (a : Result ℕ Refusal) → admission disc name (length bytes) ≡ a → is_disc_length (length disc) ≡ true → good_disc disc ≡ true
         → P (store_at a disc name bytes)
-    go (Denied r) e l g = refused r (denied disc name (length bytes) r e)
-    go (Start s) e l g = done s l g (admitted disc name (length bytes) s e)
+    go (Err r) e l g = refused r (denied disc name (length bytes) r e)
+    go (Ok s) e l g = done s l g (admitted disc name (length bytes) s e)
 
 -- ---- free space
 module _ (disc : List ℕ) (n : ℕ) where

@@ -1,4 +1,5 @@
 -- The tests that every operation on the disc makes first.
+use Rattle.std.specs.Prelude.{Ok, Err}
 use mathlib.Core.Path.{◌≡◌, refl}
 use mathlib.Core.Bool.{Bool, true, false}
 use mathlib.Core.List.{List}
@@ -7,7 +8,6 @@ use lib.ListN.{length}
 use Rattle.disc.specs.Directory.{good_disc, is_disc_length}
 use Rattle.store.specs.Answer.{checked, if_usable}
 use Rattle.store.specs.File.{unless}
-use Rattle.store.specs.declared.Checked.TheVariants.{Usable, Unusable}
 use Rattle.store.specs.declared.Refusal.{Refusal}
 use Rattle.store.specs.declared.Refusal.TheVariants.{WrongLength, BadDisc}
 
@@ -20,7 +20,7 @@ unfolding checked
 by-checks disc P refuse rest p q r = go (is_disc_length (length disc)) refl (good_disc disc) refl
   where
     go : (a : Bool) → is_disc_length (length disc) ≡ a → (b : Bool) → good_disc disc ≡ b
-        → P (if_usable (unless a (Unusable WrongLength) (unless b (Unusable BadDisc) Usable)) refuse rest)
+        → P (if_usable (unless a (Err WrongLength) (unless b (Err BadDisc) (Ok tt))) refuse rest)
     go false e b f = p e
     go true e false f = q f
     go true e true f = r e f

@@ -1,4 +1,5 @@
 -- What becomes of files: a new one enters, one goes, bytes are written and read inside one.
+use Rattle.std.specs.Prelude.{Ok, Err, Result}
 use Rattle.std.specs.Prelude.{ℕ, ◌+◌, ◌*◌, ◌-◌, Bool, true, false, ◌&&◌, List, [], ◌∷◌, ◌++◌, leb, ltb, length}
 use Rattle.std.specs.Prelude.{replicate, None, Option, Some}
 use Rattle.buffer.specs.Buffer.{overwrite, part}
@@ -8,9 +9,8 @@ use Rattle.disc.specs.Directory.{contents, entry_bytes, file_count, lookup, take
 use Rattle.disc.specs.Layout.{count_at, data_start, entry_size, max_files}
 use Rattle.disc.specs.Name.{good_name, padded}
 use Rattle.disc.specs.declared.Entry.{Entry}
-use Rattle.store.specs.declared.Admission.{Admission}
-use Rattle.store.specs.declared.Admission.TheVariants.{Start, Denied}
 use Rattle.store.specs.declared.Refusal.TheVariants.{BadName, BadSize, NameExists, DirectoryFull, NoRun}
+use Rattle.store.specs.declared.Refusal.{Refusal}
 
 -- the rest where the test holds, else the refusal: the order of refusals is the order of the lines
 abbrev pub unless : {A : Type 0} → Bool → A → A → A
@@ -34,21 +34,21 @@ place_of disc n = place (taken disc) data_start (length disc) n
 unfoldable pub room_on : List ℕ → ℕ
 room_on disc = longest (taken disc) data_start (length disc)
 
-abbrev pub start_or : Option ℕ → Admission
-start_or (Some s) = Start s
-start_or None = Denied NoRun
+abbrev pub start_or : Option ℕ → Result ℕ Refusal
+start_or (Some s) = Ok s
+start_or None = Err NoRun
 
-abbrev pub deny_if_found : Option ℕ → Admission → Admission
-deny_if_found (Some i) rest = Denied NameExists
+abbrev pub deny_if_found : Option ℕ → Result ℕ Refusal → Result ℕ Refusal
+deny_if_found (Some i) rest = Err NameExists
 deny_if_found None rest = rest
 
 -- Document 01: "5 bad name, 6 data length 0 or above 863, 8 ten files already, 7 name exists, 9 no free run long
 -- enough"
-unfoldable pub admission : List ℕ → List ℕ → ℕ → Admission
+unfoldable pub admission : List ℕ → List ℕ → ℕ → Result ℕ Refusal
 admission disc name n =
-    unless (good_name name) (Denied BadName)
-    (unless (good_size disc n) (Denied BadSize)
-    (unless (ltb (file_count disc) max_files) (Denied DirectoryFull)
+    unless (good_name name) (Err BadName)
+    (unless (good_size disc n) (Err BadSize)
+    (unless (ltb (file_count disc) max_files) (Err DirectoryFull)
     (deny_if_found (lookup disc name)
     (start_or (place_of disc n)))))
 

@@ -6,7 +6,7 @@ ghost use Rattle.disc.specs.Layout.{data_start, entry_size, max_files, name_size
 ghost use Rattle.disc.specs.Name.{trimmed};
 ghost use Rattle.store.specs.File.{admission, entered, erased, read_at, room_on, size_limit, stored, written_at};
 
-use crate::{Admission, Refusal};
+use crate::Refusal;
 use disc::Entry;
 use disc::layout::{COUNT_AT, DATA_START, ENTRY_SIZE, MAX_FILES};
 use place::Run;
@@ -30,31 +30,25 @@ pub fn room_on(disc: &[u8]) -> usize
 }
 
 // Whether a new file of n bytes is admitted under this name, and where it goes.
-pub fn admit(disc: &[u8], name: &[u8], n: usize) -> Admission
+pub fn admit(disc: &[u8], name: &[u8], n: usize) -> Result<usize, Refusal>
     requires { Readable disc.now }
     ensures { result ≡ admission disc.now name.now n }
 {
     if !disc::name::is_good_name(name) {
-        return Admission::Denied(Refusal::BadName);
+        return Err(Refusal::BadName);
     }
-    if n < 1 {
-        return Admission::Denied(Refusal::BadSize);
-    }
-    if size_limit(disc) < n {
-        return Admission::Denied(Refusal::BadSize);
+    if n < 1 || size_limit(disc) < n {
+        return Err(Refusal::BadSize);
     }
     let count = disc::directory::file_count(disc);
     if MAX_FILES <= count {
-        return Admission::Denied(Refusal::DirectoryFull);
+        return Err(Refusal::DirectoryFull);
     }
-    if let Some(_) = disc::directory::find(disc, name) {
-        return Admission::Denied(Refusal::NameExists);
+    if disc::directory::find(disc, name).is_some() {
+        return Err(Refusal::NameExists);
     }
     let runs = disc::directory::taken_runs(disc);
-    match place::find_place(runs, count, DATA_START, disc.len(), n) {
-        Some(start) => Admission::Start(start),
-        None => Admission::Denied(Refusal::NoRun),
-    }
+    place::find_place(runs, count, DATA_START, disc.len(), n).ok_or(Refusal::NoRun)
 }
 
 // Enters a file of n bytes at start; its data bytes are for the caller to write.

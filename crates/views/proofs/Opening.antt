@@ -1,5 +1,6 @@
 -- OPEN and WRITE on two good states that show the same: both go on alike, unless one of them refuses a place or a size.
 use Rattle.std.specs.Prelude.{None, Option, Some}
+use Rattle.std.specs.Prelude.{Ok, Err, Result}
 use Rattle.std.proofs.Math.Bool.{or-true}
 use Rattle.std.proofs.Common.{ℕ, zero, suc, cond, ◌≡◌, ◌+◌, ◌<◌, ◌≤◌, Bool, true, false, ◌||◌, List, [], ◌∷◌, ◌++◌, refl, sym, ap, ◌∙◌}
 use Rattle.std.proofs.Common.{subst, length, arith}
@@ -23,8 +24,6 @@ use Rattle.disc.specs.Name.{good_name, padded}
 use Rattle.disc.proofs.Goodness.{good-entry-at}
 use Rattle.disc.proofs.Lookups.{lookup-at}
 use Rattle.store.specs.File.{admission, deny_if_found, good_size, place_of, start_or, stored, unless, written_at}
-use Rattle.store.specs.declared.Admission.{Admission}
-use Rattle.store.specs.declared.Admission.TheVariants.{Start, Denied}
 use Rattle.store.specs.declared.Refusal.{Refusal}
 use Rattle.store.specs.declared.Refusal.TheVariants.{BadName, BadSize, DirectoryFull, NameExists}
 use Rattle.store.proofs.Admissions.{Admitted, admitted, zeros-admitted}
@@ -72,15 +71,15 @@ same-size a b (Float x) n m e f = float-size x e f
     float-size (fin s k t) e f = positive (sym (within-size (in_range a _) _ n e) ∙ within-size (in_range b _) _ m f)
 
 -- ---- admissions: lacking room on either, or refused alike, or both let in
-pub data BothAdmit : Admission → Admission → Type 0 where
-  both-denied : (r : Refusal) → BothAdmit (Denied r) (Denied r)
-  both-start : (s t : ℕ) → BothAdmit (Start s) (Start t)
+pub data BothAdmit : Result ℕ Refusal → Result ℕ Refusal → Type 0 where
+  both-denied : (r : Refusal) → BothAdmit (Err r) (Err r)
+  both-start : (s t : ℕ) → BothAdmit (Ok s) (Ok t)
 
-abbrev decides : Bool → Bool → Bool → Option ℕ → Option ℕ → Admission
+abbrev decides : Bool → Bool → Bool → Option ℕ → Option ℕ → Result ℕ Refusal
 decides good small few name place =
-    unless good (Denied BadName)
-    (unless small (Denied BadSize)
-    (unless few (Denied DirectoryFull)
+    unless good (Err BadName)
+    (unless small (Err BadSize)
+    (unless few (Err DirectoryFull)
     (deny_if_found name (start_or place))))
 
 alike : (g a b c : Bool) (f x y : Option ℕ) → (lacks_room (decides g a c f x) || lacks_room (decides g b c f y) ≡ true)
@@ -147,8 +146,8 @@ module _ (k₁ k₂ : Kernel) (d₁ d₂ : List ℕ) (g₁ : GoodState k₁ d₁
         (whose-itself d₂ g₂.sound i m))))
 
     -- ---- OPEN of a new file
-    new-start : (name : List ℕ) (n s t : ℕ) → admission d₁ name n ≡ Start s → admission d₂ name n ≡ Start t → (l : Local)
-        → SameAnswered (created_at k₁ slot d₁ (Start s) name n l) (created_at k₂ slot d₂ (Start t) name n l)
+    new-start : (name : List ℕ) (n s t : ℕ) → admission d₁ name n ≡ Ok s → admission d₂ name n ≡ Ok t → (l : Local)
+        → SameAnswered (created_at k₁ slot d₁ (Ok s) name n l) (created_at k₂ slot d₂ (Ok t) name n l)
     new-start name n s t e f l =
         both-go (λ z. record {
           files = entered-files name (zeros n) s t a b z;
@@ -189,7 +188,7 @@ module _ (k₁ k₂ : Kernel) (d₁ d₂ : List ℕ) (g₁ : GoodState k₁ d₁
             ∙ (λ z. with_file (base z) (record { start = same_count k₁ k₂ d₁ d₂ g₁ g₂ same z; len = n; offset = 0 }))
             ∙ sym (open-shows after₂ (with_local p₂ l) (run_from t n) (file_count d₂) live₂ some place₂)
 
-    created-by : (name : List ℕ) (n : ℕ) (l : Local) (a b : Admission) → admission d₁ name n ≡ a → admission d₂ name n ≡ b → BothAdmit a b
+    created-by : (name : List ℕ) (n : ℕ) (l : Local) (a b : Result ℕ Refusal) → admission d₁ name n ≡ a → admission d₂ name n ≡ b → BothAdmit a b
         → SameAnswered (created_at k₁ slot d₁ a name n l) (created_at k₂ slot d₂ b name n l)
     created-by name n l _ _ e f (both-denied r) = both-break refl
     created-by name n l _ _ e f (both-start s t) = new-start name n s t e f l

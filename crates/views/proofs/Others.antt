@@ -1,4 +1,5 @@
 -- The operations that are no turn, start or command.
+use Rattle.std.specs.Prelude.{Ok, Err, Result}
 use Rattle.std.specs.Prelude.{None, Option, Some}
 use Rattle.std.proofs.Common.{ℕ, ◌≡◌, ◌<◌, Bool, true, false, not, List, [], ◌∷◌, ◌++◌, map, refl, sym, ap, ◌∙◌, subst, subst₂, length}
 use mathlib.Core.Logic.{◌⊎◌, inl, inr, ⊎_elim}
@@ -13,10 +14,6 @@ use Rattle.disc.proofs.Lookups.{lookup-at}
 use Rattle.store.specs.Answer.{Reported, Updated, checked, file_line, files_answer, free_space_answer, if_usable, reported, retrieve_answer}
 use Rattle.store.specs.Answer.{retrieve_at, retrieve_file, store_answer, store_at, text_answer}
 use Rattle.store.specs.File.{admission, unless}
-use Rattle.store.specs.declared.Admission.{Admission}
-use Rattle.store.specs.declared.Answer.TheVariants.{Done, Refused}
-use Rattle.store.specs.declared.Checked.{Checked}
-use Rattle.store.specs.declared.Checked.TheVariants.{Usable}
 use Rattle.store.specs.declared.Refusal.{Refusal}
 use Rattle.store.specs.declared.Refusal.TheVariants.{ShortOutput}
 use Rattle.store.proofs.Admissions.{admitted}
@@ -59,7 +56,7 @@ list-text disc (p ∷ l) = go (list-text disc l) (is_live p)
     go rest false = rest
 
 -- ---- the disc is usable
-usable : (k : Kernel) (disc : List ℕ) → GoodState k disc → checked disc ≡ Usable
+usable : (k : Kernel) (disc : List ℕ) → GoodState k disc → checked disc ≡ (Ok tt)
 unfolding checked
 usable k disc g = rw (g.long, g.sound)
 
@@ -73,9 +70,9 @@ file-done e f d₁ d₂ out q =
   where
     go : (x y : Bool) → x ≡ y
         → is_done_by
-        (unless x (reported (Refused ShortOutput) out) (reported (Done e.len) (overwrite out 0 (contents d₁ (run_of e))))).number
+        (unless x (reported (Err ShortOutput) out) (reported (Ok e.len) (overwrite out 0 (contents d₁ (run_of e))))).number
         ≡ is_done_by
-        (unless y (reported (Refused ShortOutput) out) (reported (Done f.len) (overwrite out 0 (contents d₂ (run_of f))))).number
+        (unless y (reported (Err ShortOutput) out) (reported (Ok f.len) (overwrite out 0 (contents d₂ (run_of f))))).number
     go true true r = refl
     go false false r = refl
     go true false r = absurd (true-not-false refl r)
@@ -107,13 +104,13 @@ module _ (s₁ s₂ : Storage) (h : Alike s₁ s₂) (out : List ℕ) where
   g₂ = passes-good s₂.disc s₂.area h.passes₂
 
   if-usable₁ : {A : Type 0} (refuse : Refusal → A) (rest : A) → if_usable (checked d₁) refuse rest ≡ rest
-  if-usable₁ refuse rest = ap (λ (c : Checked). if_usable c refuse rest) (usable k₁ d₁ g₁)
+  if-usable₁ refuse rest = ap (λ (c : Result (Unit {0}) Refusal). if_usable c refuse rest) (usable k₁ d₁ g₁)
 
   if-usable₂ : {A : Type 0} (refuse : Refusal → A) (rest : A) → if_usable (checked d₂) refuse rest ≡ rest
-  if-usable₂ refuse rest = ap (λ (c : Checked). if_usable c refuse rest) (usable k₂ d₂ g₂)
+  if-usable₂ refuse rest = ap (λ (c : Result (Unit {0}) Refusal). if_usable c refuse rest) (usable k₂ d₂ g₂)
 
   -- ---- store
-  stored-by : (name bytes : List ℕ) (a b : Admission) → admission d₁ name (length bytes) ≡ a → admission d₂ name (length bytes) ≡ b
+  stored-by : (name bytes : List ℕ) (a b : Result ℕ Refusal) → admission d₁ name (length bytes) ≡ a → admission d₂ name (length bytes) ≡ b
       → BothAdmit a b
       → SameDone (other (store name bytes)) (on_disc (store_at a d₁ name bytes) b₁) (on_disc (store_at b d₂ name bytes) b₂)
   stored-by name bytes _ _ e f (both-denied r) = record { done = refl; text = refl; view = h.same }

@@ -1,5 +1,6 @@
 -- Document 02, Q-13: "from good buffers of the same entries, file bytes and work area (starts aside) and the same
 -- demand 3 calls, programs print the same on both until either refuses a place or size."
+use Rattle.std.specs.Prelude.{Ok, Err, Result}
 use Rattle.std.specs.Prelude.{None, Option, Some}
 use Rattle.std.specs.Prelude.{ℕ, ◌≡◌, Bool, true, false, cond, ◌&&◌, ◌||◌, not, List, [], ◌∷◌, map, eqb, length}
 use Rattle.buffer.specs.Lists.{index}
@@ -7,12 +8,10 @@ use Rattle.place.specs.declared.Run.{Run}
 use Rattle.disc.specs.Directory.{contents, files as entries, lookup, run_of}
 use Rattle.disc.specs.declared.Entry.{Entry}
 use Rattle.store.specs.File.{admission}
-use Rattle.store.specs.declared.Admission.{Admission}
-use Rattle.store.specs.declared.Admission.TheVariants.{Start, Denied}
 use Rattle.store.specs.declared.Refusal.{Refusal}
-use Rattle.store.specs.declared.Refusal.TheVariants.{WrongLength, BadDisc, ShortOutput, BadName, BadSize, NameExists}
-use Rattle.store.specs.declared.Refusal.TheVariants.{DirectoryFull}
-use Rattle.store.specs.declared.Refusal.TheVariants.{NoRun, NoSuchFile}
+use Rattle.store.specs.declared.Refusal.TheVariants.{WrongLength, BadDisc, BadArea, ShortOutput, BadName, BadSize}
+use Rattle.store.specs.declared.Refusal.TheVariants.{NameExists, DirectoryFull, NoRun, NoSuchFile, FileInUse, NoSlot}
+use Rattle.store.specs.declared.Refusal.TheVariants.{NoId, NoProcess, SameState, NotRunning, BadShare}
 use Rattle.machine.specs.Answer.{Call, Other, turn, round, command, share, run, other, store, retrieve, erase, files}
 use Rattle.machine.specs.Answer.{free_space, list}
 use Rattle.machine.specs.Area.{kernel_of}
@@ -95,6 +94,7 @@ view_of s = view_at (kernel_of s.area) s.disc
 abbrev pub is_of_room : Refusal → Bool
 is_of_room WrongLength = false
 is_of_room BadDisc = false
+is_of_room BadArea = false
 is_of_room ShortOutput = false
 is_of_room BadName = false
 is_of_room BadSize = true
@@ -102,10 +102,17 @@ is_of_room NameExists = false
 is_of_room DirectoryFull = false
 is_of_room NoRun = true
 is_of_room NoSuchFile = false
+is_of_room FileInUse = false
+is_of_room NoSlot = false
+is_of_room NoId = false
+is_of_room NoProcess = false
+is_of_room SameState = false
+is_of_room NotRunning = false
+is_of_room BadShare = false
 
-abbrev pub lacks_room : Admission → Bool
-lacks_room (Start s) = false
-lacks_room (Denied r) = is_of_room r
+abbrev pub lacks_room : Result ℕ Refusal → Bool
+lacks_room (Ok s) = false
+lacks_room (Err r) = is_of_room r
 
 abbrev pub new_lacks : Option ℕ → List ℕ → List ℕ → Bool
 new_lacks None disc name = true

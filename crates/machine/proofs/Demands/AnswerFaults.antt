@@ -1,4 +1,5 @@
 -- Which faults disc and table answer, by what is asked.
+use Rattle.std.specs.Prelude.{Ok, Err, Result}
 use Rattle.std.specs.Prelude.{None, Option, Some}
 use Prim.Native.Nat.{ℕ, ◌+◌}
 use mathlib.Core.Path.{◌≡◌, refl, subst}
@@ -11,8 +12,7 @@ use lib.ListN.{length}
 use Rattle.number.specs.declared.Number.{Number}
 use Rattle.disc.specs.Directory.{lookup}
 use Rattle.store.specs.File.{admission}
-use Rattle.store.specs.declared.Admission.{Admission}
-use Rattle.store.specs.declared.Admission.TheVariants.{Start, Denied}
+use Rattle.store.specs.declared.Refusal.{Refusal}
 use Rattle.machine.specs.Beyond.{advanced, Answered, answered, breaks, carries_on, continues, created, created_at, forked, inside}
 use Rattle.machine.specs.Beyond.{new_file_size}
 use Rattle.machine.specs.Beyond.{opened_at, own_file, pushed, received, unless_breaks, with_open_file}
@@ -44,9 +44,9 @@ module _ (k : Kernel) (slot : ℕ) (disc : List ℕ) where
   open-breaks (Some i) name size l = tt
   open-breaks None name size l = sized (new_file_size disc size)
     where
-      admit : (n : ℕ) (a : Admission) → Breaks (λ m. m ≡ 13) (created_at k slot disc a name n l)
-      admit n (Start s) = tt
-      admit n (Denied r) = refl
+      admit : (n : ℕ) (a : Result ℕ Refusal) → Breaks (λ m. m ≡ 13) (created_at k slot disc a name n l)
+      admit n (Ok s) = tt
+      admit n (Err r) = refl
 
       sized : (s : Option ℕ) → Breaks (λ m. m ≡ 13) (created k slot disc s name l)
       sized (Some n) = admit n (admission disc name n)

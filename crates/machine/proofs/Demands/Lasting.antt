@@ -1,4 +1,5 @@
 -- What the world beyond answers ends the process, or leaves it running in its slot, with its share.
+use Rattle.std.specs.Prelude.{Ok, Err, Result}
 use Rattle.std.specs.Prelude.{None, Option, Some}
 use Prim.Native.Nat.{ℕ, ◌+◌, ◌<◌}
 use mathlib.Core.Path.{◌≡◌, refl, subst⁻¹}
@@ -12,8 +13,7 @@ use Rattle.number.specs.declared.Number.{Number}
 use Rattle.place.specs.Place.{run_from}
 use Rattle.disc.specs.Directory.{lookup}
 use Rattle.store.specs.File.{admission}
-use Rattle.store.specs.declared.Admission.{Admission}
-use Rattle.store.specs.declared.Admission.TheVariants.{Start, Denied}
+use Rattle.store.specs.declared.Refusal.{Refusal}
 use Rattle.machine.specs.Beyond.{advanced, Answered, answered, breaks, carries_on, continues, created, created_at, forked, inside}
 use Rattle.machine.specs.Beyond.{new_file_size}
 use Rattle.machine.specs.Beyond.{is_awaited, opened, opened_at, push_id, pushed, received, unless_breaks, with_open_file}
@@ -53,9 +53,9 @@ module _ (k : Kernel) (slot : ℕ) (running : is_running (process_at k slot) ≡
     open-left (Some i) name size l = continued-running l _
     open-left None name size l = sized (new_file_size disc size)
       where
-        admit : (n : ℕ) (a : Admission) → Left (created_at k slot disc a name n l)
-        admit n (Start s) = continued-running l (opened (run_from s n))
-        admit n (Denied r) = tt
+        admit : (n : ℕ) (a : Result ℕ Refusal) → Left (created_at k slot disc a name n l)
+        admit n (Ok s) = continued-running l (opened (run_from s n))
+        admit n (Err r) = tt
 
         sized : (s : Option ℕ) → Left (created k slot disc s name l)
         sized (Some n) = admit n (admission disc name n)

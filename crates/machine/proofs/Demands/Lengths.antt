@@ -1,5 +1,6 @@
 -- No call changes the length of disc, area or output: no kind of change changes the disc's, the area is the bytes of a state before and
 -- after, and no text written is longer than the output lent.
+use Rattle.std.specs.Prelude.{Ok, Err}
 use Rattle.std.specs.Prelude.{None, Option, Some}
 use Prim.Native.Nat.{ℕ, zero, suc, ◌*◌, ◌≤◌}
 use mathlib.Core.Path.{◌≡◌, refl, sym, subst, subst⁻¹, ◌∙◌}
@@ -17,7 +18,6 @@ use Rattle.disc.specs.Directory.{contents, entry_at, files as entries, good_disc
 use Rattle.disc.proofs.Lookups.{lookup-at}
 use Rattle.store.specs.Answer.{Reported, file_line, files_answer, reported, retrieve_answer, retrieve_at}
 use Rattle.store.specs.File.{unless}
-use Rattle.store.specs.declared.Answer.TheVariants.{Done, Refused}
 use Rattle.store.specs.declared.Refusal.TheVariants.{ShortOutput}
 use Rattle.store.proofs.Calls.{store-cases}
 use Rattle.store.proofs.Changes.{erased-length}
@@ -213,7 +213,7 @@ module _ (b : Buffers) where
 
   -- ---- operations on the disc alone
   reported-out : (fit : Bool) (n : ℕ) (text : List ℕ) → (fit ≡ true → length text ≤ length b.out)
-      → SameOut (unless fit (reported (Refused ShortOutput) b.out) (reported (Done n) (overwrite b.out 0 text))).out
+      → SameOut (unless fit (reported (Err ShortOutput) b.out) (reported (Ok n) (overwrite b.out 0 text))).out
   reported-out true n text h = wrote text (h refl)
   reported-out false n text h = refl
 

@@ -1,4 +1,5 @@
 -- OPEN: it goes on with some file, or its new file is refused, and then for one of document 01's four reasons.
+use Rattle.std.specs.Prelude.{Ok, Err, Result}
 use Rattle.std.specs.Prelude.{None, Option, Some}
 use Prim.Native.Nat.{ℕ, zero, suc, ◌-◌, ◌*◌, ◌/◌}
 use mathlib.Core.Path.{◌≡◌, refl, sym, subst}
@@ -20,11 +21,10 @@ use Rattle.place.specs.Place.{run_from}
 use Rattle.disc.specs.Directory.{entry_at, good_disc, is_disc_length, lookup}
 use Rattle.disc.specs.Layout.{data_start}
 use Rattle.store.specs.File.{admission, good_size, stored}
-use Rattle.store.specs.declared.Admission.{Admission}
-use Rattle.store.specs.declared.Admission.TheVariants.{Start, Denied}
 use Rattle.store.specs.declared.Refusal.{Refusal}
-use Rattle.store.specs.declared.Refusal.TheVariants.{WrongLength, BadDisc, ShortOutput, BadName, BadSize, NameExists, DirectoryFull, NoRun}
-use Rattle.store.specs.declared.Refusal.TheVariants.{NoSuchFile}
+use Rattle.store.specs.declared.Refusal.TheVariants.{WrongLength, BadDisc, BadArea, ShortOutput, BadName, BadSize, NameExists}
+use Rattle.store.specs.declared.Refusal.TheVariants.{DirectoryFull, NoRun, NoSuchFile, FileInUse, NoSlot, NoId, NoProcess, SameState}
+use Rattle.store.specs.declared.Refusal.TheVariants.{NotRunning, BadShare}
 use Rattle.store.proofs.Admissions.{Denial, denied, denied-full}
 use Rattle.store.proofs.Rooms.{free-fits}
 use Rattle.machine.specs.Beyond.{Answered, answered, breaks, continues, created, created_at, new_file_size, opened, opened_at}
@@ -63,7 +63,7 @@ size-within max n (Float x) e = float-within x e
 module _ (disc name : List ℕ) (long : is_disc_length (length disc) ≡ true) (good : good_disc disc ≡ true) where
   -- a file of that name would have been opened, so that it exists is no reason
   denial-refuses : (n : ℕ) (size : Option ℕ) → size ≡ Some n → good_size disc n ≡ true → lookup disc name ≡ None → (r : Refusal)
-      → admission disc name n ≡ Denied r → Denial disc name n r → NewFileRefused disc name size
+      → admission disc name n ≡ Err r → Denial disc name n r → NewFileRefused disc name size
   denial-refuses n size e fit new WrongLength a d = absurd (true-not-false long d)
   denial-refuses n size e fit new BadDisc a d = absurd (true-not-false good d)
   denial-refuses n size e fit new BadName a d = by_name λ q. true-not-false (is-name-good name q) d
@@ -72,11 +72,19 @@ module _ (disc name : List ℕ) (long : is_disc_length (length disc) ≡ true) (
   denial-refuses n size e fit new NameExists a d = absurd (let found : lookup disc name ≡ Some d.0 = d.1 in
       let z : ◌≡◌ {A = ℕ} 0 1 = cc in omega arith)
   denial-refuses n size e fit new NoRun a d = by-no-run n e (λ s free. true-not-false (free-fits disc n s free) (d s))
+  denial-refuses n size e fit new BadArea a d = absurd d
   denial-refuses n size e fit new ShortOutput a d = absurd d
   denial-refuses n size e fit new NoSuchFile a d = absurd d
+  denial-refuses n size e fit new FileInUse a d = absurd d
+  denial-refuses n size e fit new NoSlot a d = absurd d
+  denial-refuses n size e fit new NoId a d = absurd d
+  denial-refuses n size e fit new NoProcess a d = absurd d
+  denial-refuses n size e fit new SameState a d = absurd d
+  denial-refuses n size e fit new NotRunning a d = absurd d
+  denial-refuses n size e fit new BadShare a d = absurd d
 
   pub new-file-refused : (size : Number) (n : ℕ) → new_file_size disc size ≡ Some n → lookup disc name ≡ None → (r : Refusal)
-      → admission disc name n ≡ Denied r → NewFileRefused disc name (new_file_size disc size)
+      → admission disc name n ≡ Err r → NewFileRefused disc name (new_file_size disc size)
   new-file-refused size n e new r a =
       denial-refuses n _ e (size-within (length disc - data_start) n size e) new r a (denied disc name n r a)
 
@@ -88,10 +96,10 @@ module _ (disc name : List ℕ) (long : is_disc_length (length disc) ≡ true) (
   unfolding answered
   open-cases k slot l size P goes refused = found (lookup disc name) refl
     where
-      create : lookup disc name ≡ None → (n : ℕ) → new_file_size disc size ≡ Some n → (a : Admission)
+      create : lookup disc name ≡ None → (n : ℕ) → new_file_size disc size ≡ Some n → (a : Result ℕ Refusal)
           → admission disc name n ≡ a → P (created_at k slot disc a name n l)
-      create new n e (Start s) a = goes (opened (run_from s n)) (stored disc name (zeros n) s)
-      create new n e (Denied r) a = refused new (new-file-refused size n e new r a)
+      create new n e (Ok s) a = goes (opened (run_from s n)) (stored disc name (zeros n) s)
+      create new n e (Err r) a = refused new (new-file-refused size n e new r a)
 
       judged : lookup disc name ≡ None → (s : Option ℕ) → new_file_size disc size ≡ s → P (created k slot disc s name l)
       judged new None e = refused new (by_size e)

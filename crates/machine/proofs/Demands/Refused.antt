@@ -1,4 +1,5 @@
 -- The tests of every call decide it: the first that fails refuses it, and where none does it is done.
+use Rattle.std.specs.Prelude.{Ok, Err, Result}
 use Rattle.std.specs.Prelude.{None, Option, Some}
 use Prim.Native.Nat.{ℕ, ◌+◌, ◌-◌, ◌≤◌, ◌<◌}
 use mathlib.Core.Path.{◌≡◌, refl, sym, ap, ◌∙◌, subst, subst⁻¹}
@@ -21,11 +22,6 @@ use Rattle.store.specs.Answer.{checked, file_line, files_answer, free_space_answ
 use Rattle.store.specs.Answer.{store_answer}
 use Rattle.store.specs.Answer.{store_at}
 use Rattle.store.specs.File.{admission, deny_if_found, place_of, start_or, unless}
-use Rattle.store.specs.declared.Admission.{Admission}
-use Rattle.store.specs.declared.Admission.TheVariants.{Denied}
-use Rattle.store.specs.declared.Answer.TheVariants.{Refused}
-use Rattle.store.specs.declared.Checked.{Checked}
-use Rattle.store.specs.declared.Checked.TheVariants.{Usable, Unusable}
 use Rattle.store.specs.declared.Refusal.{Refusal}
 use Rattle.store.specs.declared.Refusal.TheVariants.{WrongLength, BadDisc, ShortOutput, BadName, BadSize, DirectoryFull}
 use Rattle.store.specs.Room.{Free}
@@ -133,9 +129,9 @@ module _ (b : Buffers) where
       → (Fit → Decided later b (make rest)) → Decided (first_two b later) b (make (if_usable (checked b.disc) refuse rest))
   unfolding checked
   on-disc make refuse rest one two h =
-      let made : Checked → Answer = λ c. make (if_usable c refuse rest) in
-      decided made (Unusable WrongLength) _ one says-disc-length λ long.
-      decided made (Unusable BadDisc) Usable two (says-itself (good_disc b.disc)) λ good.
+      let made : Result (Unit {0}) Refusal → Answer = λ c. make (if_usable c refuse rest) in
+      decided made (Err WrongLength) _ one says-disc-length λ long.
+      decided made (Err BadDisc) (Ok tt) two (says-itself (good_disc b.disc)) λ good.
       h (record { long = says-disc-length.back long; good = good })
 
   -- ---- the file of a name
@@ -173,14 +169,14 @@ module _ (b : Buffers) where
   unfolding answer other_answer store_answer admission
   store-decided name bytes =
       on-disc (λ u. on_disc u b) _ _ refl refl λ fit.
-      decided at (Denied BadName) _ refl (record { so = good-is-name name; back = is-name-good name }) λ good.
-      decided at (Denied BadSize) _ refl
+      decided at (Err BadName) _ refl (record { so = good-is-name name; back = is-name-good name }) λ good.
+      decided at (Err BadSize) _ refl
       (says_both (says-at-most 1 (length bytes)) (says-in-data fit (length bytes))) λ size.
-      decided at (Denied DirectoryFull) _ refl
+      decided at (Err DirectoryFull) _ refl
       (record { so = ltb-true (file_count b.disc) max_files; back = lt-ltb (file_count b.disc) max_files }) λ few.
       new fit (lookup b.disc name) refl (place_of b.disc (length bytes)) refl
     where
-      at : Admission → Answer
+      at : Result ℕ Refusal → Answer
       at a = on_disc (store_at a b.disc name bytes) b
 
       new : Fit → (f : Option ℕ) → lookup b.disc name ≡ f → (g : Option ℕ) → place_of b.disc (length bytes) ≡ g
@@ -207,7 +203,7 @@ module _ (b : Buffers) where
       found fit None e = fails refl (none_named fit name e)
       found fit (Some i) e =
           holds_then (i, lookup-named b.disc name i e)
-          (decided (λ r. on_output r b) (reported (Refused ShortOutput) b.out) _ refl (says-fits fit name i e)
+          (decided (λ r. on_output r b) (reported (Err ShortOutput) b.out) _ refl (says-fits fit name i e)
           (λ h. done (entry_at b.disc i).len refl))
 
   -- "4: output shorter than needed"
@@ -219,7 +215,7 @@ module _ (b : Buffers) where
   unfolding answer other_answer files_answer
   files-decided =
       on-disc (λ r. on_output r b) _ _ refl refl λ fit.
-      decided (λ r. on_output r b) (reported (Refused ShortOutput) b.out) _ refl (says-room (files-text b.disc))
+      decided (λ r. on_output r b) (reported (Err ShortOutput) b.out) _ refl (says-room (files-text b.disc))
       (λ h. done (length (flat file_line (entries b.disc))) refl)
 
   free-space-decided : Decided (other_tests free_space b) b (answer (other free_space) b)

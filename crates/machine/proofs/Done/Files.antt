@@ -1,4 +1,5 @@
 -- The file operations that are done: what they answer and leave.
+use Rattle.std.specs.Prelude.{Ok, Err}
 use Rattle.std.specs.Prelude.{None, Option, Some}
 use Prim.Native.Nat.{ℕ}
 use mathlib.Core.Path.{◌≡◌, refl, sym, ap, ◌∙◌, subst}
@@ -18,7 +19,6 @@ use Rattle.disc.proofs.Locations.{contents-part}
 use Rattle.disc.proofs.Offsets.{entry-size, entry-start}
 use Rattle.store.specs.Answer.{Reported, file_line, files_answer, reported, retrieve_answer, retrieve_at}
 use Rattle.store.specs.File.{unless}
-use Rattle.store.specs.declared.Answer.TheVariants.{Done, Refused}
 use Rattle.store.specs.declared.Refusal.TheVariants.{ShortOutput}
 use Rattle.store.proofs.Calls.{free-space-fits, free-space-most, refused-not-done, store-cases}
 use Rattle.store.proofs.Checks.{by-checks}
@@ -49,7 +49,7 @@ store-done b name bytes n =
 
 -- ---- what is written into the output
 written : (fit : Bool) (m n : ℕ) (out after : List ℕ)
-    → let r = unless fit (reported (Refused ShortOutput) out) (reported (Done m) after) in r.number ≡ pos n → (n ≡ m) × (r.out ≡ after)
+    → let r = unless fit (reported (Err ShortOutput) out) (reported (Ok m) after) in r.number ≡ pos n → (n ≡ m) × (r.out ≡ after)
 written true m n out after h = (cc, refl)
 written false m n out after h = below-not-done h
 

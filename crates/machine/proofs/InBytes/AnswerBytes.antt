@@ -1,4 +1,5 @@
 -- Disc and process table, of bytes both, answer with bytes to an instruction that reaches beyond its process.
+use Rattle.std.specs.Prelude.{Ok, Err, Result}
 use Rattle.std.specs.Prelude.{None, Option, Some}
 use Prim.Native.Nat.{ℕ, ◌+◌, ◌/◌, ◌%◌, ◌≤◌}
 use mathlib.Core.Path.{◌≡◌, refl, subst⁻¹}
@@ -16,8 +17,7 @@ use Rattle.place.specs.Place.{run_from}
 use Rattle.disc.specs.Directory.{contents, entry_at, files, lookup}
 use Rattle.disc.specs.declared.Entry.{Entry}
 use Rattle.store.specs.File.{admission, read_at, stored, written_at}
-use Rattle.store.specs.declared.Admission.{Admission}
-use Rattle.store.specs.declared.Admission.TheVariants.{Start, Denied}
+use Rattle.store.specs.declared.Refusal.{Refusal}
 use Rattle.store.proofs.Admissions.{Admitted, admitted, zeros-admitted}
 use Rattle.machine.specs.Beyond.{advanced, Answered, carries_on, breaks, answered, continues, created, created_at, file_run, forked}
 use Rattle.machine.specs.Beyond.{inside, is_awaited, new_file_size, opened, opened_at, pushed, push_id, received, unless_breaks}
@@ -89,16 +89,16 @@ module _ {k : Kernel} {disc : List ℕ} (good : GoodState k disc) (h : ByteKerne
       → ByteAnswered (opened_at k slot disc (lookup disc name) name size l)
   open-bytes name size l b = found (lookup disc name)
     where
-      create : (n s : ℕ) → Admitted disc name n s → ByteAnswered (created_at k slot disc (Start s) name n l)
+      create : (n s : ℕ) → Admitted disc name n s → ByteAnswered (created_at k slot disc (Ok s) name n l)
       create n s a =
           let e = new-entry disc d name n s good.long a in
           continued l (opened (run_from s n)) (stored disc name (zeros n) s) b
           (record { start = e.start; len = e.len; offset = omega arith })
           (stored_bytes disc d name (zeros n) s good.long (zeros-admitted a) (zeros-bytes n))
 
-      judged : (n : ℕ) (a : Admission) → admission disc name n ≡ a → ByteAnswered (created_at k slot disc a name n l)
-      judged n (Start s) e = create n s (admitted disc name n s e)
-      judged n (Denied r) e = omega arith
+      judged : (n : ℕ) (a : Result ℕ Refusal) → admission disc name n ≡ a → ByteAnswered (created_at k slot disc a name n l)
+      judged n (Ok s) e = create n s (admitted disc name n s e)
+      judged n (Err r) e = omega arith
 
       sized : (s : Option ℕ) → ByteAnswered (created k slot disc s name l)
       sized (Some n) = judged n (admission disc name n) refl

@@ -1,4 +1,5 @@
 -- Every call, format and boot leave buffers of bytes of buffers of bytes.
+use Rattle.std.specs.Prelude.{Ok, Err}
 use Rattle.std.specs.Prelude.{None, Option, Some}
 use Prim.Native.Nat.{ℕ}
 use mathlib.Core.Path.{◌≡◌, refl}
@@ -17,7 +18,6 @@ use Rattle.disc.specs.Name.{trimmed}
 use Rattle.disc.specs.declared.Entry.{Entry}
 use Rattle.store.specs.Answer.{Reported, file_line, files_answer, reported, retrieve_answer, retrieve_at}
 use Rattle.store.specs.File.{unless}
-use Rattle.store.specs.declared.Answer.TheVariants.{Done, Refused}
 use Rattle.store.specs.declared.Refusal.TheVariants.{ShortOutput}
 use Rattle.store.proofs.Calls.{store-cases}
 use Rattle.store.proofs.Checks.{by-checks}
@@ -160,7 +160,7 @@ module _ (b : Buffers) (hd : Bytes b.disc) (ha : Bytes b.area) (ho : Bytes b.out
 
   -- ---- operations on the disc alone
   reported-bytes : (fit : Bool) (n : ℕ) (text : List ℕ) → Bytes text
-      → Bytes (unless fit (reported (Refused ShortOutput) b.out) (reported (Done n) (overwrite b.out 0 text))).out
+      → Bytes (unless fit (reported (Err ShortOutput) b.out) (reported (Ok n) (overwrite b.out 0 text))).out
   reported-bytes true n text t = wrote text t
   reported-bytes false n text t = ho
 

@@ -1,4 +1,5 @@
 -- Which of disc, area and output a call never touches, and that it writes no byte of the output behind those its number counts.
+use Rattle.std.specs.Prelude.{Ok, Err}
 use Rattle.std.specs.Prelude.{None, Option, Some}
 use Prim.Native.Nat.{ℕ, ◌+◌, ◌-◌, ◌≤◌}
 use mathlib.Core.Path.{◌≡◌, refl, sym, ap, ◌∙◌}
@@ -15,7 +16,6 @@ use Rattle.buffer.specs.Lists.{flat}
 use Rattle.disc.specs.Directory.{contents, entry_at, files as entries, is_disc_length, lookup, run_of}
 use Rattle.store.specs.Answer.{Reported, file_line, files_answer, reported, retrieve_answer, retrieve_at}
 use Rattle.store.specs.File.{unless}
-use Rattle.store.specs.declared.Answer.TheVariants.{Done, Refused}
 use Rattle.store.specs.declared.Refusal.TheVariants.{ShortOutput}
 use Rattle.store.proofs.Checks.{by-checks}
 use Rattle.store.proofs.Contents.{contents-short}
@@ -61,7 +61,7 @@ module _ (b : Buffers) where
 
   -- "4: output shorter than needed"
   reports : (fit : Bool) (n : ℕ) (text : List ℕ) → length text ≤ n
-      → let r = unless fit (reported (Refused ShortOutput) b.out) (reported (Done n) (overwrite b.out 0 text)) in
+      → let r = unless fit (reported (Err ShortOutput) b.out) (reported (Ok n) (overwrite b.out 0 text)) in
       Behind r.number r.out
   reports true n text h = wrote n text h
   reports false n text h = still _

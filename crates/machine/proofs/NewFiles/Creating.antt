@@ -1,4 +1,5 @@
 -- An OPEN that leaves a file more: the file is open at its first byte and holds zeros, and the stack has room for the empty string.
+use Rattle.std.specs.Prelude.{Ok, Err, Result}
 use Rattle.std.specs.Prelude.{None, Option, Some}
 use Prim.Native.Nat.{ℕ, ◌+◌, ◌≤◌}
 use mathlib.Core.Path.{◌≡◌, refl, sym, ap, subst⁻¹, ◌∙◌}
@@ -16,8 +17,7 @@ use Rattle.place.specs.Place.{run_from}
 use Rattle.disc.specs.Directory.{contents, file_count, lookup}
 use Rattle.disc.specs.Name.{trimmed}
 use Rattle.store.specs.File.{admission, stored}
-use Rattle.store.specs.declared.Admission.{Admission}
-use Rattle.store.specs.declared.Admission.TheVariants.{Start, Denied}
+use Rattle.store.specs.declared.Refusal.{Refusal}
 use Rattle.store.proofs.Admissions.{Admitted, admitted, zeros-admitted}
 use Rattle.store.proofs.Effects.{stored-data}
 use Rattle.variable.specs.Table.{owned}
@@ -82,9 +82,9 @@ module _ {k : Kernel} {disc : List ℕ} (good : GoodState k disc) (slot clock : 
       → Leaves (answering k slot disc (opened_at k slot disc (lookup disc name) name size l))
   opening name size l room = found (lookup disc name)
     where
-      judged : (n : ℕ) (a : Admission) → admission disc name n ≡ a → Leaves (answering k slot disc (created_at k slot disc a name n l))
-      judged n (Denied r) q e = same_count e
-      judged n (Start s) q e =
+      judged : (n : ℕ) (a : Result ℕ Refusal) → admission disc name n ≡ a → Leaves (answering k slot disc (created_at k slot disc a name n l))
+      judged n (Err r) q e = same_count e
+      judged n (Ok s) q e =
           subst⁻¹ (λ (r : Process). Fresh p.id r (stored disc name (zeros n) s))
           (put-at k slot (with_file (with_local p l) (opened (run_from s n))) live) (create name l room n s (admitted disc name n s q))
 

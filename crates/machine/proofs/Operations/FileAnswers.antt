@@ -1,4 +1,5 @@
 -- OPEN, WRITE and the READs: every answer of the disc is a change.
+use Rattle.std.specs.Prelude.{Ok, Err, Result}
 use Rattle.std.specs.Prelude.{None, Option, Some}
 use Prim.Native.Nat.{ℕ, ◌+◌, ◌≤◌, ◌<◌}
 use mathlib.Core.Path.{◌≡◌, refl, sym, ap, subst⁻¹, ◌∙◌}
@@ -19,8 +20,7 @@ use Rattle.disc.specs.declared.Entry.{Entry}
 use Rattle.disc.proofs.Goodness.{good-entry-at}
 use Rattle.disc.proofs.Lookups.{lookup-at}
 use Rattle.store.specs.File.{admission, read_at, stored, written_at}
-use Rattle.store.specs.declared.Admission.{Admission}
-use Rattle.store.specs.declared.Admission.TheVariants.{Start, Denied}
+use Rattle.store.specs.declared.Refusal.{Refusal}
 use Rattle.store.proofs.Admissions.{Admitted, admitted, zeros-admitted}
 use Rattle.store.proofs.Effects.{stored-count, stored-new}
 use Rattle.machine.specs.Beyond.{advanced, Answered, breaks, continues, created, created_at, file_run, inside, new_file_size, opened}
@@ -109,7 +109,7 @@ module _ {k : Kernel} {disc : List ℕ} (good : GoodState k disc) (slot : ℕ) (
   pub open-change : (title : List ℕ) (size : Number) (l : Local) → Fits l → Changes (opened_at k slot disc (lookup disc title) title size l)
   open-change title size l fits = found (lookup disc title) refl
     where
-      create : (n s : ℕ) → Admitted disc title n s → Changes (created_at k slot disc (Start s) title n l)
+      create : (n s : ℕ) → Admitted disc title n s → Changes (created_at k slot disc (Ok s) title n l)
       create n s a =
           let after : List ℕ = stored disc title (zeros n) s in
           let z = zeros-admitted a in
@@ -121,9 +121,9 @@ module _ {k : Kernel} {disc : List ℕ} (good : GoodState k disc) (slot : ℕ) (
           (ap (λ (e : Entry). e.start) new) (ap (λ (e : Entry). e.len) new ∙ length-replicate n 0) a.some)))
           refl)
 
-      judged : (n : ℕ) (a : Admission) → admission disc title n ≡ a → Changes (created_at k slot disc a title n l)
-      judged n (Start s) e = create n s (admitted disc title n s e)
-      judged n (Denied r) e = faulted 13
+      judged : (n : ℕ) (a : Result ℕ Refusal) → admission disc title n ≡ a → Changes (created_at k slot disc a title n l)
+      judged n (Ok s) e = create n s (admitted disc title n s e)
+      judged n (Err r) e = faulted 13
 
       sized : (s : Option ℕ) → Changes (created k slot disc s title l)
       sized (Some n) = judged n (admission disc title n) refl

@@ -1,4 +1,5 @@
 -- OPEN of a file, of a new one and of one that is refused; CLOSE.
+use Rattle.std.specs.Prelude.{Ok, Err, Result}
 use Rattle.std.specs.Prelude.{None, Option, Some}
 use Prim.Native.Nat.{ℕ, ◌+◌}
 use mathlib.Core.Path.{◌≡◌, refl, ap, subst⁻¹, ◌∙◌}
@@ -13,8 +14,7 @@ use Rattle.disc.specs.Directory.{entry_at, lookup, run_of}
 use Rattle.disc.specs.Offsets.{size_of, start_of}
 use Rattle.disc.proofs.Offsets.{entry-size, entry-start}
 use Rattle.store.specs.File.{admission, stored}
-use Rattle.store.specs.declared.Admission.{Admission}
-use Rattle.store.specs.declared.Admission.TheVariants.{Start, Denied}
+use Rattle.store.specs.declared.Refusal.{Refusal}
 use Rattle.store.proofs.Admissions.{admitted, zeros-admitted}
 use Rattle.store.proofs.Rooms.{placed-shortest}
 use Rattle.machine.specs.Answer.{Buffers}
@@ -78,12 +78,12 @@ module _ (b : Buffers) (slot clock : ℕ) where
       good : GoodState k b.disc
       good = passes-good b.disc b.area a.may.passes
 
-      admit : lookup b.disc text ≡ None → (n : ℕ) → new_file_size b.disc size ≡ Some n → (v : Admission)
+      admit : lookup b.disc text ≡ None → (n : ℕ) → new_file_size b.disc size ≡ Some n → (v : Result ℕ Refusal)
           → admission b.disc text n ≡ v
           → answered k slot b.disc r ≡ created_at k slot b.disc v text n l → NewFile rest text size
-      admit new n fit (Denied w) e h =
+      admit new n fit (Err w) e h =
           inl (new-file-refused b.disc text good.long good.sound size n fit new w e, broken-by b slot clock a.may r does 13 h)
-      admit new n fit (Start s) e h =
+      admit new n fit (Ok s) e h =
           let d = admitted b.disc text n s e in
           let on = continued b slot clock a.may r does pc rest (opened (run_from s n)) (stored b.disc text (zeros n) s) h in
           let enters = subst⁻¹ (λ (after : List ℕ). Enters b.disc after text (zeros n) s) on.1
