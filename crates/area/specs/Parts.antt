@@ -2,7 +2,7 @@
 use Rattle.std.specs.Prelude.{ℕ, ◌+◌, ◌*◌, ◌≡◌, List}
 use Rattle.buffer.specs.Buffer.{part}
 use Rattle.variable.specs.declared.Assigned.{Assigned}
-use Rattle.variable.specs.declared.Placing.{Placing}
+use Rattle.variable.specs.Assign.{Placing}
 use Rattle.machine.specs.Area.{kernel_bytes, process_of}
 use Rattle.machine.specs.Limits.{record_size, records_at}
 use Rattle.machine.specs.State.{with_variables}

@@ -3,8 +3,8 @@ use Rattle.std.specs.Prelude.{ℕ, List, []}
 use Rattle.disc.specs.Directory.{contents}
 use Rattle.variable.specs.Assign.{assigned, placing_fault, value_of}
 use Rattle.variable.specs.Table.{owned}
-use Rattle.variable.specs.declared.Placing.{Placing}
-use Rattle.variable.specs.declared.Placing.TheVariants.{Address, NoEntry, NoRun}
+use Rattle.variable.specs.Assign.{Placing}
+use Rattle.std.specs.Prelude.{Ok, Err}
 use Rattle.variable.specs.declared.Variables.{Variables}
 use Rattle.machine.specs.Beyond.{Answered, carries_on, breaks, answered}
 use Rattle.machine.specs.Effect.{Effect, goes, assigns, stops, faults, asks}
@@ -30,14 +30,13 @@ module _ (k : Kernel) (slot : ℕ) (disc : List ℕ) where
 
   -- Document 01, fault 10: "no variable entry or run"
   abbrev pub setting : Placing → Variables → Local → Turned
-  setting (Address a) v l =
+  setting (Ok a) v l =
       record {
         kernel = with_variables (with_process k slot (with_local (process_at k slot) l)) v;
         disc = disc;
         out = [];
       }
-  setting NoEntry v l = finished (placing_fault NoEntry)
-  setting NoRun v l = finished (placing_fault NoRun)
+  setting (Err e) v l = finished (placing_fault (Err e))
 
   abbrev pub answering : Answered → Turned
   answering (carries_on kernel after) = record { kernel = kernel; disc = after; out = [] }

@@ -6,8 +6,9 @@ use lib.ListN.{length}
 use Rattle.variable.specs.Assign.{assigned, placing_fault, value_of}
 use Rattle.variable.specs.Limits.{max_variables}
 use Rattle.variable.specs.declared.Assigned.{Assigned}
-use Rattle.variable.specs.declared.Placing.{Placing}
-use Rattle.variable.specs.declared.Placing.TheVariants.{Address, NoEntry, NoRun}
+use Rattle.variable.specs.Assign.{Placing}
+use Rattle.std.specs.Prelude.{Ok, Err}
+use Rattle.variable.specs.declared.Unplaced.TheVariants.{NoEntry, NoRun}
 use Rattle.variable.specs.declared.Variables.{Variables}
 use Rattle.variable.proofs.Reading.{value_made}
 use Rattle.variable.proofs.Setting.{NotPlaced, assigned-refused, assigned-shaped}
@@ -29,9 +30,8 @@ use Rattle.process.proofs.Advancing.{may-keep, own-keeping}
 -- a SET that finds no place ends its process
 ends : (k : Kernel) (slot : ℕ) (disc : List ℕ) (p : Placing) (v : Variables) (l : Local) → NotPlaced p
     → setting k slot disc p v l ≡ finished k slot disc (placing_fault p)
-ends k slot disc (Address a) v l n = absurd n
-ends k slot disc NoEntry v l n = refl
-ends k slot disc NoRun v l n = refl
+ends k slot disc (Ok a) v l n = absurd n
+ends k slot disc (Err e) v l n = refl
 
 -- the area that a SET has to leave
 abbrev pub LeftBySet : List ℕ → ℕ → Process → Step → ℕ → ℕ → List ℕ → Type 0
@@ -70,7 +70,7 @@ module _ {area : List ℕ} {slot : ℕ} {p : Process} {d : Step} (t : Stepping a
         x.left
 
     -- the process goes on
-    module _ {at : ℕ} (found : r ≡ Address at) where
+    module _ {at : ℕ} (found : r ≡ Ok at) where
       pub set_on : Room (process_at (kernel_of one) slot) d.kept 0
       set_on = subst⁻¹ (λ (q : Kernel). Room (process_at q slot) d.kept 0) set-state (may-keep t).2
 

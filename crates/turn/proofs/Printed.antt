@@ -5,8 +5,9 @@ use mathlib.Core.List.{List, []}
 use lib.ListN.{length}
 use Rattle.buffer.specs.Buffer.{overwrite}
 use Rattle.variable.specs.Assign.{assigned, value_of}
-use Rattle.variable.specs.declared.Placing.{Placing}
-use Rattle.variable.specs.declared.Placing.TheVariants.{Address, NoEntry, NoRun}
+use Rattle.variable.specs.Assign.{Placing}
+use Rattle.std.specs.Prelude.{Ok, Err}
+use Rattle.variable.specs.declared.Unplaced.TheVariants.{NoEntry, NoRun}
 use Rattle.variable.specs.declared.Variables.{Variables}
 use Rattle.machine.specs.Beyond.{Answered, answered, breaks, carries_on}
 use Rattle.machine.specs.Effect.{Effect}
@@ -26,9 +27,8 @@ module _ (k : Kernel) (slot : ℕ) (disc : List ℕ) where
   answer-quiet (breaks n) = refl
 
   set-quiet : (p : Placing) (v : Variables) (l : Local) → (setting k slot disc p v l).out ≡ []
-  set-quiet (Address a) v l = refl
-  set-quiet NoEntry v l = refl
-  set-quiet NoRun v l = refl
+  set-quiet (Ok a) v l = refl
+  set-quiet (Err e) v l = refl
 
   prints : (a : Action) (stack bytes : List ℕ) (l : Local) → (carried_out k slot disc (effect_by a stack bytes l)).out ≡ printed a bytes
   unfolding carried_out

@@ -15,7 +15,7 @@ use Rattle.variable.specs.Assign.{entry_limit, high_end, low_end, place_for, pla
 use Rattle.variable.specs.Closing.{Lists}
 use Rattle.variable.specs.Limits.{max_variables}
 use Rattle.variable.specs.Table.{Shaped, counted, freed, no_variable, run_of}
-use Rattle.variable.specs.declared.Placing.{Placing}
+use Rattle.variable.specs.Assign.{Placing}
 use Rattle.variable.specs.declared.Taken.{Taken}
 use Rattle.variable.specs.declared.Variable.{Variable}
 use Rattle.variable.specs.declared.Variables.{Variables}

@@ -1,6 +1,7 @@
 -- SET: where a value goes, and what becomes of table and memory.
 use Rattle.std.specs.Prelude.{ℕ, ◌+◌, ◌-◌, Bool, true, false, not, List, [], ◌∷◌, ◌++◌, map, eqb, ltb, length}
-use Rattle.std.specs.Prelude.{replicate, set, take, None, Option, Some}
+use Rattle.std.specs.Prelude.{replicate, set, take, Result, Ok, Err}
+use Rattle.std.specs.Option.{ok_or}
 use Rattle.buffer.specs.Buffer.{overwrite}
 use Rattle.buffer.specs.Lists.{keep}
 use Rattle.place.specs.Place.{place}
@@ -8,8 +9,8 @@ use Rattle.place.specs.declared.Run.{Run}
 use Rattle.variable.specs.Limits.{max_variables, memory_size, value_size}
 use Rattle.variable.specs.Table.{Cell, counted, freed, is_of, run_of}
 use Rattle.variable.specs.declared.Assigned.{Assigned}
-use Rattle.variable.specs.declared.Placing.{Placing}
-use Rattle.variable.specs.declared.Placing.TheVariants.{Address, NoEntry, NoRun}
+use Rattle.variable.specs.declared.Unplaced.{Unplaced}
+use Rattle.variable.specs.declared.Unplaced.TheVariants.{NoEntry, NoRun}
 use Rattle.variable.specs.declared.Value.{Value}
 use Rattle.variable.specs.declared.Variable.{Variable}
 use Rattle.variable.specs.declared.Variables.{Variables}
@@ -28,16 +29,16 @@ abbrev pub value_bytes : Value → List ℕ
 value_bytes x = take x.size x.bytes
 
 -- ---- a place for n bytes: among which runs, from where to where, how many entries are used and how many there are
-abbrev pub address_or : Option ℕ → Placing
-address_or (Some a) = Address a
-address_or None = NoRun
+-- its address, or why there is none
+abbrev pub Placing : Type 0
+Placing = Result ℕ Unplaced
 
 abbrev pub if_entry : Bool → Placing → Placing
 if_entry true p = p
-if_entry false p = NoEntry
+if_entry false p = Err NoEntry
 
 unfoldable pub placing : List Run → ℕ → ℕ → ℕ → ℕ → ℕ → Placing
-placing runs low high used limit n = if_entry (ltb used limit) (address_or (place runs low high n))
+placing runs low high used limit n = if_entry (ltb used limit) (ok_or (place runs low high n) NoRun)
 
 -- all variables share one memory and one table
 abbrev pub taken_runs : Variables → List Run
@@ -57,9 +58,8 @@ place_for v n = placing (taken_runs v) low_end high_end v.count entry_limit n
 
 -- Document 01, fault 10: "no variable entry or run"
 abbrev pub placing_fault : Placing → ℕ
-placing_fault (Address a) = 0
-placing_fault NoEntry = 10
-placing_fault NoRun = 10
+placing_fault (Ok a) = 0
+placing_fault (Err e) = 10
 
 -- ---- SET
 abbrev pub new_variable : ℕ → ℕ → Value → ℕ → Variable
@@ -74,10 +74,10 @@ added v e bytes = record {
 }
 
 abbrev pub assign_at : Placing → Variables → Variables → ℕ → ℕ → Value → Assigned
-assign_at (Address a) v w name id x =
-    record { placing = Address a; variables = added w (new_variable name id x a) (value_bytes x) }
-assign_at NoEntry v w name id x = record { placing = NoEntry; variables = v }
-assign_at NoRun v w name id x = record { placing = NoRun; variables = v }
+assign_at (Ok a) v w name id x =
+    record { placing = Ok a; variables = added w (new_variable name id x a) (value_bytes x) }
+assign_at (Err NoEntry) v w name id x = record { placing = Err NoEntry; variables = v }
+assign_at (Err NoRun) v w name id x = record { placing = Err NoRun; variables = v }
 
 -- Document 01: "SET first frees the old variable"; its place is that of document 02, Q-10. A SET that finds no place
 -- changes nothing.

@@ -7,7 +7,7 @@ use Rattle.variable.specs.Bytes.{variables_bytes, with_entries}
 use Rattle.variable.specs.Limits.{max_variables}
 use Rattle.variable.specs.Table.{no_variable}
 use Rattle.variable.specs.declared.Assigned.{Assigned}
-use Rattle.variable.specs.declared.Placing.{Placing}
+use Rattle.variable.specs.Assign.{Placing}
 use Rattle.variable.specs.declared.Taken.{Taken}
 use Rattle.variable.specs.declared.Variable.{Variable}
 use Rattle.variable.specs.declared.Variables.{Variables}

@@ -10,7 +10,7 @@ ghost use Rattle.variable.specs.Table.{freed, is_of, run_of};
 
 use crate::free::free;
 use crate::table::{count_of, entry_at, is_of, put_count, put_entry};
-use crate::{MAX_VARIABLES, MEMORY_SIZE, Placing, Taken, Variable};
+use crate::{MAX_VARIABLES, MEMORY_SIZE, Taken, Unplaced, Variable};
 use place::{MAX_RUNS, Run};
 
 // All variables share one memory and one table.
@@ -64,27 +64,23 @@ fn place_for(
     used: usize,
     limit: usize,
     n: usize,
-) -> Placing
+) -> Result<usize, Unplaced>
     requires { (count ≤ max_runs) × (high < 65536) × (1 ≤ n) }
     ensures { result ≡ placing (take count runs) low high used limit n }
 {
     if limit <= used {
-        return Placing::NoEntry;
+        return Err(Unplaced::NoEntry);
     }
-    match place::find_place(runs, count, low, high, n) {
-        Some(a) => Placing::Address(a),
-        None => Placing::NoRun,
-    }
+    place::find_place(runs, count, low, high, n).ok_or(Unplaced::NoRun)
 }
 
 // Document 01's fault number of a placing, 0 where there is none.
-pub fn placing_fault(p: Placing) -> u8
+pub fn placing_fault(p: Result<usize, Unplaced>) -> u8
     ensures { result ≡ placing_fault p }
 {
     match p {
-        Placing::Address(_) => 0,
-        Placing::NoEntry => 10,
-        Placing::NoRun => 10,
+        Ok(_) => 0,
+        Err(_) => 10,
     }
 }
 
@@ -111,7 +107,13 @@ fn add(variables: &mut [u8], e: Variable, bytes: &[u8])
 
 // Document 01: "SET first frees the old variable"; document 02, Q-10: "at the start of the shortest free run that fits,
 // the lowest of equals". The place is looked for as if the old one were gone, so a SET that finds none writes nothing.
-pub fn assign(variables: &mut [u8], name: u8, kind: u8, owner: u16, bytes: &[u8]) -> Placing
+pub fn assign(
+    variables: &mut [u8],
+    name: u8,
+    kind: u8,
+    owner: u16,
+    bytes: &[u8],
+) -> Result<usize, Unplaced>
     requires { (length variables.old ≡ variables_size) × ((variables_of variables.old).count ≤ max_variables)
         × (1 ≤ length bytes.now) × (length bytes.now ≤ value_size) }
     ensures { SetLeaves result variables.new
@@ -121,20 +123,15 @@ pub fn assign(variables: &mut [u8], name: u8, kind: u8, owner: u16, bytes: &[u8]
     let taken = runs_beside(variables, name, owner);
     let used = taken.count;
     let runs = taken.runs;
-    match place_for(runs, used, LOW_END, HIGH_END, used, ENTRY_LIMIT, n) {
-        Placing::Address(a) => {
-            free(variables, false, name, owner);
-            let e = Variable {
-                name: name,
-                kind: kind,
-                address: a as u8,
-                size: n as u8,
-                owner: owner,
-            };
-            add(variables, e, bytes);
-            Placing::Address(a)
-        }
-        Placing::NoEntry => Placing::NoEntry,
-        Placing::NoRun => Placing::NoRun,
-    }
+    let a = place_for(runs, used, LOW_END, HIGH_END, used, ENTRY_LIMIT, n)?;
+    free(variables, false, name, owner);
+    let e = Variable {
+        name: name,
+        kind: kind,
+        address: a as u8,
+        size: n as u8,
+        owner: owner,
+    };
+    add(variables, e, bytes);
+    Ok(a)
 }

@@ -50,10 +50,9 @@ pub struct Value {
     pub bytes: [u8; VALUE_SIZE],
 }
 
-// Where a new variable goes, or why it does not: both refusals are document 01's fault 10.
-#[derive(Clone, Copy)]
-pub enum Placing {
-    Address(usize),
+// Why a new variable has no place: both are document 01's fault 10.
+#[derive(Clone, Copy, PartialEq, Eq, Debug)]
+pub enum Unplaced {
     NoEntry,
     NoRun,
 }
@@ -61,7 +60,7 @@ pub enum Placing {
 // What a SET leaves, for the definitions.
 #[derive(Clone, Copy)]
 pub struct Assigned {
-    pub placing: Placing,
+    pub placing: Result<usize, Unplaced>,
     pub variables: Variables,
 }
 

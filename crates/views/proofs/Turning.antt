@@ -14,8 +14,9 @@ use Rattle.disc.proofs.Locations.{FileAt}
 use Rattle.disc.specs.Name.{trimmed}
 use Rattle.store.specs.File.{read_at}
 use Rattle.variable.specs.Assign.{assigned, placing_fault, value_of}
-use Rattle.variable.specs.declared.Placing.{Placing}
-use Rattle.variable.specs.declared.Placing.TheVariants.{Address, NoEntry, NoRun}
+use Rattle.variable.specs.Assign.{Placing}
+use Rattle.std.specs.Prelude.{Ok, Err}
+use Rattle.variable.specs.declared.Unplaced.TheVariants.{NoEntry, NoRun}
 use Rattle.variable.specs.declared.Variables.{Variables}
 use Rattle.machine.specs.Beyond.{Answered, advanced, awaited, breaks, carries_on, file_run, inside, is_awaited, pushed}
 use Rattle.machine.specs.Beyond.{read_number_of, read_text, received, unless_breaks, with_open_file}
@@ -192,7 +193,7 @@ module _ (k₁ k₂ : Kernel) (d₁ d₂ : List ℕ) (g₁ : GoodState k₁ d₁
   stops-same = (refl, ended-view 0)
 
   setting-same : (a : Placing) (v : Variables) (l : Local) → SameTurned (setting k₁ slot d₁ a v l) (setting k₂ slot d₂ a v l)
-  setting-same (Address a) v l = (
+  setting-same (Ok a) v l = (
     refl,
     λ z. record {
       files = files-same z;
@@ -200,8 +201,7 @@ module _ (k₁ k₂ : Kernel) (d₁ d₂ : List ℕ) (g₁ : GoodState k₁ d₁
           (put-same k₁ k₂ d₁ d₂ kernel-same slot _ _ (local-same d₁ d₂ p₁ p₂ record-same l)) v v refl z;
     },
   )
-  setting-same NoEntry v l = (refl, ended-view (placing_fault NoEntry))
-  setting-same NoRun v l = (refl, ended-view (placing_fault NoRun))
+  setting-same (Err e) v l = (refl, ended-view (placing_fault (Err e)))
 
   pub assigns-same : (name kind : ℕ) (bytes : List ℕ) (l : Local)
       → SameTurned (carried_out k₁ slot d₁ (assigns name kind bytes l)) (carried_out k₂ slot d₂ (assigns name kind bytes l))

@@ -15,7 +15,7 @@ use Rattle.store.specs.File.{erased, stored, written_at}
 use Rattle.store.proofs.Admissions.{Admitted}
 use Rattle.variable.specs.Assign.{assigned, value_bytes}
 use Rattle.variable.specs.Good.{good_size}
-use Rattle.variable.specs.declared.Placing.TheVariants.{Address}
+use Rattle.std.specs.Prelude.{Ok}
 use Rattle.variable.specs.declared.Value.{Value}
 use Rattle.machine.specs.Beyond.{file_run}
 use Rattle.machine.specs.GoodArea.{good_kernel}
@@ -70,7 +70,7 @@ pub data Own (w : ℕ) (k : Kernel) (disc : List ℕ) (j : Kernel) : Type 0 wher
   moves : (q : Process) → GoesOn disc (process_at k w) q → j ≡ with_process k w q → Own w k disc j
   sets : (q : Process) (name : ℕ) (x : Value) (a : ℕ) → GoesOn disc (process_at k w) q → good_size x.kind x.size ≡ true
       → length (value_bytes x) ≡ x.size
-      → (assigned k.variables name (process_at k w).id x).placing ≡ Address a
+      → (assigned k.variables name (process_at k w).id x).placing ≡ Ok a
       → j ≡ with_variables (with_process k w q) (assigned k.variables name (process_at k w).id x).variables
       → Own w k disc j
   ends : (fault : ℕ) → is_live (process_at k w) ≡ true → j ≡ ended k w fault → Own w k disc j

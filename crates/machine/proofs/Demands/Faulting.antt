@@ -11,8 +11,9 @@ use Rattle.buffer.specs.Lists.{keep}
 use Rattle.buffer.proofs.Kept.{keep-keep}
 use Rattle.variable.specs.Table.{counted, freed_all, owned_by}
 use Rattle.variable.specs.declared.Assigned.{Assigned}
-use Rattle.variable.specs.declared.Placing.{Placing}
-use Rattle.variable.specs.declared.Placing.TheVariants.{Address, NoEntry, NoRun}
+use Rattle.variable.specs.Assign.{Placing}
+use Rattle.std.specs.Prelude.{Ok, Err}
+use Rattle.variable.specs.declared.Unplaced.TheVariants.{NoEntry, NoRun}
 use Rattle.variable.specs.declared.Variable.{Variable}
 use Rattle.variable.specs.declared.Variables.{Variables}
 use Rattle.variable.proofs.Freeing.{freed-counted, freed-memory, owned-freed-all, owned-freed-all-other}
@@ -38,7 +39,7 @@ turn-ends {k} {slot} {clock} {disc} {n} (unplaced name kind bytes l e p z) = ap 
     a : Assigned
     a = placed k slot name kind bytes
 
-    none : (a.placing ≡ NoEntry) ⊎ (a.placing ≡ NoRun) → setting k slot disc a.placing a.variables l ≡ finished k slot disc 10
+    none : (a.placing ≡ Err NoEntry) ⊎ (a.placing ≡ Err NoRun) → setting k slot disc a.placing a.variables l ≡ finished k slot disc 10
     none (inl q) = ap (λ (x : Placing). setting k slot disc x a.variables l) q
     none (inr q) = ap (λ (x : Placing). setting k slot disc x a.variables l) q
 turn-ends {k} {slot} {clock} {disc} {n} (broken r e q) = ap (carried_out k slot disc) e ∙ ap (answering k slot disc) q
@@ -54,9 +55,9 @@ ends-or-goes k slot clock disc running low sound = go (effect_at k slot clock di
         → (placed k slot name kind bytes).placing ≡ q
         → ((n : ℕ) × Ends k slot clock disc n)
         ⊎ RunsOn (process_at k slot) (process_at (setting k slot disc q (placed k slot name kind bytes).variables l).kernel slot)
-    set-left name kind bytes l e (Address a) h = inr (moved-running k slot running low l)
-    set-left name kind bytes l e NoEntry h = inl (10, unplaced name kind bytes l e (inl h) refl)
-    set-left name kind bytes l e NoRun h = inl (10, unplaced name kind bytes l e (inr h) refl)
+    set-left name kind bytes l e (Ok a) h = inr (moved-running k slot running low l)
+    set-left name kind bytes l e (Err NoEntry) h = inl (10, unplaced name kind bytes l e (inl h) refl)
+    set-left name kind bytes l e (Err NoRun) h = inl (10, unplaced name kind bytes l e (inr h) refl)
 
     asked : (r : Request) → effect_at k slot clock disc ≡ asks r → (a : Answered) → answered k slot disc r ≡ a
         → LeftRunning (process_at k slot) slot a

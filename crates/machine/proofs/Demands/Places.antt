@@ -17,14 +17,16 @@ use Rattle.place.specs.Place.{place}
 use Rattle.place.specs.declared.Run.{Run}
 use Rattle.place.proofs.Place.{no-place-none-fits}
 use Rattle.disc.specs.Directory.{good_disc, is_disc_length, lookup}
-use Rattle.variable.specs.Assign.{address_or, assigned, assign_at, entry_limit, high_end, if_entry, low_end, place_for, placing}
+use Rattle.variable.specs.Assign.{assigned, assign_at, entry_limit, high_end, if_entry, low_end, place_for, placing}
 use Rattle.variable.specs.Assign.{placing_fault}
 use Rattle.variable.specs.Assign.{value_of}
 use Rattle.variable.specs.Assign.{taken_runs}
 use Rattle.variable.specs.Table.{freed, is_of}
 use Rattle.variable.specs.declared.Assigned.{Assigned}
-use Rattle.variable.specs.declared.Placing.{Placing}
-use Rattle.variable.specs.declared.Placing.TheVariants.{Address, NoEntry, NoRun as NoFreeRun}
+use Rattle.variable.specs.Assign.{Placing}
+use Rattle.std.specs.Prelude.{Ok, Err}
+use Rattle.std.specs.Option.{ok_or}
+use Rattle.variable.specs.declared.Unplaced.TheVariants.{NoEntry, NoRun as NoFreeRun}
 use Rattle.variable.specs.declared.Value.{Value}
 use Rattle.variable.specs.declared.Variables.{Variables}
 use Rattle.machine.specs.Beyond.{new_file_size}
@@ -44,7 +46,7 @@ placing-lacking : (runs : List Run) (low high used limit n : ℕ) → placing_fa
 unfolding placing
 placing-lacking runs low high used limit n = go (ltb used limit) refl (place runs low high n) refl
   where
-    go : (free : Bool) → ltb used limit ≡ free → (f : Option ℕ) → place runs low high n ≡ f → placing_fault (if_entry free (address_or f)) ≡ 10
+    go : (free : Bool) → ltb used limit ≡ free → (f : Option ℕ) → place runs low high n ≡ f → placing_fault (if_entry free (ok_or f NoFreeRun)) ≡ 10
         → (limit ≤ used) ⊎ NoneFits runs low high n
     go false p f q h = inl (ltb-false used limit p)
     go true p None q h = inr (no-place-none-fits runs low high n q)
@@ -61,9 +63,9 @@ set-lacking v name id x h =
     w = freed v (is_of name id)
 
     same : (p : Placing) → p ≡ (assign_at p v w name id x).placing
-    same (Address a) = refl
-    same NoEntry = refl
-    same NoFreeRun = refl
+    same (Ok a) = refl
+    same (Err NoEntry) = refl
+    same (Err NoFreeRun) = refl
 
 -- ---- the same of a turn: a SET or an OPEN that ends its process found no place
 module _ (k : Kernel) (slot : ℕ) (h : is_running (process_at k slot) ≡ true) where
@@ -88,9 +90,8 @@ module _ (k : Kernel) (slot : ℕ) (h : is_running (process_at k slot) ≡ true)
 
         go : (p : Placing) → a.placing ≡ p → is_running (process_at (setting k slot disc p a.variables l).kernel slot) ≡ false
             → Lacking (freed k.variables (is_of name (process_at k slot).id)) (length bytes)
-        go (Address at) q r = absurd (true-not-false (still-running (with_local (process_at k slot) l) h) r)
-        go NoEntry q r = set-lacking k.variables name (process_at k slot).id (value_of kind bytes) (ap placing_fault q)
-        go NoFreeRun q r = set-lacking k.variables name (process_at k slot).id (value_of kind bytes) (ap placing_fault q)
+        go (Ok at) q r = absurd (true-not-false (still-running (with_local (process_at k slot) l) h) r)
+        go (Err e) q r = set-lacking k.variables name (process_at k slot).id (value_of kind bytes) (ap placing_fault q)
 
     pub turn-open-refused : is_disc_length (length disc) ≡ true → good_disc disc ≡ true → (name : List ℕ) (size : Number) (l : Local)
         → effect_at k slot clock disc ≡ asks (opens name size l)

@@ -8,8 +8,8 @@ use lib.ListN.{length, replicate}
 use Rattle.variable.specs.Assign.{assigned, value_of}
 use Rattle.variable.specs.Limits.{value_size}
 use Rattle.variable.specs.Table.{owned}
-use Rattle.variable.specs.declared.Placing.{Placing}
-use Rattle.variable.specs.declared.Placing.TheVariants.{Address, NoEntry, NoRun}
+use Rattle.variable.specs.Assign.{Placing}
+use Rattle.std.specs.Prelude.{Ok, Err}
 use Rattle.variable.specs.declared.Variables.{Variables}
 use Rattle.variable.proofs.Goodness.{good-size-bounds}
 use Rattle.machine.specs.Beyond.{Answered, carries_on, breaks, answered}
@@ -53,13 +53,12 @@ module _ (k : Kernel) (slot : ℕ) (disc : List ℕ) (good : GoodState k disc) (
 
   set-bytes : (q : Placing) (v : Variables) (l : Local) → ByteVariables v → ByteLocal l → ByteTurned (setting k slot disc q v l)
   unfolding Each
-  set-bytes (Address a) v l c b = record {
+  set-bytes (Ok a) v l c b = record {
     kernel = with-variables (with_process k slot (with_local p l)) (with-process k h slot (with_local p l) (with-local p hp l b)) v c;
     disc = d;
     out = tt;
   }
-  set-bytes NoEntry v l c b = finished-bytes 10 (omega arith)
-  set-bytes NoRun v l c b = finished-bytes 10 (omega arith)
+  set-bytes (Err e) v l c b = finished-bytes 10 (omega arith)
 
   answered-bytes : (a : Answered) → ByteAnswered a → ByteTurned (answering k slot disc a)
   unfolding Each

@@ -9,7 +9,7 @@ use Rattle.buffer.proofs.Bools.{true-not-false}
 use Rattle.disc.specs.Directory.{files}
 use Rattle.variable.specs.Assign.{assigned, assigned_cells, new_cell, value_bytes}
 use Rattle.variable.specs.Table.{owned}
-use Rattle.variable.specs.declared.Placing.TheVariants.{Address}
+use Rattle.std.specs.Prelude.{Ok}
 use Rattle.variable.specs.declared.Value.{Value}
 use Rattle.variable.proofs.Freeing.{owned-freed-all}
 use Rattle.variable.proofs.Goodness.{good-variables-is}
@@ -44,7 +44,7 @@ module _ (k : Kernel) (w : ℕ) (fault : ℕ) where
 
 -- Document 01: "A SET without fault drops the old variable, then adds the new one"
 pub set-variables : (k : Kernel) (disc : List ℕ) → GoodState k disc → (name id : ℕ) (x : Value) (a : ℕ) → length (value_bytes x) ≡ x.size
-    → (assigned k.variables name id x).placing ≡ Address a
+    → (assigned k.variables name id x).placing ≡ Ok a
     → owned (assigned k.variables name id x).variables id ≡ assigned_cells (owned k.variables id) (new_cell name x)
 set-variables k disc good name id x a sized placed =
     assigned-own k.variables name id x good.sized.variables

@@ -9,8 +9,8 @@ use lib.Seq.{take_at}
 use Rattle.disc.specs.Directory.{files}
 use Rattle.variable.specs.Assign.{assigned, value_of}
 use Rattle.variable.specs.Good.{good_size}
-use Rattle.variable.specs.declared.Placing.{Placing}
-use Rattle.variable.specs.declared.Placing.TheVariants.{Address, NoEntry, NoRun}
+use Rattle.variable.specs.Assign.{Placing}
+use Rattle.std.specs.Prelude.{Ok, Err}
 use Rattle.variable.specs.Limits.{value_size}
 use Rattle.machine.specs.Ended.{ended}
 use Rattle.machine.specs.State.{Local, is_live, process_at, with_file, with_local, with_process}
@@ -72,11 +72,10 @@ module _ {k : Kernel} {disc : List ℕ} (good : GoodState k disc) (slot : ℕ) (
         → (q : Placing) → (assigned k.variables letter p.id (value_of kind bytes)).placing ≡ q
         → Change name slot k disc (setting k slot disc q (assigned k.variables letter p.id (value_of kind bytes)).variables l).kernel
         (setting k slot disc q (assigned k.variables letter p.id (value_of kind bytes)).variables l).disc
-    assigns-here letter kind bytes l within size (Address a) e =
+    assigns-here letter kind bytes l within size (Ok a) e =
         acts k (nothing refl refl) refl
         (sets (with_local p l) letter (value_of kind bytes) a (goes-on-local l within) size (ap length whole) e refl)
       where
         whole : take (length bytes) (bytes ++ replicate (value_size - length bytes) 0) ≡ bytes
         whole = take_at bytes (replicate (value_size - length bytes) 0) (length bytes) refl
-    assigns-here letter kind bytes l within size NoEntry e = ends-here _
-    assigns-here letter kind bytes l within size NoRun e = ends-here _
+    assigns-here letter kind bytes l within size (Err x) e = ends-here _

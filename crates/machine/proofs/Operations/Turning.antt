@@ -6,8 +6,8 @@ use mathlib.Core.List.{List}
 use native.Mathlib.Omega.{arith}
 use lib.ListN.{length}
 use Rattle.variable.specs.Assign.{assigned, value_of}
-use Rattle.variable.specs.declared.Placing.{Placing}
-use Rattle.variable.specs.declared.Placing.TheVariants.{Address, NoEntry, NoRun}
+use Rattle.variable.specs.Assign.{Placing}
+use Rattle.std.specs.Prelude.{Ok, Err}
 use Rattle.variable.specs.declared.Variables.{Variables}
 use Rattle.machine.specs.Beyond.{Answered, carries_on, breaks, answered}
 use Rattle.machine.specs.Effect.{Effect, goes, assigns, stops, faults, asks}
@@ -53,9 +53,8 @@ module _ (k : Kernel) (slot clock : ℕ) (disc : List ℕ) (good : GoodState k d
   turn-prints = carried (effect_at k slot clock disc) sound
     where
       set-prints : (q : Placing) (v : Variables) (l : Local) → length (setting k slot disc q v l).out ≤ turn_room
-      set-prints (Address a) v l = omega arith
-      set-prints NoEntry v l = omega arith
-      set-prints NoRun v l = omega arith
+      set-prints (Ok a) v l = omega arith
+      set-prints (Err e) v l = omega arith
 
       answer-prints : (a : Answered) → length (answering k slot disc a).out ≤ turn_room
       answer-prints (carries_on j after) = omega arith

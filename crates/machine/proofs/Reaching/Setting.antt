@@ -18,13 +18,15 @@ use Rattle.place.specs.declared.Run.{Run}
 use Rattle.place.specs.ShortestFit.{ShortestFit}
 use Rattle.place.proofs.ShortestFit.{place-shortest-fit}
 use Rattle.place.proofs.Place.{is-fits}
-use Rattle.variable.specs.Assign.{address_or, added, assigned, entry_limit, high_end, if_entry, low_end, new_variable, place_for, placing}
+use Rattle.variable.specs.Assign.{added, assigned, entry_limit, high_end, if_entry, low_end, new_variable, place_for, placing}
 use Rattle.variable.specs.Assign.{taken_runs, value_bytes, value_of}
 use Rattle.variable.specs.Limits.{max_variables, memory_size}
 use Rattle.variable.specs.Table.{Shaped, counted, freed, is_of, run_of}
 use Rattle.variable.specs.declared.Assigned.{Assigned}
-use Rattle.variable.specs.declared.Placing.{Placing}
-use Rattle.variable.specs.declared.Placing.TheVariants.{Address, NoEntry, NoRun}
+use Rattle.variable.specs.Assign.{Placing}
+use Rattle.std.specs.Prelude.{Ok, Err}
+use Rattle.std.specs.Option.{ok_or}
+use Rattle.variable.specs.declared.Unplaced.TheVariants.{NoEntry, NoRun}
 use Rattle.variable.specs.declared.Value.{Value}
 use Rattle.variable.specs.declared.Variable.{Variable}
 use Rattle.variable.specs.declared.Variables.{Variables}
@@ -55,18 +57,18 @@ use Rattle.machine.proofs.Reaching.Going.{disc-left, live, onward, state-left}
 use Rattle.machine.proofs.Traces.Room.{freed-count-is, room-found}
 
 -- ---- the place of a SET that is done
-placing-place : (runs : List Run) (low high used limit n a : ℕ) → placing runs low high used limit n ≡ Address a
+placing-place : (runs : List Run) (low high used limit n a : ℕ) → placing runs low high used limit n ≡ Ok a
     → place runs low high n ≡ Some a
 unfolding placing
 placing-place runs low high used limit n a = go (ltb used limit) (place runs low high n) refl
   where
-    go : (entry : Bool) (f : Option ℕ) → place runs low high n ≡ f → if_entry entry (address_or f) ≡ Address a → place runs low high n ≡ Some a
+    go : (entry : Bool) (f : Option ℕ) → place runs low high n ≡ f → if_entry entry (ok_or f NoRun) ≡ Ok a → place runs low high n ≡ Some a
     go true (Some s) e h = let same : s ≡ a = cc in e ∙ ap (λ (i : ℕ). Some i) same
     go true None e h = absurd (let z : ◌≡◌ {A = ℕ} 0 1 = cc in omega arith)
     go false f e h = absurd (let z : ◌≡◌ {A = ℕ} 0 1 = cc in omega arith)
 
 module _ (v : Variables) (name id kind : ℕ) (bytes : List ℕ) (a : ℕ)
-    (done : (assigned v name id (value_of kind bytes)).placing ≡ Address a) where
+    (done : (assigned v name id (value_of kind bytes)).placing ≡ Ok a) where
   x : Value
   x = value_of kind bytes
 
@@ -77,7 +79,7 @@ module _ (v : Variables) (name id kind : ℕ) (bytes : List ℕ) (a : ℕ)
   unfolding w
   others-are = freed-counted v (is_of name id)
 
-  placed : place_for w (length bytes) ≡ Address a
+  placed : place_for w (length bytes) ≡ Ok a
   unfolding w x
   placed = sym (assigned-placing v name id x) ∙ done
 
@@ -159,7 +161,7 @@ module _ (b : Buffers) (slot clock : ℕ) where
       does : Does b slot clock (assigns name kind bytes l)
       does = set_found b slot clock rest kind bytes a more top
 
-      lacks : ((s : ℕ) → set.placing ≡ Address s → ⊥) → lacks_space k.variables name id (length bytes) ≡ true
+      lacks : ((s : ℕ) → set.placing ≡ Ok s → ⊥) → lacks_space k.variables name id (length bytes) ≡ true
       lacks none = by (lacks_space k.variables name id (length bytes)) refl
         where
           by : (c : Bool) → lacks_space k.variables name id (length bytes) ≡ c → lacks_space k.variables name id (length bytes) ≡ true
@@ -172,15 +174,15 @@ module _ (b : Buffers) (slot clock : ℕ) where
           × Onward b slot clock ((process_in b slot).pc + 2) rest (file_in b slot)
           × SameDisc b slot clock
           × Assigns k.variables name id kind bytes (state_after b slot clock).variables)
-      go NoEntry e = inl (
+      go (Err NoEntry) e = inl (
         lacks (λ s f. let z : ◌≡◌ {A = ℕ} 0 1 = cc in omega arith),
         ended-only b slot clock a.may 10 (unplaced name kind bytes l does (inl e) refl),
       )
-      go NoRun e = inl (
+      go (Err NoRun) e = inl (
         lacks (λ s f. let z : ◌≡◌ {A = ℕ} 0 1 = cc in omega arith),
         ended-only b slot clock a.may 10 (unplaced name kind bytes l does (inr e) refl),
       )
-      go (Address s) e =
+      go (Ok s) e =
           let good = passes-good b.disc b.area a.may.passes in
           let table = (good-kernel-is (files b.disc) k good.area).variables in
           let q = with_local (process_in b slot) l in

@@ -10,8 +10,8 @@ use lib.Seq.{take_at}
 use Rattle.variable.specs.Limits.{value_size}
 use Rattle.variable.specs.Assign.{assigned, assigned_cells, new_cell, value_bytes, value_of}
 use Rattle.variable.specs.Table.{Cell, owned}
-use Rattle.variable.specs.declared.Placing.{Placing}
-use Rattle.variable.specs.declared.Placing.TheVariants.{Address}
+use Rattle.variable.specs.Assign.{Placing}
+use Rattle.std.specs.Prelude.{Ok}
 use Rattle.machine.specs.Effect.{goes, assigns}
 use Rattle.machine.specs.Exec.{exec}
 use Rattle.machine.specs.Limits.{stack_size}
@@ -162,7 +162,7 @@ module _ (i : ℕ) (prog : List ℕ) (k : Kernel) (disc : List ℕ) (s : Single)
     value-bytes : value_bytes (value_of kind bytes) ≡ bytes
     value-bytes = take_at bytes (replicate (value_size - length bytes) 0) (length bytes) refl
 
-    set-cells : (a : ℕ) → (assigned k.variables name p.id (value_of kind bytes)).placing ≡ Address a
+    set-cells : (a : ℕ) → (assigned k.variables name p.id (value_of kind bytes)).placing ≡ Ok a
         → owned (assigned k.variables name p.id (value_of kind bytes)).variables i ≡ assigned_cells s.cells (cell bytes)
     unfolding assigned_cells
     set-cells a e =
@@ -172,7 +172,7 @@ module _ (i : ℕ) (prog : List ℕ) (k : Kernel) (disc : List ℕ) (s : Single)
         ∙ (λ t. assigned_cells (own-cells t) (cell (value-bytes t)))
 
     -- "A SET without fault drops the old variable, then adds the new one"
-    pub own-sets : (a : ℕ) → (assigned k.variables name p.id (value_of kind bytes)).placing ≡ Address a
+    pub own-sets : (a : ℕ) → (assigned k.variables name p.id (value_of kind bytes)).placing ≡ Ok a
         → Agrees i prog x.slot s (carried_out k x.slot disc (assigns name kind bytes l)) (single_effect s (assigns name kind bytes l))
     unfolding carried_out
     own-sets a e =

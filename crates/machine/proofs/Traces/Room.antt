@@ -11,8 +11,9 @@ use Rattle.buffer.proofs.Bools.{not-is-true, true-not-false}
 use Rattle.place.specs.Place.{fits}
 use Rattle.variable.specs.Assign.{assigned}
 use Rattle.variable.specs.Table.{freed, is_of, run_of}
-use Rattle.variable.specs.declared.Placing.{Placing}
-use Rattle.variable.specs.declared.Placing.TheVariants.{Address, NoEntry, NoRun}
+use Rattle.variable.specs.Assign.{Placing}
+use Rattle.std.specs.Prelude.{Ok, Err}
+use Rattle.variable.specs.declared.Unplaced.TheVariants.{NoEntry, NoRun}
 use Rattle.variable.specs.declared.Value.{Value}
 use Rattle.variable.specs.declared.Variable.{Variable}
 use Rattle.variable.specs.declared.Variables.{Variables}
@@ -30,17 +31,17 @@ module _ (v : Variables) (name i : ℕ) (x : Value) where
   unfolding freed
   freed-count-is = refl
 
-  pub room-found : lacks_space v name i x.size ≡ false → (a : ℕ) × ((assigned v name i x).placing ≡ Address a)
+  pub room-found : lacks_space v name i x.size ≡ false → (a : ℕ) × ((assigned v name i x).placing ≡ Ok a)
   unfolding lacks_space
   room-found h = go (assigned v name i x).placing refl
     where
-      go : (q : Placing) → (assigned v name i x).placing ≡ q → (a : ℕ) × ((assigned v name i x).placing ≡ Address a)
-      go (Address a) e = (a, e)
-      go NoEntry e =
+      go : (q : Placing) → (assigned v name i x).placing ≡ q → (a : ℕ) × ((assigned v name i x).placing ≡ Ok a)
+      go (Ok a) e = (a, e)
+      go (Err NoEntry) e =
           let full : leb max_variables (length others) ≡ true =
           le-leb max_variables (length others) (subst (λ (n : ℕ). max_variables ≤ n) freed-count-is (assigned-no-entry v name i x e)) in
           absurd (true-not-false (or-first _ full) h)
-      go NoRun e =
+      go (Err NoRun) e =
           let runs : (freed v (is_of name i)).count ≡ length others = freed-count-is in
           let none : (a : ℕ) → fits (map run_of others) 0 memory_size x.size a ≡ false = λ a.
           subst (λ (l : List Variable). fits (map run_of l) 0 memory_size x.size a ≡ false) (freed-counted v (is_of name i))

@@ -1,7 +1,8 @@
 -- The variables are set in place; then the process goes on, or ends where no place was found.
 use Rattle.std.proofs.Common.{◌≡◌, length, sym, arith, rules}
 use lib.Seq.{length-take-le}
-use Rattle.variable.specs.declared.Placing.TheVariants.{NoEntry, NoRun}
+use Rattle.std.specs.Prelude.{Err}
+use Rattle.variable.specs.declared.Unplaced.TheVariants.{NoEntry, NoRun}
 use Rattle.machine.specs.Limits.{stack_size}
 use Rattle.process.proofs.Assigning.{set-done, set-few, set_on, set-refused}
 use Rattle.process.proofs.setting.set_variable.Goals as goal
@@ -27,28 +28,28 @@ assign_in-placing-requires c =
 pub go_on-requires : goal.go_on-requires
 go_on-requires c =
     let t = c.requires.0 in
-    (omega (arith, t.size), t.low, set_on t c.args.name c.args.kind c.assign_in-placing.ensures c.in-Address.is)
+    (omega (arith, t.size), t.low, set_on t c.args.name c.args.kind c.assign_in-placing.ensures c.in-Ok.is)
 
-pub returns-in-Address : goal.returns-in-Address
-returns-in-Address c =
-    set-done c.requires.0 c.args.name c.args.kind c.assign_in-placing.ensures c.in-Address.is c.go_on.ensures
+pub returns-in-Ok : goal.returns-in-Ok
+returns-in-Ok c =
+    set-done c.requires.0 c.args.name c.args.kind c.assign_in-placing.ensures c.in-Ok.is c.go_on.ensures
 
 pub finish-requires : goal.finish-requires
 finish-requires c =
     let t = c.requires.0 in
-    (omega (arith, t.size), t.low, set-few t c.args.name c.args.kind c.assign_in-placing.ensures NoEntry tt c.in-NoEntry.is)
+    (omega (arith, t.size), t.low, set-few t c.args.name c.args.kind c.assign_in-placing.ensures (Err NoEntry) tt c.in-NoEntry.is)
 
 pub returns-in-NoEntry : goal.returns-in-NoEntry
 returns-in-NoEntry c =
-    set-refused c.requires.0 c.args.name c.args.kind c.assign_in-placing.ensures NoEntry tt c.in-NoEntry.is
+    set-refused c.requires.0 c.args.name c.args.kind c.assign_in-placing.ensures (Err NoEntry) tt c.in-NoEntry.is
     c.placing_fault.ensures c.finish.ensures
 
 pub finish-requires-in-NoRun : goal.finish-requires-in-NoRun
 finish-requires-in-NoRun c =
     let t = c.requires.0 in
-    (omega (arith, t.size), t.low, set-few t c.args.name c.args.kind c.assign_in-placing.ensures NoRun tt c.in-NoRun.is)
+    (omega (arith, t.size), t.low, set-few t c.args.name c.args.kind c.assign_in-placing.ensures (Err NoRun) tt c.in-NoRun.is)
 
 pub returns-in-NoRun : goal.returns-in-NoRun
 returns-in-NoRun c =
-    set-refused c.requires.0 c.args.name c.args.kind c.assign_in-placing.ensures NoRun tt c.in-NoRun.is
+    set-refused c.requires.0 c.args.name c.args.kind c.assign_in-placing.ensures (Err NoRun) tt c.in-NoRun.is
     c.placing_fault-in-NoRun.ensures c.finish-in-NoRun.ensures

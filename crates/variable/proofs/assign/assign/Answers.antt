@@ -4,14 +4,15 @@ use mathlib.Core.Path.{◌≡◌, sym, ◌∙◌}
 use mathlib.Core.List.{List}
 use native.Mathlib.Omega.{arith}
 use borrow.Author.Rules.{rules}
+use Rattle.std.proofs.lemmas.Result.{err_from_is_err_and}
 use lib.ListN.{get_or, length, take}
 use Rattle.variable.specs.Assign.{added, assigned, entry_limit, high_end, low_end, new_variable, place_for, placing, taken_runs, value_of}
 use Rattle.variable.specs.Bytes.{variables_bytes, variables_of}
 use Rattle.variable.specs.Closing.{Lists, SetLeaves}
 use Rattle.variable.specs.Limits.{max_variables, memory_size, variables_size}
 use Rattle.variable.specs.Table.{Shaped, freed, is_of}
-use Rattle.variable.specs.declared.Placing.{Placing}
-use Rattle.variable.specs.declared.Placing.TheVariants.{Address}
+use Rattle.variable.specs.Assign.{Placing}
+use Rattle.std.specs.Prelude.{Ok}
 use Rattle.variable.specs.declared.Taken.{Taken}
 use Rattle.variable.specs.declared.Variables.{Variables}
 use Rattle.variable.proofs.Bytes.{decoded-shaped, variables-said, variables-whole}
@@ -41,7 +42,7 @@ module _ (bytes : List ℕ) (size : length bytes ≡ variables_size) (few : (var
   refused known {q} e none =
       set-refused (variables_of bytes) shaped few name owner kind value q none (sym searched ∙ e) (sym (variables-whole bytes known size))
 
-  module _ {a : ℕ} (placed : p ≡ Address a) where
+  module _ {a : ℕ} (placed : p ≡ Ok a) where
     -- the new variable has an entry and lies inside memory
     room : (rest.count < max_variables) × (a + length value ≤ memory_size)
     room = set_room (variables_of bytes) shaped few name owner kind value a (sym searched ∙ placed)
@@ -55,7 +56,7 @@ module _ (bytes : List ℕ) (size : length bytes ≡ variables_size) (few : (var
 
     done : {one two : List ℕ} → one ≡ variables_bytes rest
         → two ≡ variables_bytes (added (variables_of one) (new_variable name owner (value_of kind value) a) value)
-        → SetLeaves (Address a) two (assigned (variables_of bytes) name owner (value_of kind value))
+        → SetLeaves (Ok a) two (assigned (variables_of bytes) name owner (value_of kind value))
     done x y = set-done (variables_of bytes) shaped few name owner kind value a (sym searched ∙ placed) x y
 
 pub place_for-requires : goal.place_for-requires
@@ -67,30 +68,25 @@ pub overflow_cast-e : goal.overflow_cast-e
 overflow_cast-e c =
     let a = c.args in
     let r = room a.variables.now c.requires.0 c.requires.1 a.name a.owner a.kind a.bytes.now c.runs_beside-taken.ensures
-    c.place_for.ensures c.in-Address.is in
+    c.place_for.ensures c.in_ok-a.was in
     omega (arith, r.1, c.requires.2)
 
 pub add-requires : goal.add-requires
 add-requires c =
     let a = c.args in
     let r = room-freed a.variables.now c.requires.0 c.requires.1 a.name a.owner a.kind a.bytes.now c.runs_beside-taken.ensures
-    c.place_for.ensures c.in-Address.is c.free.ensures in
+    c.place_for.ensures c.in_ok-a.was c.free.ensures in
     (search rules, r.0, r.1)
 
-pub returns-in-Address : goal.returns-in-Address
-returns-in-Address c =
+pub returns : goal.returns
+returns c =
     let a = c.args in
     done a.variables.now c.requires.0 c.requires.1 a.name a.owner a.kind a.bytes.now c.runs_beside-taken.ensures
-    c.place_for.ensures c.in-Address.is c.free.ensures c.add.ensures
+    c.place_for.ensures c.in_ok-a.was c.free.ensures c.add.ensures
 
-pub returns-in-NoEntry : goal.returns-in-NoEntry
-returns-in-NoEntry c =
+pub returns-in_err-a : goal.returns-in_err-a
+returns-in_err-a c =
     let a = c.args in
-    refused a.variables.now c.requires.0 c.requires.1 a.name a.owner a.kind a.bytes.now c.runs_beside-taken.ensures
-    c.place_for.ensures (λ i. search rules) c.in-NoEntry.is tt
-
-pub returns-in-NoRun : goal.returns-in-NoRun
-returns-in-NoRun c =
-    let a = c.args in
-    refused a.variables.now c.requires.0 c.requires.1 a.name a.owner a.kind a.bytes.now c.runs_beside-taken.ensures
-    c.place_for.ensures (λ i. search rules) c.in-NoRun.is tt
+    let p = err_from_is_err_and c.from_residual.result c.from_residual.ensures.1 in
+    rw (p.1, p.2) (refused a.variables.now c.requires.0 c.requires.1 a.name a.owner a.kind a.bytes.now c.runs_beside-taken.ensures
+    c.place_for.ensures (λ i. search rules) c.in_err-a.was tt)

@@ -1,7 +1,11 @@
 -- No entry where all are used; otherwise what the search for a run finds.
-use mathlib.Core.Path.{sym, ap, ◌∙◌}
+use mathlib.Core.Path.{ap, ◌∙◌}
 use borrow.Author.Tests.{le-ltb, lt-ltb}
-use Rattle.variable.specs.Assign.{address_or, placing}
+use Prim.Native.Nat.{ℕ}
+use Rattle.std.specs.Prelude.{Option}
+use Rattle.std.specs.Option.{ok_or}
+use Rattle.variable.specs.Assign.{placing}
+use Rattle.variable.specs.declared.Unplaced.TheVariants.{NoRun}
 use native.Mathlib.Omega.{arith}
 use Rattle.variable.proofs.assign.place_for.Goals as goal
 
@@ -9,12 +13,7 @@ pub returns-then-limit-used : goal.returns-then-limit-used
 unfolding placing
 returns-then-limit-used c = rw (le-ltb c.args.used c.args.limit (omega arith))
 
-pub returns-in-Some : goal.returns-in-Some
+pub returns : goal.returns
 unfolding placing
-returns-in-Some c =
-    rw (lt-ltb c.args.used c.args.limit (omega arith)) (ap address_or (sym c.in-Some.is ∙ c.find_place.ensures))
-
-pub returns-in-None : goal.returns-in-None
-unfolding placing
-returns-in-None c =
-    rw (lt-ltb c.args.used c.args.limit (omega arith)) (ap address_or (sym c.in-None.is ∙ c.find_place.ensures))
+returns c =
+    rw (lt-ltb c.args.used c.args.limit (omega arith)) (c.ok_or.ensures.value ∙ ap (λ (f : Option ℕ). ok_or f NoRun) c.find_place.ensures)
