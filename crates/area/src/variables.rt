@@ -9,7 +9,7 @@ ghost use Rattle.variable.specs.Limits.{max_variables, value_size};
 ghost use Rattle.variable.specs.Table.{find, freed, is_gone, no_variable};
 ghost use Rattle.area.specs.Parts.{SetIn};
 
-use variable::{Placing, VARIABLES_SIZE, Variable};
+use variable::{Unplaced, VARIABLES_SIZE, Variable};
 
 pub fn variable_at(area: &[u8], i: usize) -> Variable
     requires { (length area.now ≡ area_length) × (i < max_variables) }
@@ -36,7 +36,13 @@ pub fn free_in(area: &mut [u8], every: bool, name: u8, owner: u16)
 }
 
 // A SET of these bytes.
-pub fn assign_in(area: &mut [u8], name: u8, kind: u8, owner: u16, bytes: &[u8]) -> Placing
+pub fn assign_in(
+    area: &mut [u8],
+    name: u8,
+    kind: u8,
+    owner: u16,
+    bytes: &[u8],
+) -> Result<usize, Unplaced>
     requires { (length area.old ≡ area_length) × ((kernel_of area.old).variables.count ≤ max_variables)
         × (1 ≤ length bytes.now) × (length bytes.now ≤ value_size) }
     ensures { SetIn result area.new (kernel_of area.old)

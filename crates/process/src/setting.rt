@@ -11,7 +11,6 @@ use crate::ending::finish;
 use area::variables::assign_in;
 use machine::Process;
 use stack::Step;
-use variable::Placing;
 use variable::assign::placing_fault;
 
 // Document 01: "SET first frees the old variable"; fault 10: "no variable entry or run". Its place is that of document
@@ -27,8 +26,7 @@ pub fn set_variable(area: &mut [u8], slot: usize, p: Process, d: Step, name: u8,
     let file = p.file;
     let placing = assign_in(area, name, kind, p.id, &bytes[..n]);
     match placing {
-        Placing::Address(_) => go_on(area, slot, d.kept, d.pc, d.loopstart, b"", b"", file),
-        Placing::NoEntry => finish(area, slot, placing_fault(placing)),
-        Placing::NoRun => finish(area, slot, placing_fault(placing)),
+        Ok(_) => go_on(area, slot, d.kept, d.pc, d.loopstart, b"", b"", file),
+        Err(_) => finish(area, slot, placing_fault(placing)),
     }
 }

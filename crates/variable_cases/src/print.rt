@@ -1,18 +1,18 @@
 // What the program prints: texts, places, and the table with its memory.
 use std::io;
 use variable::table::{count_of, entry_at};
-use variable::{Placing, VARIABLES_SIZE, Variable};
+use variable::{Unplaced, VARIABLES_SIZE, Variable};
 
 pub fn text(rt: &impl Print, bytes: &[u8]) -> io::Result<()> {
     rt.write_all(bytes)
 }
 
 // Where a value went, or why it did not.
-pub fn placing_line(rt: &impl Print, p: Placing) -> io::Result<()> {
+pub fn placing_line(rt: &impl Print, p: Result<usize, Unplaced>) -> io::Result<()> {
     match p {
-        Placing::Address(a) => println!(rt; " at {a}"),
-        Placing::NoEntry => println!(rt; " no entry"),
-        Placing::NoRun => println!(rt; " no run"),
+        Ok(a) => println!(rt; " at {a}"),
+        Err(Unplaced::NoEntry) => println!(rt; " no entry"),
+        Err(Unplaced::NoRun) => println!(rt; " no run"),
     }
 }
 

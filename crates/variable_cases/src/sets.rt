@@ -2,14 +2,14 @@
 use crate::print;
 use std::io;
 use variable::table::count_of;
-use variable::{MAX_VARIABLES, Placing, VALUE_SIZE, VARIABLES_SIZE};
+use variable::{MAX_VARIABLES, Unplaced, VALUE_SIZE, VARIABLES_SIZE};
 
 const STRING: u8 = 3;
 
 // Where a value went, and the bytes then.
 #[derive(Clone, Copy)]
 pub struct Tried {
-    pub placing: Placing,
+    pub placing: Result<usize, Unplaced>,
     pub variables: [u8; VARIABLES_SIZE],
 }
 
@@ -34,7 +34,7 @@ fn assign(v: [u8; VARIABLES_SIZE], name: u8, owner: u16, size: u8, byte: u8) -> 
         }
     }
     Tried {
-        placing: Placing::NoRun,
+        placing: Err(Unplaced::NoRun),
         variables: next,
     }
 }

@@ -2,7 +2,6 @@
 use Rattle.std.proofs.Common.{◌≡◌, length, sym, arith, rules}
 use lib.Seq.{length-take-le}
 use Rattle.std.specs.Prelude.{Err}
-use Rattle.variable.specs.declared.Unplaced.TheVariants.{NoEntry, NoRun}
 use Rattle.machine.specs.Limits.{stack_size}
 use Rattle.process.proofs.Assigning.{set-done, set-few, set_on, set-refused}
 use Rattle.process.proofs.setting.set_variable.Goals as goal
@@ -37,19 +36,9 @@ returns-in-Ok c =
 pub finish-requires : goal.finish-requires
 finish-requires c =
     let t = c.requires.0 in
-    (omega (arith, t.size), t.low, set-few t c.args.name c.args.kind c.assign_in-placing.ensures (Err NoEntry) tt c.in-NoEntry.is)
+    (omega (arith, t.size), t.low, set-few t c.args.name c.args.kind c.assign_in-placing.ensures (Err c.in-Err.field-0) tt c.in-Err.is)
 
-pub returns-in-NoEntry : goal.returns-in-NoEntry
-returns-in-NoEntry c =
-    set-refused c.requires.0 c.args.name c.args.kind c.assign_in-placing.ensures (Err NoEntry) tt c.in-NoEntry.is
+pub returns-in-Err : goal.returns-in-Err
+returns-in-Err c =
+    set-refused c.requires.0 c.args.name c.args.kind c.assign_in-placing.ensures (Err c.in-Err.field-0) tt c.in-Err.is
     c.placing_fault.ensures c.finish.ensures
-
-pub finish-requires-in-NoRun : goal.finish-requires-in-NoRun
-finish-requires-in-NoRun c =
-    let t = c.requires.0 in
-    (omega (arith, t.size), t.low, set-few t c.args.name c.args.kind c.assign_in-placing.ensures (Err NoRun) tt c.in-NoRun.is)
-
-pub returns-in-NoRun : goal.returns-in-NoRun
-returns-in-NoRun c =
-    set-refused c.requires.0 c.args.name c.args.kind c.assign_in-placing.ensures (Err NoRun) tt c.in-NoRun.is
-    c.placing_fault-in-NoRun.ensures c.finish-in-NoRun.ensures
