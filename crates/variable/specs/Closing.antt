@@ -21,6 +21,10 @@ pub record ClosedUp (v : Variables) (n : ℕ) (gone : Variable → Bool) (bytes 
   pub first : take kept entries ≡ keep (λ e. not (gone e)) (take n v.entries)
   pub behind : drop n entries ≡ drop n v.entries
 
+-- whatever the closure answers for a variable is this test's answer
+abbrev pub AnswersAs : (Variable → Bool → Type 0) → (Variable → Bool) → Type 0
+AnswersAs answers test = (e : Variable) (b : Bool) → answers e b → b ≡ test e
+
 -- nothing from one place up to another
 abbrev pub blanked : List Variable → ℕ → ℕ → List Variable
 blanked l from end = take from l ++ replicate (end - from) no_variable ++ drop end l

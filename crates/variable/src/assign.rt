@@ -124,7 +124,7 @@ pub fn assign(
     let used = taken.count;
     let runs = taken.runs;
     let a = place_for(runs, used, LOW_END, HIGH_END, used, ENTRY_LIMIT, n)?;
-    free(variables, false, name, owner);
+    free(variables, |e| is_of(e, name, owner));
     let e = Variable {
         name: name,
         kind: kind,

@@ -75,14 +75,14 @@ pub add-requires : goal.add-requires
 add-requires c =
     let a = c.args in
     let r = room-freed a.variables.now c.requires.0 c.requires.1 a.name a.owner a.kind a.bytes.now c.runs_beside-taken.ensures
-    c.place_for.ensures c.in_ok-a.was c.free.ensures in
+    c.place_for.ensures c.in_ok-a.was (c.free.ensures (is_of a.name a.owner) (λ e b k. search rules)) in
     (search rules, r.0, r.1)
 
 pub returns : goal.returns
 returns c =
     let a = c.args in
     done a.variables.now c.requires.0 c.requires.1 a.name a.owner a.kind a.bytes.now c.runs_beside-taken.ensures
-    c.place_for.ensures c.in_ok-a.was c.free.ensures c.add.ensures
+    c.place_for.ensures c.in_ok-a.was (c.free.ensures (is_of a.name a.owner) (λ e b k. search rules)) c.add.ensures
 
 pub returns-in_err-a : goal.returns-in_err-a
 returns-in_err-a c =

@@ -10,6 +10,3 @@ use Rattle.variable.proofs.free.blank.Given as goal
 abbrev pub invariant-loop-i : goal.invariant-loop-i
 invariant-loop-i l = (length l.variables ≡ variables_size) × (l.from ≤ l.i) × (l.i ≤ l.end)
     × (let v = variables_of l.initial.variables in l.variables ≡ variables_bytes (with_entries v (blanked v.entries l.from l.i)))
-
-abbrev pub decreases-loop-i : goal.decreases-loop-i
-decreases-loop-i l = l.end - l.i
