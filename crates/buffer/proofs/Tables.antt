@@ -1,5 +1,6 @@
 -- What a search in a list found; tests of tables; tables less one element.
 use Rattle.std.specs.Prelude.{None, Option, Some}
+use Rattle.std.specs.Option.{MatchOption}
 use Prim.Native.Nat.{ℕ, zero, suc, ◌≤◌, ◌<◌}
 use mathlib.Core.Path.{◌≡◌, refl, sym, ◌∙◌, subst, subst₂}
 use mathlib.Core.Bool.{Bool, true, false}
@@ -95,6 +96,12 @@ module _ {A : Type 0} (f : ℕ → A) (n : ℕ) where
 
   pub index-tab-miss : (p : A → Bool) → ((i : ℕ) → i < n → p (f i) ≡ false) → index p (tab f n) ≡ None
   index-tab-miss p h = index-miss p (tab f n) (f 0) (of-each (λ x. p x ≡ false) h)
+
+  -- what a search over the numbers below n answers, in the words of std's `first_from_Range`
+  pub index-tab-first : (p : A → Bool) (r : Option ℕ) → MatchOption r ((k : ℕ) → 0 ≤ k → k < n → p (f k) ≡ false)
+      (λ i. (0 ≤ i) × (i < n) × (p (f i) ≡ true) × ((k : ℕ) → 0 ≤ k → k < i → p (f k) ≡ false)) → r ≡ index p (tab f n)
+  index-tab-first p None h = sym (index-tab-miss p (λ i k. h i (omega arith) k))
+  index-tab-first p (Some i) h = sym (index-tab-is p i h.1 h.2 (λ k l. h.3 k (omega arith) l))
 
 -- ---- a table less its element at i
 module _ {A : Type 0} where

@@ -37,14 +37,11 @@ fn runs_beside(variables: &[u8], name: u8, owner: u16) -> Taken
 {
     let count = count_of(variables);
     let mut runs = place::no_runs();
-    let mut listed: usize = 0;
-    let mut i: usize = 0;
-    while i < count {
+    let mut listed = 0;
+    for i in 0..count {
         let e = entry_at(variables, i);
-        i += 1;
         if !is_of(e, name, owner) {
-            let run = run_of(e);
-            runs[listed] = run;
+            runs[listed] = run_of(e);
             listed += 1;
         }
     }

@@ -63,10 +63,7 @@ pub fn put_entry(variables: &mut [u8], i: usize, e: Variable)
 pub fn is_of(e: Variable, name: u8, owner: u16) -> bool
     ensures { result ≡ is_of name owner e }
 {
-    if e.name != name {
-        return false;
-    }
-    e.owner == owner
+    e.name == name && e.owner == owner
 }
 
 // The place of the variable of that name and process.
@@ -75,13 +72,5 @@ pub fn find_variable(variables: &[u8], name: u8, owner: u16) -> Option<usize>
         × ((variables_of variables.now).count ≤ max_variables) }
     ensures { result ≡ find (variables_of variables.now) name owner }
 {
-    let count = count_of(variables);
-    let mut i: usize = 0;
-    while i < count {
-        if is_of(entry_at(variables, i), name, owner) {
-            return Some(i);
-        }
-        i += 1;
-    }
-    None
+    (0..count_of(variables)).find(|i| is_of(entry_at(variables, *i), name, owner))
 }

@@ -1,5 +1,5 @@
 -- The loop: the entries from the first place up to i are empty.
-use Prim.Native.Nat.{◌≤◌, ◌-◌}
+use Prim.Native.Nat.{◌≤◌}
 use mathlib.Core.Path.{◌≡◌}
 use lib.ListN.{length}
 use Rattle.variable.specs.Bytes.{variables_bytes, variables_of, with_entries}

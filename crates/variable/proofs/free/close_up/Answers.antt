@@ -1,5 +1,5 @@
 -- Each turn moves one entry up, leaves it where it is or drops it, whichever test the closure makes.
-use Prim.Native.Nat.{ℕ, ◌<◌}
+use Prim.Native.Nat.{◌<◌}
 use mathlib.Core.Path.{◌≡◌, sym, ap, ◌∙◌}
 use mathlib.Core.Bool.{not}
 use native.Mathlib.Omega.{arith}
@@ -31,18 +31,33 @@ loop-i-preserved g c =
     let low : c.loop-i.i < max_variables = omega arith in
     elim c.if-not-gone.branch [
       -- it stays: it moves up, or has its place already
-    | then-not-gone w ↦ rw w.kept-is (elim w.if-kept-i.branch [
-        | then-kept-i w' ↦ (omega arith, omega arith, omega arith, λ test says. rw (w.variables-is, w'.variables-is)
-            (closed-moved (variables_of bytes) s test (c.loop-i.invariant.3 test says) low c.entry_at-e.ensures
-            (ap not (sym (says c.entry_at-e.result c.gone.result c.gone.ensures) ∙ w.if-not-gone.true)) w'.put_entry.ensures))
-        | else-kept-i w' ↦ (omega arith, omega arith, omega arith, λ test says. rw (w.variables-is, w'.variables-is)
-            (closed-kept (variables_of bytes) s test (c.loop-i.invariant.3 test says) low c.entry_at-e.ensures
-            (ap not (sym (says c.entry_at-e.result c.gone.result c.gone.ensures) ∙ w.if-not-gone.true)) (omega arith)))
-        ])
+      | then-not-gone w ↦ rw w.kept-is (elim w.if-kept-i.branch [
+        | then-kept-i w' ↦ (
+          omega arith,
+          omega arith,
+          omega arith,
+          λ test says. rw (w.variables-is, w'.variables-is)
+              (closed-moved (variables_of bytes) s test (c.loop-i.invariant.3 test says) low c.entry_at-e.ensures
+              (ap not (sym (says c.entry_at-e.result c.gone.result c.gone.ensures) ∙ w.if-not-gone.true)) w'.put_entry.ensures),
+        )
+        | else-kept-i w' ↦ (
+          omega arith,
+          omega arith,
+          omega arith,
+          λ test says. rw (w.variables-is, w'.variables-is)
+              (closed-kept (variables_of bytes) s test (c.loop-i.invariant.3 test says) low c.entry_at-e.ensures
+              (ap not (sym (says c.entry_at-e.result c.gone.result c.gone.ensures) ∙ w.if-not-gone.true)) (omega arith)),
+        )
+      ])
       -- it goes
-    | else-not-gone w ↦ (omega arith, omega arith, omega arith, λ test says. rw (w.variables-is, w.kept-is)
-        (closed-gone (variables_of bytes) s test (c.loop-i.invariant.3 test says) low c.entry_at-e.ensures
-        (ap not (sym (says c.entry_at-e.result c.gone.result c.gone.ensures) ∙ w.if-not-gone.false))))
+      | else-not-gone w ↦ (
+        omega arith,
+        omega arith,
+        omega arith,
+        λ test says. rw (w.variables-is, w.kept-is)
+            (closed-gone (variables_of bytes) s test (c.loop-i.invariant.3 test says) low c.entry_at-e.ensures
+            (ap not (sym (says c.entry_at-e.result c.gone.result c.gone.ensures) ∙ w.if-not-gone.false))),
+      )
     ]
 
 pub returns-clause-closed : goal.returns-clause-closed
