@@ -6,48 +6,19 @@ ghost use Rattle.machine.specs.Limits.{area_length, record_size};
 ghost use Rattle.machine.specs.Operations.{in_use, uses};
 ghost use Rattle.machine.specs.State.{ended_slot, has_id, is_live, slot_of};
 
-use crate::records::{CODE_AT, FILE_AT, ID_AT, PAUSED, RUNNING, STATE_AT};
+use crate::records::{CODE_AT, FILE_AT, ID_AT, PAUSED, RUNNING, STATE_AT, process_at, record_at};
 use disc::Entry;
 use disc::layout::NAME_SIZE;
-use machine::limits::{SLOT_COUNT, STACK_SIZE};
-use machine::{OpenFile, Process};
-use place::Run;
-
-// Zeros, for an array to begin with: ten of them are cleared at once, ten of a record are copied one by one.
-fn no_process() -> Process {
-    Process {
-        name: [0u8; NAME_SIZE],
-        id: 0,
-        state: 0,
-        fault: 0,
-        code: Run { start: 0, len: 0 },
-        pc: 0,
-        loopstart: 0,
-        file: OpenFile {
-            start: 0,
-            len: 0,
-            offset: 0,
-        },
-        sp: 0,
-        share: 0,
-        stack: [0u8; STACK_SIZE],
-    }
-}
+use machine::Process;
+use machine::limits::SLOT_COUNT;
+use std::array;
 
 // Document 01: "ten of them in the kernel state, copied out, stepped, put back."
 pub fn processes_of(area: &[u8]) -> [Process; SLOT_COUNT]
     requires { length area.now ≡ area_length }
     ensures { result ≡ (kernel_of area.now).processes }
 {
-    let none = no_process();
-    let mut processes = [none; SLOT_COUNT];
-    let mut slot: usize = 0;
-    while slot < SLOT_COUNT {
-        let p = crate::records::process_at(area, slot);
-        processes[slot] = p;
-        slot += 1;
-    }
-    processes
+    array::from_fn(|slot| process_at(area, slot))
 }
 
 // ---- tests of a record's bytes
@@ -100,14 +71,7 @@ pub fn slot_of(area: &[u8], id: u32) -> Option<usize>
     requires { length area.now ≡ area_length }
     ensures { result ≡ slot_of (kernel_of area.now) id }
 {
-    let mut slot: usize = 0;
-    while slot < SLOT_COUNT {
-        if has_id(crate::records::record_at(area, slot), id) {
-            return Some(slot);
-        }
-        slot += 1;
-    }
-    None
+    (0..SLOT_COUNT).find(|slot| has_id(record_at(area, *slot), id))
 }
 
 // Document 01: "Takes the lowest ended slot"
@@ -115,14 +79,7 @@ pub fn ended_slot(area: &[u8]) -> Option<usize>
     requires { length area.now ≡ area_length }
     ensures { result ≡ ended_slot (kernel_of area.now) }
 {
-    let mut slot: usize = 0;
-    while slot < SLOT_COUNT {
-        if !is_live(crate::records::record_at(area, slot)) {
-            return Some(slot);
-        }
-        slot += 1;
-    }
-    None
+    (0..SLOT_COUNT).find(|slot| !is_live(record_at(area, *slot)))
 }
 
 // Document 01, Erase: "11 a live process runs it or has it open."
@@ -130,11 +87,5 @@ pub fn is_in_use(area: &[u8], e: Entry) -> bool
     requires { length area.now ≡ area_length }
     ensures { result ≡ in_use (kernel_of area.now) e }
 {
-    let mut used = false;
-    let mut slot: usize = 0;
-    while slot < SLOT_COUNT {
-        used = used | is_user(crate::records::record_at(area, slot), e);
-        slot += 1;
-    }
-    used
+    (0..SLOT_COUNT).any(|slot| is_user(record_at(area, slot), e))
 }

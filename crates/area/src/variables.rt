@@ -1,12 +1,14 @@
 // The variables of the work area: memory, entries and count stand together at its front, and crate variable reads and
 // writes that part.
-ghost use Rattle.std.specs.Prelude.{◌≡◌, ◌<◌, ◌≤◌, get_or, length};
+ghost use Rattle.std.specs.Prelude.{Bool, ◌≡◌, ◌<◌, ◌≤◌, get_or, length};
 ghost use Rattle.machine.specs.Area.{kernel_bytes, kernel_of};
 ghost use Rattle.machine.specs.Limits.{area_length};
 ghost use Rattle.machine.specs.State.{with_variables};
 ghost use Rattle.variable.specs.Assign.{assigned, value_of};
 ghost use Rattle.variable.specs.Limits.{max_variables, value_size};
-ghost use Rattle.variable.specs.Table.{find, freed, is_gone, no_variable};
+ghost use Rattle.variable.specs.Table.{find, freed, no_variable};
+ghost use Rattle.variable.specs.declared.Variable.{Variable};
+ghost use Rattle.variable.specs.Closing.{AnswersAs};
 ghost use Rattle.area.specs.Parts.{SetIn};
 
 use variable::{Unplaced, VARIABLES_SIZE, Variable};
@@ -26,13 +28,14 @@ pub fn find_in(area: &[u8], name: u8, owner: u16) -> Option<usize>
     variable::table::find_variable(&area[..VARIABLES_SIZE], name, owner)
 }
 
-// Every variable of the owner, or the one of that name.
-pub fn free_in(area: &mut [u8], every: bool, name: u8, owner: u16)
-    requires { (length area.old ≡ area_length) × ((kernel_of area.old).variables.count ≤ max_variables) }
-    ensures { area.new ≡ kernel_bytes (with_variables (kernel_of area.old)
-        (freed (kernel_of area.old).variables (is_gone every name owner))) }
+// Frees the variables that are gone.
+pub fn free_in<F: Fn(Variable) -> bool>(area: &mut [u8], gone: F)
+    requires { (length area.old ≡ area_length) × ((kernel_of area.old).variables.count ≤ max_variables)
+        × F.IsAlwaysCallable gone }
+    ensures { (test : Variable → Bool) → AnswersAs (F.post gone) test
+        → area.new ≡ kernel_bytes (with_variables (kernel_of area.old) (freed (kernel_of area.old).variables test)) }
 {
-    variable::free::free(&mut area[..VARIABLES_SIZE], every, name, owner);
+    variable::free::free(&mut area[..VARIABLES_SIZE], gone);
 }
 
 // A SET of these bytes.

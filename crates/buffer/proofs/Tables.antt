@@ -2,15 +2,18 @@
 use Rattle.std.specs.Prelude.{None, Option, Some}
 use Rattle.std.specs.Option.{MatchOption}
 use Prim.Native.Nat.{ℕ, zero, suc, ◌≤◌, ◌<◌}
-use mathlib.Core.Path.{◌≡◌, refl, sym, ◌∙◌, subst, subst₂}
-use mathlib.Core.Bool.{Bool, true, false}
+use mathlib.Core.Path.{◌≡◌, refl, sym, ap, ◌∙◌, subst, subst₂}
+use mathlib.Core.Bool.{Bool, true, false, ◌||◌}
 use mathlib.Core.List.{List, [], ◌∷◌, ◌++◌, map, append_assoc, append-nil}
 use mathlib.Core.Logic.{⊎_elim}
 use native.Mathlib.Nat.{not-suc-le-zero, le_of_suc-le-suc, eq-or-lt_of_le}
+use native.Mathlib.Numerals.{add-one}
 use native.Mathlib.Omega.{arith}
 use lib.ListN.{length, get_or, take, drop, length-append, drop_of_length-le}
 use lib.Seq.{drop-append-le, take-append-le, take_at}
-use Rattle.buffer.specs.Lists.{all, pairs, index, here_or, tab, without}
+use Rattle.std.specs.List.{list_any, range_with_len}
+use Rattle.std.proofs.lemmas.List.FromFn.{map-range_with_len_more}
+use Rattle.buffer.specs.Lists.{all, any, pairs, index, here_or, tab, without}
 use Rattle.buffer.proofs.Lists.{all-at, all-each, index_is, index-miss, pairs-at, tab-at, tab-length, tab-same}
 
 -- ---- what a search found
@@ -102,6 +105,20 @@ module _ {A : Type 0} (f : ℕ → A) (n : ℕ) where
       (λ i. (0 ≤ i) × (i < n) × (p (f i) ≡ true) × ((k : ℕ) → 0 ≤ k → k < i → p (f k) ≡ false)) → r ≡ index p (tab f n)
   index-tab-first p None h = sym (index-tab-miss p (λ i k. h i (omega arith) k))
   index-tab-first p (Some i) h = sym (index-tab-is p i h.1 h.2 (λ k l. h.3 k (omega arith) l))
+
+-- ---- a test along the numbers below n, as `any` over a range answers it
+pub tab-range : {A : Type 0} (f : ℕ → A) (n : ℕ) → map f (range_with_len 0 n) ≡ tab f n
+unfolding tab
+tab-range f zero = refl
+tab-range f (suc n) = rw add-one at (map-range_with_len_more f 0 n n (omega arith)) ∙ ap (λ l. l ++ (f n ∷ [])) (tab-range f n)
+
+any-listed : {A : Type 0} (p : A → Bool) (f : ℕ → A) (l : List ℕ) → list_any (λ k. p (f k)) l ≡ any p (map f l)
+unfolding any
+any-listed p f [] = refl
+any-listed p f (x ∷ l) = ap (λ b. p (f x) || b) (any-listed p f l)
+
+pub any-range : {A : Type 0} (p : A → Bool) (f : ℕ → A) (n : ℕ) → list_any (λ k. p (f k)) (range_with_len 0 n) ≡ any p (tab f n)
+any-range p f n = any-listed p f (range_with_len 0 n) ∙ ap (any p) (tab-range f n)
 
 -- ---- a table less its element at i
 module _ {A : Type 0} where

@@ -15,6 +15,6 @@ pub fn finish(area: &mut [u8], slot: usize, fault: u8)
     ensures { area.new ≡ kernel_bytes (ended (kernel_of area.old) slot fault) }
 {
     let p = area::records::process_at(area, slot);
-    area::variables::free_in(area, true, 0, p.id);
+    area::variables::free_in(area, |e| e.owner == p.id);
     put_back(area, slot, area::ending::ended_process(p, fault));
 }

@@ -1,20 +1,17 @@
--- Each turn copies one process more.
-use mathlib.Core.Path.{refl, ◌∙◌}
-use native.Mathlib.Omega.{arith}
-use Rattle.buffer.specs.Lists.{tab}
+-- The process of each slot.
+use Rattle.std.proofs.Common.{◌∙◌, rules}
+use Rattle.buffer.proofs.Lists.{tab-same}
 use Rattle.machine.specs.Area.{kernel_of}
+use Rattle.machine.specs.Limits.{slot_count}
+use Rattle.machine.specs.State.{process_at}
+use Rattle.area.specs.Parts.{process_in}
 use Rattle.area.proofs.Reading.{process-read}
-use Rattle.area.proofs.Tables.{filled-all, filled_next}
+use Rattle.area.proofs.Tables.{made-all}
 use Rattle.area.proofs.processes.processes_of.Goals as goal
-
-pub loop-slot-init : goal.loop-slot-init
-unfolding tab
-loop-slot-init c = record { few = omega arith; size = refl; first = refl }
-
-pub loop-slot-preserved : goal.loop-slot-preserved
-loop-slot-preserved c =
-    filled_next _ _ c.loop-slot.invariant (omega arith) (c.process_at-p.ensures ∙ process-read _ c.loop-slot.slot (omega arith))
 
 pub returns : goal.returns
 unfolding kernel_of
-returns c = filled-all _ _ c.loop-slot.invariant (omega arith)
+returns c =
+    let area = c.args.area.now in
+    made-all _ (process_at (kernel_of area)) _ (λ i y q k. search rules) c.from_fn.result slot_count c.from_fn.ensures.items
+    ∙ tab-same (process_at (kernel_of area)) (process_in area) slot_count (λ i h. process-read area i h)
