@@ -1,5 +1,5 @@
 -- Popping, from what the code answers: the value or the number on top, or the fault.
-use Prim.Native.Nat.{ℕ, zero, ◌+◌, ◌-◌, ◌≤◌}
+use Prim.Native.Nat.{ℕ, ◌+◌, ◌-◌, ◌≤◌}
 use mathlib.Core.Path.{◌≡◌, refl, sym, ap, ◌∙◌, subst, subst⁻¹}
 use mathlib.Core.Bool.{Bool, true, false, cond, ◌||◌}
 use mathlib.Core.List.{List, [], ◌∷◌}
@@ -32,18 +32,11 @@ use Rattle.operator.specs.declared.operators.Unary.{Unary}
 use Rattle.operator.specs.declared.operators.Unary.TheVariants.{Increment, Decrement, UnaryMinus, LogicalNot, BitwiseNot, Convert}
 use Rattle.operator.specs.declared.operators.Unary.TheVariants.{Abs, Sq, Sqrt}
 use Rattle.disc.specs.Name.{trimmed}
-use Rattle.machine.specs.Effect.{Effect, number, with_number, with_popped}
+use Rattle.machine.specs.Effect.{Effect, faults, with_number}
 use Rattle.machine.specs.Stack.{Item, Popped, popped, cannot, pop, string_kind}
 use Rattle.machine.proofs.Instructions.Popping.{Pops, TakenOff, number-kinds, pop-pops}
-use Rattle.stack.specs.Steps.{Means, last_step}
-use Rattle.stack.specs.Tops.{bytes_below, is_numeric, number_on, numbered, value_end, value_on}
-use Rattle.stack.specs.declared.Action.TheVariants.{Fault}
-use Rattle.stack.specs.declared.Step.{Step}
-use Rattle.stack.specs.declared.TopNumber.{TopNumber}
-use Rattle.stack.specs.declared.TopNumber.TheVariants.{Is, NoNumber}
+use Rattle.stack.specs.Tops.{is_numeric, no_number, number_above, numbered}
 use Rattle.stack.specs.declared.TopValue.{TopValue}
-use Rattle.stack.specs.declared.TopValue.TheVariants.{Lies, NoValue}
-use Rattle.stack.proofs.Steps.{last-means}
 
 -- ---- values
 abbrev item_at : List ℕ → ℕ → ℕ → ℕ → Item
@@ -56,24 +49,17 @@ pub record OnTop (types : Types) (stack : List ℕ) (kind at len : ℕ) : Type 0
   pub inside : at + len + 1 ≤ length stack
   pub off : TakenOff types stack (item_at stack kind at len) (take at stack)
 
-module _ (types : Types) (stack : List ℕ) {r : TopValue} (known : (value_on stack r ≡ pop types stack) × (value_end r ≤ length stack)) where
-  pub value-on-top : {kind at len : ℕ} → r ≡ Lies kind at len → OnTop types stack kind at len
+module _ (types : Types) (stack : List ℕ) (v : TopValue) where
+  pub value-on-top : (popped (item_at stack v.kind v.at v.len) (take v.at stack) ≡ pop types stack) × (v.at + v.len ≤ length stack)
+      → OnTop types stack v.kind v.at v.len
   unfolding Pops
-  value-on-top {kind} {at} {len} told =
-      let e = sym known.0 ∙ ap (value_on stack) told in
-      let i : at + len ≤ length stack = subst (λ (t : TopValue). value_end t ≤ length stack) told known.1 in
-      let z = part_length stack at len i in
-      let o : TakenOff types stack (item_at stack kind at len) (take at stack) = subst (Pops types stack) e (pop-pops types stack) in
-      let b = length-take-le at stack (omega arith) in
+  value-on-top known =
+      let e = sym known.0 in
+      let i : v.at + v.len ≤ length stack = known.1 in
+      let z = part_length stack v.at v.len i in
+      let o : TakenOff types stack (item_at stack v.kind v.at v.len) (take v.at stack) = subst (Pops types stack) e (pop-pops types stack) in
+      let b = length-take-le v.at stack (omega arith) in
       record { pops = e; size = z; inside = omega (arith, o.lay); off = o }
-
-  pub no_value : {fault : ℕ} → r ≡ NoValue fault → pop types stack ≡ cannot fault
-  no_value told = sym known.0 ∙ ap (value_on stack) told
-
-  -- an instruction that needs it faults, whatever it lies on
-  pub value-faults : {fault : ℕ} → r ≡ NoValue fault → (whole : List ℕ) {d : Step} → d ≡ last_step (Fault fault)
-      → (next : Item → List ℕ → Effect) → Means whole d (with_popped (pop types stack) next)
-  value-faults told whole e next = rw (no_value told) (last-means whole e)
 
 -- a string less its zero
 pub string-text : (stack : List ℕ) (kind at len : ℕ) → OnTop AnyString stack kind at len
@@ -90,39 +76,15 @@ string-text stack kind at len t =
     )
 
 -- ---- numbers
--- a number that lies on top of n bytes
-pub record NumberOnTop (types : Types) (stack : List ℕ) (a : Number) (n : ℕ) : Type 0 where
-  pub item : Item
-  pub pops : pop types stack ≡ popped item (take n stack)
-  pub is : number item ≡ a
-  pub below : n ≤ length stack
+-- an instruction goes on with the number popped, or has its fault
+pub number-goes : (p : Popped) {a : Number} {rest : List ℕ} → number_above a rest ≡ numbered p → (next : Number → List ℕ → Effect)
+    → with_number p next ≡ next a rest
+number-goes (popped item rest) e next = cc
+number-goes (cannot fault) e next = cc
 
-module _ (types : Types) (stack : List ℕ) {r : TopNumber}
-    (known : (number_on stack r ≡ numbered (pop types stack)) × (bytes_below r ≤ length stack)) where
-  pub number-on-top : {a : Number} {n : ℕ} → r ≡ Is a n → NumberOnTop types stack a n
-  number-on-top {a} {n} told = go (pop types stack) refl (ap (number_on stack) (sym told) ∙ known.0)
-    where
-      go : (p : Popped) → pop types stack ≡ p → number_on stack (Is a n) ≡ numbered p → NumberOnTop types stack a n
-      go (popped item rest) q e =
-          let f : rest ≡ take n stack = cc in
-          record {
-            item = item;
-            pops = q ∙ ap (popped item) f;
-            is = cc;
-            below = subst (λ (t : TopNumber). bytes_below t ≤ length stack) told known.1;
-          }
-      go (cannot fault) q e = absurd (let z : ◌≡◌ {A = ℕ} 0 1 = cc in omega arith)
-
-  no-number : {fault : ℕ} → r ≡ NoNumber fault → pop types stack ≡ cannot fault
-  no-number {fault} told = go (pop types stack) (ap (number_on stack) (sym told) ∙ known.0)
-    where
-      go : (p : Popped) → number_on stack (NoNumber fault) ≡ numbered p → p ≡ cannot fault
-      go (popped item rest) e = absurd (let z : ◌≡◌ {A = ℕ} 0 1 = cc in omega arith)
-      go (cannot f) e = cc
-
-  pub number-faults : {fault : ℕ} → r ≡ NoNumber fault → (whole : List ℕ) {d : Step} → d ≡ last_step (Fault fault)
-      → (next : Number → List ℕ → Effect) → Means whole d (with_number (pop types stack) next)
-  number-faults told whole e next = rw (no-number told) (last-means whole e)
+pub number-faults : (p : Popped) {n : ℕ} → no_number n ≡ numbered p → (next : Number → List ℕ → Effect) → with_number p next ≡ faults n
+number-faults (popped item rest) e next = cc
+number-faults (cannot fault) e next = cc
 
 -- ---- sets of types of numbers
 is_number : (kind n : ℕ) → includes AnyNumber n ≡ true → eqb kind n ≡ true → includes AnyNumber kind ≡ true

@@ -2,7 +2,7 @@
 use Prim.Native.Nat.{ℕ, ◌+◌, ◌-◌, ◌≤◌}
 use mathlib.Core.Path.{◌≡◌, refl, ap, ◌∙◌}
 use mathlib.Core.Bool.{Bool, true, false, cond}
-use mathlib.Core.List.{List, [], ◌++◌}
+use mathlib.Core.List.{List, ◌++◌}
 use native.Mathlib.Omega.{arith}
 use lib.Dec.{eqb}
 use lib.ListN.{length, take, replicate, length-append}
@@ -10,30 +10,16 @@ use lib.Seq.{length-take-le, take_at}
 use Rattle.number.specs.Value.{encoded, type_of, value_bytes}
 use Rattle.number.specs.declared.Number.{Number}
 use Rattle.number.specs.declared.Number.TheVariants.{Char, Int, Float}
-use Rattle.machine.specs.Effect.{Effect}
 use Rattle.machine.specs.Limits.{stack_size}
 use Rattle.machine.specs.Stack.{push, push_item, push_string, string_kind}
-use Rattle.stack.specs.Steps.{Means, effect_by, effect_of, last_step, placed, step_of}
+use Rattle.stack.specs.Steps.{Does, effect_by, effect_of, placed, step_of}
 use Rattle.stack.specs.declared.Action.{Action}
 use Rattle.stack.specs.declared.Step.{Step}
-
-pub means-as : {stack : List ℕ} {d : Step} {e f : Effect} → Means stack d e → e ≡ f → Means stack d f
-means-as h p = record { same = h.same ∙ p; kept = h.kept; len = h.len }
-
--- a process's last step
-pub last-means : (stack : List ℕ) {d : Step} {action : Action} → d ≡ last_step action
-    → Means stack d (effect_by action stack [] (placed [] 0 0))
-last-means stack p =
-    record {
-      same = ap (effect_of stack) p;
-      kept = omega (arith, ap (λ (x : Step). x.kept) p);
-      len = omega (arith, ap (λ (x : Step). x.len) p);
-    }
 
 -- a step about bytes
 pub step-means : (stack bytes : List ℕ) {d : Step} {action : Action} {kept pc loopstart : ℕ}
     → (d ≡ step_of action kept bytes pc loopstart) × (d.len ≤ stack_size) → kept ≤ length stack
-    → Means stack d (effect_by action stack bytes (placed (take kept stack) pc loopstart))
+    → Does stack d (effect_by action stack bytes (placed (take kept stack) pc loopstart))
 step-means stack bytes {d} {action} {kept} {pc} {loopstart} p h =
     record {
       same = ap (effect_of stack) p.0

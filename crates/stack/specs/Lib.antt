@@ -1,4 +1,8 @@
+-- what an instruction finds
+pub mod Ready
+-- what a step stands for
+pub mod Steps
 -- what popping answers
 pub mod Tops
--- what an instruction does, and how it is made
-pub mod Steps
+-- what an instruction does where it stands
+pub mod Frames

@@ -1,17 +1,15 @@
 -- What a step of the code stands for: the effect of an instruction on the stack as it found it.
-use Rattle.std.specs.Prelude.{ℕ, ◌+◌, ◌-◌, ◌≤◌, List, [], ◌++◌, ◌≡◌, length, replicate, take}
+use Rattle.std.specs.Prelude.{ℕ, ◌-◌, ◌≤◌, List, [], ◌++◌, ◌≡◌, length, replicate, take, Result, Ok, Err}
 use Rattle.machine.specs.Effect.{Effect, goes, assigns, stops, faults, asks, opens, closes, writes, reads, reads_string}
 use Rattle.machine.specs.Effect.{forks, awaits}
+use Rattle.machine.specs.Fault.{fault_number}
 use Rattle.machine.specs.Limits.{stack_size}
 use Rattle.machine.specs.State.{Local}
+use Rattle.machine.specs.declared.fault.Fault.{Fault}
 use Rattle.stack.specs.declared.Action.{Action}
-use Rattle.stack.specs.declared.Action.TheVariants.{Push, Print, Assign, Stop, Fault, Open, Close, Write, Read}
+use Rattle.stack.specs.declared.Action.TheVariants.{Push, Print, Assign, Stop, Open, Close, Write, Read}
 use Rattle.stack.specs.declared.Action.TheVariants.{ReadString, Fork, Await}
 use Rattle.stack.specs.declared.Step.{Step}
-
--- a program's length is a field of two bytes
-abbrev pub max_code : ℕ
-max_code = 65535
 
 -- the bytes that the action is about
 abbrev pub about : Step → List ℕ
@@ -30,7 +28,6 @@ effect_by Push stack bytes l = goes (placed (l.stack ++ bytes) l.pc l.loopstart)
 effect_by Print stack bytes l = goes l bytes
 effect_by (Assign name kind) stack bytes l = assigns name kind bytes l
 effect_by Stop stack bytes l = stops
-effect_by (Fault n) stack bytes l = faults n
 effect_by (Open size) stack bytes l = asks (opens bytes size l)
 effect_by Close stack bytes l = asks (closes l)
 effect_by Write stack bytes l = asks (writes bytes l)
@@ -61,19 +58,12 @@ last_step action = record { action = action; kept = 0; bytes = replicate stack_s
 
 -- ---- what a step has to meet
 -- it has this effect, and keeps no more of the stack than there is
-pub record Means (stack : List ℕ) (d : Step) (e : Effect) : Type 0 where
+pub record Does (stack : List ℕ) (d : Step) (e : Effect) : Type 0 where
   pub same : effect_of stack d ≡ e
   pub kept : d.kept ≤ length stack
   pub len : d.len ≤ stack_size
 
--- code and stack have their sizes, and there is an instruction byte
-pub record Ready (code stack : List ℕ) (at : ℕ) : Type 0 where
-  pub short : length code ≤ max_code
-  pub low : length stack ≤ stack_size
-  pub inside : at + 1 ≤ length code
-
--- code and stack have their sizes, and so many bytes lie on the stack
-pub record Keeps (code stack : List ℕ) (kept : ℕ) : Type 0 where
-  pub short : length code ≤ max_code
-  pub low : length stack ≤ stack_size
-  pub there : kept ≤ length stack
+-- an instruction's answer, a step or a fault, has this effect
+abbrev pub Means : List ℕ → Result Step Fault → Effect → Type 0
+Means stack (Ok d) e = Does stack d e
+Means stack (Err fault) e = faults (fault_number fault) ≡ e

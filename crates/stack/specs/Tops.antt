@@ -1,26 +1,25 @@
 -- What the code's answers to popping stand for.
-use Rattle.std.specs.Prelude.{ℕ, ◌+◌, Bool, true, false, List, take, pos}
+use Rattle.std.specs.Prelude.{ℕ, ◌+◌, Bool, true, false, List, take, Result, Ok, Err}
 use Rattle.buffer.specs.Buffer.{part}
-use Rattle.machine.specs.Effect.{Effect, faults, number}
-use Rattle.machine.specs.Stack.{Popped, popped, cannot, pop}
+use Rattle.machine.specs.Effect.{number}
+use Rattle.machine.specs.Fault.{fault_number}
+use Rattle.machine.specs.Stack.{Popped, popped, cannot}
+use Rattle.machine.specs.declared.fault.Fault.{Fault}
 use Rattle.number.specs.declared.Number.{Number}
-use Rattle.number.specs.declared.Number.TheVariants.{Char}
 use Rattle.operator.specs.declared.instruction.Types.{Types}
 use Rattle.operator.specs.declared.instruction.Types.TheVariants.{AnyNumber, CharOrInt, IntOrFloat, CharOrFloat}
 use Rattle.operator.specs.declared.instruction.Types.TheVariants.{AnyString, AnyValue, Nothing}
 use Rattle.stack.specs.declared.TopNumber.{TopNumber}
-use Rattle.stack.specs.declared.TopNumber.TheVariants.{Is, NoNumber}
 use Rattle.stack.specs.declared.TopValue.{TopValue}
-use Rattle.stack.specs.declared.TopValue.TheVariants.{Lies, NoValue}
 
 -- the value that lies there, and the stack below it
-abbrev pub value_on : List ℕ → TopValue → Popped
-value_on stack (Lies kind at len) = popped (record { kind = kind; bytes = part stack at len }) (take at stack)
-value_on stack (NoValue fault) = cannot fault
+abbrev pub value_on : List ℕ → Result TopValue Fault → Popped
+value_on stack (Ok v) = popped (record { kind = v.kind; bytes = part stack v.at v.len }) (take v.at stack)
+value_on stack (Err fault) = cannot (fault_number fault)
 
-abbrev pub value_end : TopValue → ℕ
-value_end (Lies kind at len) = at + len
-value_end (NoValue fault) = 0
+abbrev pub value_end : Result TopValue Fault → ℕ
+value_end (Ok v) = v.at + v.len
+value_end (Err fault) = 0
 
 -- sets of types of numbers alone
 abbrev pub is_numeric : Types → Bool
@@ -41,26 +40,11 @@ abbrev pub numbered : Popped → Numbered
 numbered (popped item rest) = number_above (number item) rest
 numbered (cannot fault) = no_number fault
 
-abbrev pub number_on : List ℕ → TopNumber → Numbered
-number_on stack (Is a below) = number_above a (take below stack)
-number_on stack (NoNumber fault) = no_number fault
-
--- the number popped next, from what lies below one popped before; a fault met before stays
-abbrev pub next_numbered : Types → Numbered → Numbered
-next_numbered types (number_above a rest) = numbered (pop types rest)
-next_numbered types (no_number fault) = no_number fault
-
--- the number, of which 0 is never used where there is none
-abbrev pub number_in : TopNumber → Number
-number_in (Is a below) = a
-number_in (NoNumber fault) = Char (pos 0)
-
--- an instruction goes on with the number, or faults
-abbrev pub with_numbered : Numbered → (Number → List ℕ → Effect) → Effect
-with_numbered (number_above a rest) next = next a rest
-with_numbered (no_number fault) next = faults fault
+abbrev pub number_on : List ℕ → Result TopNumber Fault → Numbered
+number_on stack (Ok top) = number_above top.number (take top.below stack)
+number_on stack (Err fault) = no_number (fault_number fault)
 
 -- how many bytes lie below it
-abbrev pub bytes_below : TopNumber → ℕ
-bytes_below (Is a below) = below
-bytes_below (NoNumber fault) = 0
+abbrev pub bytes_below : Result TopNumber Fault → ℕ
+bytes_below (Ok top) = top.below
+bytes_below (Err fault) = 0

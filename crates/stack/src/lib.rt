@@ -2,6 +2,7 @@
 #![tactic(auto)]
 
 pub mod ends;
+pub mod frame;
 pub mod tops;
 
 use machine::limits::STACK_SIZE;
@@ -10,18 +11,19 @@ use number::Number;
 // Document 01: "a string as bytes, length, 3"
 pub const STRING_KIND: u8 = 3;
 
-// The value on top: its type, its first byte and its length; or the fault that popping it meets.
+// The value on top: its type, its first byte and its length.
 #[derive(Clone, Copy)]
-pub enum TopValue {
-    Lies(u8, usize, usize),
-    NoValue(u8),
+pub struct TopValue {
+    pub kind: u8,
+    pub at: usize,
+    pub len: usize,
 }
 
-// The number on top and how many bytes lie below it; or the fault that popping it meets.
+// The number on top and how many bytes lie below it.
 #[derive(Clone, Copy)]
-pub enum TopNumber {
-    Is(Number, usize),
-    NoNumber(u8),
+pub struct TopNumber {
+    pub number: Number,
+    pub below: usize,
 }
 
 // What an instruction does with its bytes: pushes or prints them, assigns them to the variable of that name and type,
@@ -32,7 +34,6 @@ pub enum Action {
     Print,
     Assign(u8, u8),
     Stop,
-    Fault(u8),
     Open(Number),
     Close,
     Write,
@@ -43,8 +44,7 @@ pub enum Action {
 }
 
 // One step of a process: it keeps the first `kept` bytes of its stack, the first `len` bytes are for the action, and it
-// goes on at pc. An enum holds no array, so the bytes stand beside the action; they come first, so that a machine of
-// words copies them by words.
+// goes on at pc. They stand first, so that a machine of words copies them by words.
 #[derive(Clone, Copy)]
 pub struct Step {
     pub bytes: [u8; STACK_SIZE],

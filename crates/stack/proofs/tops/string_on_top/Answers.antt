@@ -39,17 +39,17 @@ returns-then-n-lt2 c = (rw (lt-leb 2 (length c.args.stack.now) (omega arith)), o
 pub returns-then-n-len : goal.returns-then-n-len
 unfolding pop_string
 returns-then-n-len c =
-    (rw (le-leb 2 (length c.args.stack.now) (omega arith), ← c.wide-len.ensures, lt-leb _ _ c.if-n-len.true), omega arith)
+    (rw (le-leb 2 (length c.args.stack.now) (omega arith), ← c.from-len.ensures, lt-leb _ _ c.if-n-len.true), omega arith)
 
 pub returns-then-text_length-len : goal.returns-then-text_length-len
 unfolding pop_string
 returns-then-text_length-len c =
     let s = c.args.stack.now in
-    let n = c.wide-len.result in
+    let n = c.from-len.result in
     let m = measured s n c.text_length.result (omega arith) c.text_length.ensures in (
       rw (
         le-leb 2 (length s) (omega arith),
-        ← c.wide-len.ensures,
+        ← c.from-len.ensures,
         le-leb (n + 2) (length s) (omega arith),
         not-well-formed (string s n) (λ e. c.if-text_length-len.true (omega (arith, m.size, m.text))),
       ),
@@ -60,11 +60,11 @@ pub returns : goal.returns
 unfolding pop_string
 returns c =
     let s = c.args.stack.now in
-    let n = c.wide-len.result in
+    let n = c.from-len.result in
     let m = measured s n c.text_length.result (omega arith) c.text_length.ensures in (
       rw (
         le-leb 2 (length s) (omega arith),
-        ← c.wide-len.ensures,
+        ← c.from-len.ensures,
         le-leb (n + 2) (length s) (omega arith),
         is-well-formed (string s n) (omega (arith, m.size, m.text)),
       ),

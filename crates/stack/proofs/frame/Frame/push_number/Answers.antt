@@ -6,7 +6,7 @@ use Rattle.number.specs.Value.{encoded}
 use Rattle.number.specs.declared.Number.{Number}
 use Rattle.number.specs.declared.value.Encoded.{Encoded}
 use Rattle.stack.proofs.Steps.{encoded-inside, number_pushed}
-use Rattle.stack.proofs.ends.push_number.Goals as goal
+use Rattle.stack.proofs.frame.Frame.push_number.Goals as goal
 
 -- as many bytes as the type says are there
 inside : (a : Number) (e : Encoded) → e ≡ encoded a → e.kind ≤ length e.bytes
@@ -23,4 +23,4 @@ slice_bounds-push_item-end c =
 pub returns : goal.returns
 returns c =
     let a = c.args in
-    rw (← number_pushed a.a (take a.kept a.stack.now), ← c.encode-encoded.ensures) c.push_item.ensures
+    rw (← number_pushed a.a (take a.kept a.self.now.stack.now), ← c.encode-encoded.ensures) c.push_item.ensures

@@ -5,7 +5,7 @@ use native.Mathlib.Nat.{zero-add}
 use Rattle.buffer.specs.Buffer.{overwrite}
 use Rattle.buffer.proofs.Buffer.{overwrite-joined, overwrite-zeros}
 use Rattle.machine.specs.Limits.{stack_size}
-use Rattle.stack.proofs.ends.with_bytes.Goals as goal
+use Rattle.stack.proofs.frame.Frame.step.Goals as goal
 
 -- two parts laid over the zeros of a whole stack
 laid : (head tail : List ℕ) → length head + length tail ≤ stack_size → {first second : List ℕ}
@@ -28,7 +28,7 @@ returns c =
         bytes = bytes t;
         len = sym (length-append a.head.now a.tail.now) t;
         pc = a.pc;
-        loopstart = a.loopstart;
+        loopstart = a.self.now.loopstart;
       },
       omega (arith, c.requires.1),
     )
