@@ -1,37 +1,30 @@
 // Instructions that look at the clock.
 ghost use Rattle.machine.specs.Exec.{delays, push_clock};
-ghost use Rattle.stack.specs.Steps.{Means, Ready};
+ghost use Rattle.stack.specs.Frames.{Performs};
 
+use machine::fault::Fault;
 use number::clock::is_ahead;
 use operator::instruction::Types;
-use stack::ends::{go, last_step, push_item, with_stack};
+use stack::frame::Frame;
 use stack::tops::top_number;
-use stack::{Action, Step, TopNumber};
+use stack::{Action, Step};
 
 // Document 02, Q-4: "DELAYUNTIL now stays while x minus the clock, modulo 65,536, is 1 to 32,767. CHAR is widened
 // first. FLOAT becomes fault 6."
-pub fn delay(code: &[u8], stack: &[u8], at: usize, loopstart: u16, clock: u32) -> Step
-    requires { Ready code.now stack.now at }
-    ensures { Means stack.now result
-        (delays code.now stack.now loopstart at clock) }
+pub fn delay(frame: &Frame<'_>, clock: u32) -> Result<Step, Fault>
+    ensures { Performs frame.now (λ code stack loopstart at. delays code stack loopstart at clock) result }
 {
-    match top_number(stack, Types::CharOrInt) {
-        TopNumber::Is(x, below) => {
-            if is_ahead(x, clock) {
-                return with_stack(Action::Push, stack, at, loopstart);
-            }
-            go(code, stack, below, at + 1, loopstart)
-        }
-        TopNumber::NoNumber(fault) => last_step(Action::Fault(fault)),
+    let x = top_number(frame.stack, Types::CharOrInt)?;
+    if is_ahead(x.number, clock) {
+        return Ok(frame.act(Action::Push, frame.at));
     }
+    frame.go(x.below, frame.at + 1)
 }
 
 // MILLIS: an INT, high byte first.
-pub fn push_clock(code: &[u8], stack: &[u8], at: usize, loopstart: u16, clock: u32) -> Step
-    requires { Ready code.now stack.now at }
-    ensures { Means stack.now result
-        (push_clock code.now stack.now loopstart at clock) }
+pub fn push_clock(frame: &Frame<'_>, clock: u32) -> Result<Step, Fault>
+    ensures { Performs frame.now (λ code stack loopstart at. push_clock code stack loopstart at clock) result }
 {
     let bytes = [(clock % 65536 / 256) as u8, (clock % 256) as u8];
-    push_item(code, stack, stack.len(), 2, &bytes, at + 1, loopstart)
+    frame.push_item(frame.stack.len(), 2, &bytes, frame.at + 1)
 }

@@ -1,15 +1,16 @@
 // Jumps and loops. Jumps count from past the arguments.
-ghost use Rattle.std.specs.Prelude.{cond, [], ◌∷◌, ◌++◌, ◌+◌, ◌≤◌, leb, length, take};
-ghost use Rattle.std.specs.Prelude.{Some};
-ghost use Rattle.machine.specs.Effect.{settle, unless_faults};
+ghost use Rattle.std.specs.Prelude.{cond, ◌∷◌, [], ◌++◌, ◌+◌, ◌≤◌, leb, length, take};
+ghost use Rattle.machine.specs.Effect.{unless_faults};
 ghost use Rattle.machine.specs.Exec.{drops, ends_while, jumps_if, loops_back, marks_loop, whiles};
-ghost use Rattle.stack.specs.Steps.{Keeps, Means, Ready};
+ghost use Rattle.stack.specs.Frames.{Performs, lands};
+ghost use Rattle.stack.specs.Steps.{Means};
 
+use machine::fault::Fault;
 use number::value::is_zero;
 use operator::instruction::Types;
-use stack::ends::{go, jump, last_step, push_bytes};
-use stack::tops::{top_number, wide};
-use stack::{Action, Step, TopNumber};
+use stack::Step;
+use stack::frame::Frame;
+use stack::tops::top_number;
 
 // Document 01: "loop 2 (hex FFFF: none)"
 const NO_LOOP: u16 = 65535;
@@ -18,119 +19,105 @@ const NO_LOOP: u16 = 65535;
 const MAX_DISTANCE: usize = 251;
 
 // IF and ELSE look at a number and leave it as it lies.
-pub fn jump_if(code: &[u8], stack: &[u8], at: usize, loopstart: u16, zero: bool) -> Step
-    requires { Ready code.now stack.now at }
-    ensures { Means stack.now result
-        (jumps_if code.now stack.now loopstart at zero) }
+pub fn jump_if(frame: &Frame<'_>, zero: bool) -> Result<Step, Fault>
+    ensures { Performs frame.now (λ code stack loopstart at. jumps_if code stack loopstart at zero) result }
 {
-    let from = at + 1;
+    let from = frame.at + 1;
     let to = from + 1;
-    if code.len() < to {
-        return last_step(Action::Fault(2));
+    if frame.code.len() < to {
+        return Err(Fault::CodeEnded);
     }
-    match top_number(stack, Types::AnyNumber) {
-        TopNumber::Is(x, _) => {
-            if is_zero(x) == zero {
-                return jump(code, stack, to + wide(code[from]), loopstart);
-            }
-            jump(code, stack, to, loopstart)
-        }
-        TopNumber::NoNumber(fault) => last_step(Action::Fault(fault)),
+    let x = top_number(frame.stack, Types::AnyNumber)?;
+    if is_zero(x.number) == zero {
+        return frame.jump(to + usize::from(frame.code[from]));
     }
+    frame.jump(to)
 }
 
 // ENDIF
-pub fn drop_number(code: &[u8], stack: &[u8], at: usize, loopstart: u16) -> Step
-    requires { Ready code.now stack.now at }
-    ensures { Means stack.now result (drops code.now stack.now loopstart at) }
+pub fn drop_number(frame: &Frame<'_>) -> Result<Step, Fault>
+    ensures { Performs frame.now drops result }
 {
-    match top_number(stack, Types::AnyNumber) {
-        TopNumber::Is(_, below) => go(code, stack, below, at + 1, loopstart),
-        TopNumber::NoNumber(fault) => last_step(Action::Fault(fault)),
-    }
+    let x = top_number(frame.stack, Types::AnyNumber)?;
+    frame.go(x.below, frame.at + 1)
 }
 
 // Document 01: "zero skips b + 1; otherwise the raw byte c + b + 4 is pushed."
 fn choose_while(
-    code: &[u8],
-    stack: &[u8],
+    frame: &Frame<'_>,
     kept: usize,
     zero: bool,
     c: u8,
     b: u8,
     to: usize,
-    loopstart: u16,
-) -> Step
-    requires { Keeps code.now stack.now kept × (to ≤ length code.now) }
-    ensures { Means stack.now result (cond zero
-        (settle code.now (Some (to + (b + 1))) (take kept stack.now) loopstart [])
-        (unless_faults (leb (c + b) 251) 8 (settle code.now (Some to)
-        (take kept stack.now ++ ((c + b + 4) ∷ [])) loopstart []))) }
+) -> Result<Step, Fault>
+    requires { (kept ≤ length frame.now.stack.now) × (to ≤ length frame.now.code.now) }
+    ensures { Means frame.now.stack.now result (cond zero
+        (lands frame.now (to + (b + 1)) (take kept frame.now.stack.now))
+        (unless_faults (leb (c + b) 251) 8
+        (lands frame.now to (take kept frame.now.stack.now ++ ((c + b + 4) ∷ []))))) }
 {
     if zero {
-        return go(code, stack, kept, to + (wide(b) + 1), loopstart);
+        return frame.go(kept, to + (usize::from(b) + 1));
     }
-    let distance = wide(c) + wide(b);
+    let distance = usize::from(c) + usize::from(b);
     if MAX_DISTANCE < distance {
-        return last_step(Action::Fault(8));
+        return Err(Fault::OutOfRange);
     }
-    let raw = [(distance + 4) as u8];
-    push_bytes(code, stack, kept, &raw, b"", to, loopstart)
+    frame.push_bytes(kept, &[(distance + 4) as u8], b"", to)
 }
 
 // Document 01: "WHILE c b pops"
-pub fn enter_while(code: &[u8], stack: &[u8], at: usize, loopstart: u16) -> Step
-    requires { Ready code.now stack.now at }
-    ensures { Means stack.now result (whiles code.now stack.now loopstart at) }
+pub fn enter_while(frame: &Frame<'_>) -> Result<Step, Fault>
+    ensures { Performs frame.now whiles result }
 {
-    let from = at + 1;
+    let from = frame.at + 1;
     let to = from + 2;
-    if code.len() < to {
-        return last_step(Action::Fault(2));
+    if frame.code.len() < to {
+        return Err(Fault::CodeEnded);
     }
-    match top_number(stack, Types::AnyNumber) {
-        TopNumber::Is(x, below) => {
-            let c = code[from];
-            let b = code[from + 1];
-            choose_while(code, stack, below, is_zero(x), c, b, to, loopstart)
-        }
-        TopNumber::NoNumber(fault) => last_step(Action::Fault(fault)),
-    }
+    let x = top_number(frame.stack, Types::AnyNumber)?;
+    let c = frame.code[from];
+    let b = frame.code[from + 1];
+    choose_while(frame, x.below, is_zero(x.number), c, b, to)
 }
 
 // ENDWHILE takes one raw byte: only fault 5.
-pub fn end_while(code: &[u8], stack: &[u8], at: usize, loopstart: u16) -> Step
-    requires { Ready code.now stack.now at }
-    ensures { Means stack.now result (ends_while code.now stack.now loopstart at) }
+pub fn end_while(frame: &Frame<'_>) -> Result<Step, Fault>
+    ensures { Performs frame.now ends_while result }
 {
-    let n = stack.len();
+    let n = frame.stack.len();
     if n < 1 {
-        return last_step(Action::Fault(5));
+        return Err(Fault::NothingThere);
     }
-    let distance = wide(stack[n - 1]);
-    let from = at + 1;
+    let distance = usize::from(frame.stack[n - 1]);
+    let from = frame.at + 1;
     if from < distance {
-        return last_step(Action::Fault(3));
+        return Err(Fault::OutsideCode);
     }
-    go(code, stack, n - 1, from - distance, loopstart)
+    frame.go(n - 1, from - distance)
 }
 
 // LOOP, whatever loop was marked before.
-pub fn mark_loop(code: &[u8], stack: &[u8], at: usize) -> Step
-    requires { Ready code.now stack.now at }
-    ensures { Means stack.now result (marks_loop code.now stack.now 0 at) }
+pub fn mark_loop(frame: &Frame<'_>) -> Result<Step, Fault>
+    ensures { Performs frame.now marks_loop result }
 {
-    let from = at + 1;
-    jump(code, stack, from, from as u16)
+    let from = frame.at + 1;
+    let marked = Frame {
+        code: frame.code,
+        stack: frame.stack,
+        at: frame.at,
+        loopstart: from as u16,
+    };
+    marked.jump(from)
 }
 
 // ENDLOOP. Document 01: "3 jump outside 0 to the code length, or ENDLOOP with no loop"
-pub fn loop_back(code: &[u8], stack: &[u8], at: usize, loopstart: u16) -> Step
-    requires { Ready code.now stack.now at }
-    ensures { Means stack.now result (loops_back code.now stack.now loopstart at) }
+pub fn loop_back(frame: &Frame<'_>) -> Result<Step, Fault>
+    ensures { Performs frame.now loops_back result }
 {
-    if loopstart == NO_LOOP {
-        return last_step(Action::Fault(3));
+    if frame.loopstart == NO_LOOP {
+        return Err(Fault::OutsideCode);
     }
-    jump(code, stack, loopstart as usize, loopstart)
+    frame.jump(usize::from(frame.loopstart))
 }

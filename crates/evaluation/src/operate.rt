@@ -1,147 +1,113 @@
 // Operators: the guide's arithmetic, comparisons, logic and conversions, and document 02's scaling. The operands come
-// off from the top, the one pushed last first; where one cannot be popped, its fault is met and no answer is used.
-ghost use Rattle.std.specs.Prelude.{[], ◌≡◌, ◌+◌, ◌≤◌, length};
-ghost use Rattle.machine.specs.Effect.{operates, with_outcome};
-ghost use Rattle.machine.specs.Exec.{onward};
-ghost use Rattle.machine.specs.Stack.{pop, push};
-ghost use Rattle.number.specs.Value.{type_of, value_bytes};
+// off from the top, the one pushed last first; where one cannot be popped, its fault is met.
+ghost use Rattle.std.specs.Prelude.{◌≡◌, ◌≤◌, length, take};
+ghost use Rattle.evaluation.specs.Operating.{evaluates};
+ghost use Rattle.machine.specs.Stack.{pop};
 ghost use Rattle.operator.specs.Instruction.{types_of};
-ghost use Rattle.stack.specs.Steps.{Means, Ready};
-ghost use Rattle.stack.specs.Tops.{bytes_below, next_numbered, number_on, numbered, with_numbered};
+ghost use Rattle.stack.specs.Frames.{Performs};
+ghost use Rattle.stack.specs.Tops.{bytes_below, number_on, numbered};
 
-use operator::Outcome;
+use machine::fault::Fault;
 use operator::instruction::types_of;
 use operator::operators::{Binary, Operator, Scaling, Unary};
-use stack::ends::{last_step, push_outcome};
-use stack::tops::{next_number, number_in, top_number};
-use stack::{Action, Step, TopNumber};
+use stack::frame::Frame;
+use stack::tops::{number_below, top_number};
+use stack::{Step, TopNumber};
 
 // The operand on top: which types it takes goes by operator and place, 0 that of the operand pushed first.
-fn top_operand(stack: &[u8], operator: Operator, place: u8) -> TopNumber
+fn top_operand(stack: &[u8], operator: Operator, place: u8) -> Result<TopNumber, Fault>
     ensures { (number_on stack.now result ≡ numbered (pop (types_of operator place) stack.now))
         × (bytes_below result ≤ length stack.now) }
 {
     top_number(stack, types_of(operator, place))
 }
 
-// The operand below the one that came off before it.
-fn next_operand(stack: &[u8], above: TopNumber, operator: Operator, place: u8) -> TopNumber
-    requires { bytes_below above ≤ length stack.now }
-    ensures { (number_on stack.now result
-        ≡ next_numbered (types_of operator place) (number_on stack.now above))
+// The operand below the one that came off before it, which left so many bytes.
+fn next_operand(
+    stack: &[u8],
+    above: usize,
+    operator: Operator,
+    place: u8,
+) -> Result<TopNumber, Fault>
+    requires { above ≤ length stack.now }
+    ensures { (number_on stack.now result ≡ numbered (pop (types_of operator place) (take above stack.now)))
         × (bytes_below result ≤ length stack.now) }
 {
-    next_number(stack, above, types_of(operator, place))
+    number_below(stack, above, types_of(operator, place))
 }
 
 // The answer goes onto what lies below the operand that came off last, the one pushed first.
-fn push_answer(
-    code: &[u8],
-    stack: &[u8],
-    first: TopNumber,
-    answer: Outcome,
-    at: usize,
-    loopstart: u16,
-) -> Step
-    requires { Ready code.now stack.now at × (bytes_below first ≤ length stack.now) }
-    ensures { Means stack.now result (with_numbered (number_on stack.now first) (λ x rest.
-        with_outcome answer (λ z. onward code.now stack.now loopstart at (at + 1)
-        (push rest (type_of z) (value_bytes z)) []))) }
+fn operate_one(frame: &Frame<'_>, operator: Unary) -> Result<Step, Fault>
+    ensures { Performs frame.now (evaluates (Operator.OfOne operator)) result }
 {
-    match first {
-        TopNumber::Is(_, below) => push_outcome(code, stack, below, answer, at + 1, loopstart),
-        TopNumber::NoNumber(fault) => last_step(Action::Fault(fault)),
-    }
+    let x = top_operand(frame.stack, Operator::OfOne(operator), 0)?;
+    let answer = operator::unary::apply(operator, x.number);
+    frame.push_outcome(x.below, answer, frame.at + 1)
 }
 
-fn operate_one(code: &[u8], stack: &[u8], at: usize, loopstart: u16, operator: Unary) -> Step
-    requires { Ready code.now stack.now at }
-    ensures { Means stack.now result (operates (Operator.OfOne operator) stack.now
-        (λ s. onward code.now stack.now loopstart at (at + 1) s [])) }
+fn operate_two(frame: &Frame<'_>, operator: Binary) -> Result<Step, Fault>
+    ensures { Performs frame.now (evaluates (Operator.OfTwo operator)) result }
 {
-    let x = top_operand(stack, Operator::OfOne(operator), 0);
-    let answer = operator::unary::apply(operator, number_in(x));
-    push_answer(code, stack, x, answer, at, loopstart)
-}
-
-fn operate_two(code: &[u8], stack: &[u8], at: usize, loopstart: u16, operator: Binary) -> Step
-    requires { Ready code.now stack.now at }
-    ensures { Means stack.now result (operates (Operator.OfTwo operator) stack.now
-        (λ s. onward code.now stack.now loopstart at (at + 1) s [])) }
-{
-    let y = top_operand(stack, Operator::OfTwo(operator), 1);
-    let x = next_operand(stack, y, Operator::OfTwo(operator), 0);
-    let answer = operator::binary::apply(operator, number_in(x), number_in(y));
-    push_answer(code, stack, x, answer, at, loopstart)
+    let y = top_operand(frame.stack, Operator::OfTwo(operator), 1)?;
+    let x = next_operand(frame.stack, y.below, Operator::OfTwo(operator), 0)?;
+    let answer = operator::binary::apply(operator, x.number, y.number);
+    frame.push_outcome(x.below, answer, frame.at + 1)
 }
 
 // CONSTRAIN of x, a, b.
-fn constrain(code: &[u8], stack: &[u8], at: usize, loopstart: u16) -> Step
-    requires { Ready code.now stack.now at }
-    ensures { Means stack.now result (operates (Operator.Scale Scaling.Constrain) stack.now
-        (λ s. onward code.now stack.now loopstart at (at + 1) s [])) }
+fn constrain(frame: &Frame<'_>) -> Result<Step, Fault>
+    ensures { Performs frame.now (evaluates (Operator.Scale Scaling.Constrain)) result }
 {
-    let b = top_operand(stack, Operator::Scale(Scaling::Constrain), 2);
-    let a = next_operand(stack, b, Operator::Scale(Scaling::Constrain), 1);
-    let x = next_operand(stack, a, Operator::Scale(Scaling::Constrain), 0);
-    let answer = scaling::constrain::constrain(number_in(x), number_in(a), number_in(b));
-    push_answer(code, stack, x, Outcome::Value(answer), at, loopstart)
+    let operator = Operator::Scale(Scaling::Constrain);
+    let b = top_operand(frame.stack, operator, 2)?;
+    let a = next_operand(frame.stack, b.below, operator, 1)?;
+    let x = next_operand(frame.stack, a.below, operator, 0)?;
+    let answer = scaling::constrain::constrain(x.number, a.number, b.number);
+    frame.push_number(x.below, answer, frame.at + 1)
 }
 
 // MAP of a, b, c, d, e.
-fn map(code: &[u8], stack: &[u8], at: usize, loopstart: u16) -> Step
-    requires { Ready code.now stack.now at }
-    ensures { Means stack.now result (operates (Operator.Scale Scaling.Map) stack.now
-        (λ s. onward code.now stack.now loopstart at (at + 1) s [])) }
+fn map(frame: &Frame<'_>) -> Result<Step, Fault>
+    ensures { Performs frame.now (evaluates (Operator.Scale Scaling.Map)) result }
 {
-    let e = top_operand(stack, Operator::Scale(Scaling::Map), 4);
-    let d = next_operand(stack, e, Operator::Scale(Scaling::Map), 3);
-    let c = next_operand(stack, d, Operator::Scale(Scaling::Map), 2);
-    let b = next_operand(stack, c, Operator::Scale(Scaling::Map), 1);
-    let a = next_operand(stack, b, Operator::Scale(Scaling::Map), 0);
-    let answer = scaling::map::map(
-        number_in(a),
-        number_in(b),
-        number_in(c),
-        number_in(d),
-        number_in(e),
-    );
-    push_answer(code, stack, a, answer, at, loopstart)
+    let operator = Operator::Scale(Scaling::Map);
+    let e = top_operand(frame.stack, operator, 4)?;
+    let d = next_operand(frame.stack, e.below, operator, 3)?;
+    let c = next_operand(frame.stack, d.below, operator, 2)?;
+    let b = next_operand(frame.stack, c.below, operator, 1)?;
+    let a = next_operand(frame.stack, b.below, operator, 0)?;
+    let answer = scaling::map::map(a.number, b.number, c.number, d.number, e.number);
+    frame.push_outcome(a.below, answer, frame.at + 1)
 }
 
 // POW of x, y.
-fn power(code: &[u8], stack: &[u8], at: usize, loopstart: u16) -> Step
-    requires { Ready code.now stack.now at }
-    ensures { Means stack.now result (operates (Operator.Scale Scaling.Power) stack.now
-        (λ s. onward code.now stack.now loopstart at (at + 1) s [])) }
+fn power(frame: &Frame<'_>) -> Result<Step, Fault>
+    ensures { Performs frame.now (evaluates (Operator.Scale Scaling.Power)) result }
 {
-    let y = top_operand(stack, Operator::Scale(Scaling::Power), 1);
-    let x = next_operand(stack, y, Operator::Scale(Scaling::Power), 0);
-    let answer = scaling::power::power_of(number_in(x), number_in(y));
-    push_answer(code, stack, x, answer, at, loopstart)
+    let operator = Operator::Scale(Scaling::Power);
+    let y = top_operand(frame.stack, operator, 1)?;
+    let x = next_operand(frame.stack, y.below, operator, 0)?;
+    let answer = scaling::power::power_of(x.number, y.number);
+    frame.push_outcome(x.below, answer, frame.at + 1)
 }
 
-fn scale(code: &[u8], stack: &[u8], at: usize, loopstart: u16, operator: Scaling) -> Step
-    requires { Ready code.now stack.now at }
-    ensures { Means stack.now result (operates (Operator.Scale operator) stack.now
-        (λ s. onward code.now stack.now loopstart at (at + 1) s [])) }
+fn scale(frame: &Frame<'_>, operator: Scaling) -> Result<Step, Fault>
+    ensures { Performs frame.now (evaluates (Operator.Scale operator)) result }
 {
     match operator {
-        Scaling::Constrain => constrain(code, stack, at, loopstart),
-        Scaling::Map => map(code, stack, at, loopstart),
-        Scaling::Power => power(code, stack, at, loopstart),
+        Scaling::Constrain => constrain(frame),
+        Scaling::Map => map(frame),
+        Scaling::Power => power(frame),
     }
 }
 
-pub fn operate(code: &[u8], stack: &[u8], at: usize, loopstart: u16, operator: Operator) -> Step
-    requires { Ready code.now stack.now at }
-    ensures { Means stack.now result (operates operator stack.now
-        (λ s. onward code.now stack.now loopstart at (at + 1) s [])) }
+pub fn operate(frame: &Frame<'_>, operator: Operator) -> Result<Step, Fault>
+    ensures { Performs frame.now (evaluates operator) result }
 {
     match operator {
-        Operator::OfOne(o) => operate_one(code, stack, at, loopstart, o),
-        Operator::OfTwo(o) => operate_two(code, stack, at, loopstart, o),
-        Operator::Scale(o) => scale(code, stack, at, loopstart, o),
-        Operator::NotAnOperator => last_step(Action::Fault(1)),
+        Operator::OfOne(o) => operate_one(frame, o),
+        Operator::OfTwo(o) => operate_two(frame, o),
+        Operator::Scale(o) => scale(frame, o),
+        Operator::NotAnOperator => Err(Fault::NoInstruction),
     }
 }

@@ -77,14 +77,23 @@ string-text stack kind at len t =
 
 -- ---- numbers
 -- an instruction goes on with the number popped, or has its fault
-pub number-goes : (p : Popped) {a : Number} {rest : List ℕ} → number_above a rest ≡ numbered p → (next : Number → List ℕ → Effect)
+goes : (p : Popped) {a : Number} {rest : List ℕ} → number_above a rest ≡ numbered p → (next : Number → List ℕ → Effect)
     → with_number p next ≡ next a rest
-number-goes (popped item rest) e next = cc
-number-goes (cannot fault) e next = cc
+goes (popped item rest) e next = cc
+goes (cannot fault) e next = cc
 
-pub number-faults : (p : Popped) {n : ℕ} → no_number n ≡ numbered p → (next : Number → List ℕ → Effect) → with_number p next ≡ faults n
-number-faults (popped item rest) e next = cc
-number-faults (cannot fault) e next = cc
+stops : (p : Popped) {n : ℕ} → no_number n ≡ numbered p → (next : Number → List ℕ → Effect) → with_number p next ≡ faults n
+stops (popped item rest) e next = cc
+stops (cannot fault) e next = cc
+
+module _ (types : Types) (stack : List ℕ) where
+  pub number-goes : {a : Number} {rest : List ℕ} → number_above a rest ≡ numbered (pop types stack)
+      → (next : Number → List ℕ → Effect) → with_number (pop types stack) next ≡ next a rest
+  number-goes = goes (pop types stack)
+
+  pub number-faults : {n : ℕ} → no_number n ≡ numbered (pop types stack)
+      → (next : Number → List ℕ → Effect) → with_number (pop types stack) next ≡ faults n
+  number-faults = stops (pop types stack)
 
 -- ---- sets of types of numbers
 is_number : (kind n : ℕ) → includes AnyNumber n ≡ true → eqb kind n ≡ true → includes AnyNumber kind ≡ true

@@ -7,14 +7,25 @@ use native.Mathlib.Omega.{arith}
 use lib.Dec.{eqb}
 use lib.ListN.{length, take, replicate, length-append}
 use lib.Seq.{length-take-le, take_at}
+use Rattle.std.proofs.Common.{Result}
+use Rattle.std.specs.Result.{IsErrAnd}
+use Rattle.std.proofs.lemmas.Result.{err_from_is_err_and}
 use Rattle.number.specs.Value.{encoded, type_of, value_bytes}
 use Rattle.number.specs.declared.Number.{Number}
 use Rattle.number.specs.declared.Number.TheVariants.{Char, Int, Float}
+use Rattle.machine.specs.Effect.{faults}
+use Rattle.machine.specs.Fault.{fault_number}
+use Rattle.machine.specs.declared.fault.Fault.{Fault}
 use Rattle.machine.specs.Limits.{stack_size}
 use Rattle.machine.specs.Stack.{push, push_item, push_string, string_kind}
-use Rattle.stack.specs.Steps.{Does, effect_by, effect_of, placed, step_of}
+use Rattle.stack.specs.Steps.{Does, Means, effect_by, effect_of, placed, step_of}
 use Rattle.stack.specs.declared.Action.{Action}
 use Rattle.stack.specs.declared.Step.{Step}
+
+-- the exit of a `?`: a fault met is the instruction's
+pub fault_passed : (stack : List ℕ) (answer : Result Step Fault) (fault : Fault) → IsErrAnd answer (λ f. f ≡ fault)
+    → Means stack answer (faults (fault_number fault))
+fault_passed stack answer fault met = let f = err_from_is_err_and answer met in rw (f.1, f.2)
 
 -- a step about bytes
 pub step-means : (stack bytes : List ℕ) {d : Step} {action : Action} {kept pc loopstart : ℕ}

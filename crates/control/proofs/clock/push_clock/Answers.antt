@@ -3,4 +3,4 @@ use lib.Seq.{take-length}
 use Rattle.control.proofs.clock.push_clock.Goals as goal
 
 pub returns : goal.returns
-returns c = rw (take-length c.args.stack.now) at c.push_item.ensures
+returns c = rw (take-length c.args.frame.now.stack.now) at c.push_item.ensures

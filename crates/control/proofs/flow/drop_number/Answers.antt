@@ -1,18 +1,10 @@
 -- The number goes, and what lies below it stays.
-use Rattle.operator.specs.declared.instruction.Types.TheVariants.{AnyNumber}
-use Rattle.stack.proofs.Popping.{number-faults, number-on-top}
+use Rattle.stack.proofs.Popping.{number-faults, number-goes}
+use Rattle.stack.proofs.Steps.{fault_passed}
 use Rattle.control.proofs.flow.drop_number.Goals as goal
 
-pub go-requires : goal.go-requires
-go-requires c =
-    let top = number-on-top AnyNumber c.args.stack.now c.top_number.ensures c.in-Is.is in
-    record { short = c.requires.short; low = c.requires.low; there = top.below }
+pub returns-in_err-x : goal.returns-in_err-x
+returns-in_err-x c = rw (number-faults _ _ c.in_err-x.ensures.0 _) (fault_passed _ _ _ c.from_residual.ensures.1)
 
-pub returns-in-Is : goal.returns-in-Is
-returns-in-Is c =
-    let top = number-on-top AnyNumber c.args.stack.now c.top_number.ensures c.in-Is.is in
-    rw top.pops c.go.ensures
-
-pub returns-in-NoNumber : goal.returns-in-NoNumber
-returns-in-NoNumber c =
-    number-faults AnyNumber _ c.top_number.ensures c.in-NoNumber.is _ c.last_step.ensures _
+pub returns : goal.returns
+returns c = rw (number-goes _ _ c.in_ok-x.ensures.0 _) c.go.ensures

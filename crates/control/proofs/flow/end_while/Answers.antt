@@ -6,29 +6,26 @@ use lib.Seq.{length-take-le}
 use native.Mathlib.Omega.{arith}
 use borrow.Author.Tests.{le-leb, lt-leb}
 use Rattle.machine.proofs.Instructions.Settling.{settle-nowhere}
-use Rattle.stack.proofs.Steps.{last-means}
 use Rattle.control.proofs.flow.end_while.Goals as goal
 
 pub returns-then-n-lt1 : goal.returns-then-n-lt1
-returns-then-n-lt1 c =
-    let a = c.args in
-    rw (lt-leb 1 (length a.stack.now) (omega arith)) (last-means a.stack.now c.last_step.ensures)
+returns-then-n-lt1 c = rw (lt-leb 1 (length c.args.frame.now.stack.now) (omega arith))
 
 pub returns-then-from-distance : goal.returns-then-from-distance
 returns-then-from-distance c =
-    let a = c.args in
+    let a = c.args.frame.now in
     let st = a.stack.now in
-    let d : a.at + 1 < get_or st (length st - 1) 0 = omega (arith, c.wide-distance.ensures) in
+    let d : a.at + 1 < get_or st (length st - 1) 0 = omega (arith, c.from-distance.ensures) in
     let l = length-take-le (length st - 1) st (omega arith) in
     rw (
       le-leb 1 (length st) (omega arith),
       lt-leb _ _ d,
-      settle-nowhere a.code.now (take (length st - 1) st) a.loopstart [] (omega (arith, c.requires.low)),
-    ) (last-means st c.last_step-then-from-distance.ensures)
+      settle-nowhere a.code.now (take (length st - 1) st) a.loopstart [] (omega (arith, a.ready.low)),
+    )
 
 pub returns : goal.returns
 returns c =
-    let a = c.args in
+    let a = c.args.frame.now in
     let st = a.stack.now in
-    let d : get_or st (length st - 1) 0 ≤ a.at + 1 = omega (arith, c.wide-distance.ensures) in
-    rw (le-leb 1 (length st) (omega arith), le-leb _ _ d, ← c.wide-distance.ensures) c.go.ensures
+    let d : get_or st (length st - 1) 0 ≤ a.at + 1 = omega (arith, c.from-distance.ensures) in
+    rw (le-leb 1 (length st) (omega arith), le-leb _ _ d, ← c.from-distance.ensures) c.go.ensures

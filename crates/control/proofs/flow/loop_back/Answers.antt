@@ -2,14 +2,12 @@
 use mathlib.Core.List.{[]}
 use borrow.Author.Tests.{eq-eqb, ne_eqb}
 use Rattle.machine.proofs.Instructions.Settling.{settle-nowhere}
-use Rattle.stack.proofs.Steps.{last-means}
 use Rattle.control.proofs.flow.loop_back.Goals as goal
 
-pub returns-then-loopstart-eq-NO_LOOP : goal.returns-then-loopstart-eq-NO_LOOP
-returns-then-loopstart-eq-NO_LOOP c =
-    let a = c.args in
-    rw (eq-eqb _ _ c.if-loopstart-eq-NO_LOOP.true, settle-nowhere a.code.now a.stack.now a.loopstart [] c.requires.low)
-    (last-means a.stack.now c.last_step.ensures)
+pub returns-then-frame : goal.returns-then-frame
+returns-then-frame c =
+    let a = c.args.frame.now in
+    rw (eq-eqb _ _ c.if-frame.true, settle-nowhere a.code.now a.stack.now a.loopstart [] a.ready.low)
 
 pub returns : goal.returns
-returns c = rw (ne_eqb _ _ c.if-loopstart-eq-NO_LOOP.false) c.jump.ensures
+returns c = rw (ne_eqb _ _ c.if-frame.false) c.jump.ensures

@@ -1,30 +1,25 @@
 -- Three operands come off, b first.
-use Rattle.std.proofs.Common.{ap}
 use Rattle.machine.specs.Effect.{operates}
-use Rattle.operator.specs.declared.Outcome.TheVariants.{Value}
-use Rattle.operator.specs.declared.operators.Operator.TheVariants.{Scale}
-use Rattle.operator.specs.declared.operators.Scaling.TheVariants.{Constrain}
-use Rattle.scaling.specs.Constrain.{constrained}
-use Rattle.evaluation.proofs.Operands.{behind, three-operands}
+use Rattle.stack.proofs.Popping.{number-faults, number-goes}
+use Rattle.stack.proofs.Steps.{fault_passed}
 use Rattle.evaluation.proofs.operate.constrain.Goals as goal
 
-pub next_operand-a-requires : goal.next_operand-a-requires
-next_operand-a-requires c = c.top_operand-b.ensures.1
+pub returns-in_err-b : goal.returns-in_err-b
+unfolding operates
+returns-in_err-b c =
+    rw (number-faults _ _ c.in_err-b.ensures.0 _) (fault_passed _ _ _ c.from_residual.ensures.1)
 
-pub next_operand-x-requires : goal.next_operand-x-requires
-next_operand-x-requires c = c.next_operand-a.ensures.1
+pub returns-in_err-a : goal.returns-in_err-a
+unfolding operates
+returns-in_err-a c =
+    rw (number-goes _ _ c.in_ok-b.ensures.0 _, number-faults _ _ c.in_err-a.ensures.0 _) (fault_passed _ _ _ c.from_residual-in_err-a.ensures.1)
 
-pub push_answer-requires : goal.push_answer-requires
-push_answer-requires c = (c.requires, c.next_operand-x.ensures.1)
+pub returns-in_err-x : goal.returns-in_err-x
+unfolding operates
+returns-in_err-x c =
+    rw (number-goes _ _ c.in_ok-b.ensures.0 _, number-goes _ _ c.in_ok-a.ensures.0 _, number-faults _ _ c.in_err-x.ensures.0 _) (fault_passed _ _ _ c.from_residual-in_err-x.ensures.1)
 
 pub returns : goal.returns
 unfolding operates
 returns c =
-    let x = c.next_operand-x in
-    let a = c.next_operand-a in
-    let b = c.top_operand-b in
-    let s = c.args in
-    three-operands s.stack.now (Scale Constrain) (behind s.code.now s.stack.now s.loopstart s.at)
-    (λ x a b. Value (constrained x a b)) b.result a.result x.result b.ensures.0 a.ensures.0 x.ensures.0
-    (ap Value (rw (c.number_in.ensures, c.number_in-2.ensures, c.number_in-3.ensures) at c.constrain-answer.ensures))
-    c.push_answer.ensures
+    rw (number-goes _ _ c.in_ok-b.ensures.0 _, number-goes _ _ c.in_ok-a.ensures.0 _, number-goes _ _ c.in_ok-x.ensures.0 _, ← c.constrain-answer.ensures) c.push_number.ensures

@@ -1,36 +1,35 @@
 -- Five operands come off, e first.
 use Rattle.machine.specs.Effect.{operates}
-use Rattle.operator.specs.declared.operators.Operator.TheVariants.{Scale}
-use Rattle.operator.specs.declared.operators.Scaling.TheVariants.{Map}
-use Rattle.scaling.specs.Map.{mapped}
-use Rattle.evaluation.proofs.Operands.{behind, five-operands}
+use Rattle.stack.proofs.Popping.{number-faults, number-goes}
+use Rattle.stack.proofs.Steps.{fault_passed}
 use Rattle.evaluation.proofs.operate.map.Goals as goal
 
-pub next_operand-d-requires : goal.next_operand-d-requires
-next_operand-d-requires c = c.top_operand-e.ensures.1
+pub returns-in_err-e : goal.returns-in_err-e
+unfolding operates
+returns-in_err-e c =
+    rw (number-faults _ _ c.in_err-e.ensures.0 _) (fault_passed _ _ _ c.from_residual.ensures.1)
 
-pub next_operand-c-requires : goal.next_operand-c-requires
-next_operand-c-requires c = c.next_operand-d.ensures.1
+pub returns-in_err-d : goal.returns-in_err-d
+unfolding operates
+returns-in_err-d c =
+    rw (number-goes _ _ c.in_ok-e.ensures.0 _, number-faults _ _ c.in_err-d.ensures.0 _) (fault_passed _ _ _ c.from_residual-in_err-d.ensures.1)
 
-pub next_operand-b-requires : goal.next_operand-b-requires
-next_operand-b-requires c = c.next_operand-c.ensures.1
+pub returns-in_err-c : goal.returns-in_err-c
+unfolding operates
+returns-in_err-c c =
+    rw (number-goes _ _ c.in_ok-e.ensures.0 _, number-goes _ _ c.in_ok-d.ensures.0 _, number-faults _ _ c.in_err-c.ensures.0 _) (fault_passed _ _ _ c.from_residual-in_err-c.ensures.1)
 
-pub next_operand-a-requires : goal.next_operand-a-requires
-next_operand-a-requires c = c.next_operand-b.ensures.1
+pub returns-in_err-b : goal.returns-in_err-b
+unfolding operates
+returns-in_err-b c =
+    rw (number-goes _ _ c.in_ok-e.ensures.0 _, number-goes _ _ c.in_ok-d.ensures.0 _, number-goes _ _ c.in_ok-c.ensures.0 _, number-faults _ _ c.in_err-b.ensures.0 _) (fault_passed _ _ _ c.from_residual-in_err-b.ensures.1)
 
-pub push_answer-requires : goal.push_answer-requires
-push_answer-requires c = (c.requires, c.next_operand-a.ensures.1)
+pub returns-in_err-a : goal.returns-in_err-a
+unfolding operates
+returns-in_err-a c =
+    rw (number-goes _ _ c.in_ok-e.ensures.0 _, number-goes _ _ c.in_ok-d.ensures.0 _, number-goes _ _ c.in_ok-c.ensures.0 _, number-goes _ _ c.in_ok-b.ensures.0 _, number-faults _ _ c.in_err-a.ensures.0 _) (fault_passed _ _ _ c.from_residual-in_err-a.ensures.1)
 
 pub returns : goal.returns
 unfolding operates
 returns c =
-    let a = c.next_operand-a in
-    let b = c.next_operand-b in
-    let c' = c.next_operand-c in
-    let d = c.next_operand-d in
-    let e = c.top_operand-e in
-    let s = c.args in
-    five-operands s.stack.now (Scale Map) (behind s.code.now s.stack.now s.loopstart s.at) mapped e.result
-    d.result c'.result b.result a.result e.ensures.0 d.ensures.0 c'.ensures.0 b.ensures.0 a.ensures.0
-    (rw (c.number_in.ensures, c.number_in-2.ensures, c.number_in-3.ensures, c.number_in-4.ensures, c.number_in-5.ensures)
-    at c.map-answer.ensures) c.push_answer.ensures
+    rw (number-goes _ _ c.in_ok-e.ensures.0 _, number-goes _ _ c.in_ok-d.ensures.0 _, number-goes _ _ c.in_ok-c.ensures.0 _, number-goes _ _ c.in_ok-b.ensures.0 _, number-goes _ _ c.in_ok-a.ensures.0 _, ← c.map-answer.ensures) c.push_outcome.ensures

@@ -1,8 +1,7 @@
 -- What is no operator ends the process.
 use Rattle.machine.specs.Effect.{operates}
-use Rattle.stack.proofs.Steps.{last-means}
 use Rattle.evaluation.proofs.operate.operate.Goals as goal
 
 pub returns-in-NotAnOperator : goal.returns-in-NotAnOperator
 unfolding operates
-returns-in-NotAnOperator c = rw c.in-NotAnOperator.is (last-means c.args.stack.now c.last_step.ensures)
+returns-in-NotAnOperator c = rw c.in-NotAnOperator.is

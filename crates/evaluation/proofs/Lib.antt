@@ -1,2 +1,0 @@
--- operands popped one below another
-pub mod Operands

@@ -1,0 +1,2 @@
+-- what an operator does where it stands
+pub mod Operating
