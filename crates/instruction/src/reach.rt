@@ -1,95 +1,60 @@
 // Instructions that reach beyond the process: their operands come off the stack here.
 ghost use Rattle.machine.specs.Asking.{reaches};
-ghost use Rattle.stack.specs.Steps.{Means, Ready};
+ghost use Rattle.stack.specs.Frames.{Performs};
 
+use machine::fault::Fault;
 use machine::instruction::Reach;
 use operator::instruction::Types;
-use stack::ends::{last_step, with_part, with_stack};
+use stack::frame::Frame;
 use stack::tops::{top_number, top_value};
-use stack::{Action, Step, TopNumber, TopValue};
+use stack::{Action, Step};
 
 // Document 01: "OPEN pops the size, then the name (as for FORK, the string less its zero)"
-fn open_file(code: &[u8], stack: &[u8], at: usize, loopstart: u16) -> Step
-    requires { Ready code.now stack.now at }
-    ensures { Means stack.now result
-        (reaches code.now stack.now loopstart at Reach.OpenFile) }
+fn open_file(frame: &Frame<'_>) -> Result<Step, Fault>
+    ensures { Performs frame.now (λ code stack loopstart at. reaches code stack loopstart at Reach.OpenFile) result }
 {
-    match top_number(stack, Types::AnyNumber) {
-        TopNumber::Is(size, middle) => match top_value(&stack[..middle], Types::AnyString) {
-            TopValue::Lies(_, place, len) => with_part(
-                Action::Open(size),
-                stack,
-                place,
-                len - 1,
-                at + 1,
-                loopstart,
-            ),
-            TopValue::NoValue(fault) => last_step(Action::Fault(fault)),
-        },
-        TopNumber::NoNumber(fault) => last_step(Action::Fault(fault)),
-    }
+    let size = top_number(frame.stack, Types::AnyNumber)?;
+    let name = top_value(&frame.stack[..size.below], Types::AnyString)?;
+    Ok(frame.act_on(
+        Action::Open(size.number),
+        name.at,
+        name.len - 1,
+        frame.at + 1,
+    ))
 }
 
-fn write_file(code: &[u8], stack: &[u8], at: usize, loopstart: u16) -> Step
-    requires { Ready code.now stack.now at }
-    ensures { Means stack.now result
-        (reaches code.now stack.now loopstart at Reach.WriteFile) }
+fn write_file(frame: &Frame<'_>) -> Result<Step, Fault>
+    ensures { Performs frame.now (λ code stack loopstart at. reaches code stack loopstart at Reach.WriteFile) result }
 {
-    match top_value(stack, Types::AnyValue) {
-        TopValue::Lies(_, place, len) => with_part(
-            Action::Write,
-            stack,
-            place,
-            len,
-            at + 1,
-            loopstart,
-        ),
-        TopValue::NoValue(fault) => last_step(Action::Fault(fault)),
-    }
+    let x = top_value(frame.stack, Types::AnyValue)?;
+    Ok(frame.act_on(Action::Write, x.at, x.len, frame.at + 1))
 }
 
-fn fork_process(code: &[u8], stack: &[u8], at: usize, loopstart: u16) -> Step
-    requires { Ready code.now stack.now at }
-    ensures { Means stack.now result
-        (reaches code.now stack.now loopstart at Reach.Fork) }
+fn fork_process(frame: &Frame<'_>) -> Result<Step, Fault>
+    ensures { Performs frame.now (λ code stack loopstart at. reaches code stack loopstart at Reach.Fork) result }
 {
-    match top_value(stack, Types::AnyString) {
-        TopValue::Lies(_, place, len) => with_part(
-            Action::Fork,
-            stack,
-            place,
-            len - 1,
-            at + 1,
-            loopstart,
-        ),
-        TopValue::NoValue(fault) => last_step(Action::Fault(fault)),
-    }
+    let name = top_value(frame.stack, Types::AnyString)?;
+    Ok(frame.act_on(Action::Fork, name.at, name.len - 1, frame.at + 1))
 }
 
-fn wait(code: &[u8], stack: &[u8], at: usize, loopstart: u16) -> Step
-    requires { Ready code.now stack.now at }
-    ensures { Means stack.now result
-        (reaches code.now stack.now loopstart at Reach.WaitUntilDone) }
+fn wait(frame: &Frame<'_>) -> Result<Step, Fault>
+    ensures { Performs frame.now (λ code stack loopstart at. reaches code stack loopstart at Reach.WaitUntilDone) result }
 {
-    match top_number(stack, Types::AnyNumber) {
-        TopNumber::Is(x, below) => with_part(Action::Await(x), stack, below, 0, at + 1, loopstart),
-        TopNumber::NoNumber(fault) => last_step(Action::Fault(fault)),
-    }
+    let id = top_number(frame.stack, Types::AnyNumber)?;
+    Ok(frame.act_on(Action::Await(id.number), id.below, 0, frame.at + 1))
 }
 
 // CLOSE and the READs take nothing off the stack.
-pub fn reach(code: &[u8], stack: &[u8], at: usize, loopstart: u16, r: Reach) -> Step
-    requires { Ready code.now stack.now at }
-    ensures { Means stack.now result
-        (reaches code.now stack.now loopstart at r) }
+pub fn reach(frame: &Frame<'_>, r: Reach) -> Result<Step, Fault>
+    ensures { Performs frame.now (λ code stack loopstart at. reaches code stack loopstart at r) result }
 {
     match r {
-        Reach::OpenFile => open_file(code, stack, at, loopstart),
-        Reach::CloseFile => with_stack(Action::Close, stack, at + 1, loopstart),
-        Reach::WriteFile => write_file(code, stack, at, loopstart),
-        Reach::ReadNumber(kind) => with_stack(Action::Read(kind), stack, at + 1, loopstart),
-        Reach::ReadString => with_stack(Action::ReadString, stack, at + 1, loopstart),
-        Reach::Fork => fork_process(code, stack, at, loopstart),
-        Reach::WaitUntilDone => wait(code, stack, at, loopstart),
+        Reach::OpenFile => open_file(frame),
+        Reach::CloseFile => Ok(frame.act(Action::Close, frame.at + 1)),
+        Reach::WriteFile => write_file(frame),
+        Reach::ReadNumber(kind) => Ok(frame.act(Action::Read(kind), frame.at + 1)),
+        Reach::ReadString => Ok(frame.act(Action::ReadString, frame.at + 1)),
+        Reach::Fork => fork_process(frame),
+        Reach::WaitUntilDone => wait(frame),
     }
 }

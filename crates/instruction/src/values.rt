@@ -1,164 +1,113 @@
 // Literals, variables and output.
-ghost use Rattle.std.specs.Prelude.{◌++◌, ◌≡◌, ◌≤◌, ◌<◌, length};
+ghost use Rattle.std.specs.Prelude.{◌++◌, ◌+◌, ◌≡◌, ◌≤◌, ◌<◌, length};
 ghost use Rattle.instruction.specs.Printing.{Printable};
 ghost use Rattle.instruction.specs.Readable.{Readable};
 ghost use Rattle.machine.specs.Effect.{newline, printed};
 ghost use Rattle.machine.specs.Exec.{gets, prints, push_literal, push_text, sets};
 ghost use Rattle.machine.specs.Area.{kernel_of};
 ghost use Rattle.machine.specs.Limits.{area_length, stack_size};
-ghost use Rattle.stack.specs.Steps.{Means, Ready, max_code, step_of};
+ghost use Rattle.stack.specs.Frames.{Performs};
+ghost use Rattle.stack.specs.Steps.{step_of};
 ghost use Rattle.variable.specs.Table.{owned};
 
 use area::variables::{find_in, variable_at};
 use disc::name::text_length;
+use machine::fault::Fault;
 use operator::instruction::Types;
-use stack::ends::{last_step, push_bytes, push_item, with_bytes, with_part};
-use stack::tops::{number_of, top_value, wide};
-use stack::{Action, STRING_KIND, Step, TopValue};
+use stack::frame::Frame;
+use stack::tops::{number_of, top_value};
+use stack::{Action, STRING_KIND, Step};
 
 // CHAR, INT and FLOAT: as many argument bytes as the type says.
-pub fn push_literal(code: &[u8], stack: &[u8], at: usize, loopstart: u16, kind: u8) -> Step
-    requires { Ready code.now stack.now at }
-    ensures { Means stack.now result
-        (push_literal code.now stack.now loopstart at kind) }
+pub fn push_literal(frame: &Frame<'_>, kind: u8) -> Result<Step, Fault>
+    ensures { Performs frame.now (λ code stack loopstart at. push_literal code stack loopstart at kind) result }
 {
-    let from = at + 1;
-    let to = from + wide(kind);
-    if code.len() < to {
-        return last_step(Action::Fault(2));
+    let from = frame.at + 1;
+    let to = from + usize::from(kind);
+    if frame.code.len() < to {
+        return Err(Fault::CodeEnded);
     }
-    let tail = [kind];
-    push_bytes(
-        code,
-        stack,
-        stack.len(),
-        &code[from..to],
-        &tail,
-        to,
-        loopstart,
-    )
+    frame.push_bytes(frame.stack.len(), &frame.code[from..to], &[kind], to)
 }
 
 // STRING: up to its zero inside the code.
-pub fn push_text(code: &[u8], stack: &[u8], at: usize, loopstart: u16) -> Step
-    requires { Ready code.now stack.now at }
-    ensures { Means stack.now result
-        (push_text code.now stack.now loopstart at) }
+pub fn push_text(frame: &Frame<'_>) -> Result<Step, Fault>
+    ensures { Performs frame.now push_text result }
 {
-    let from = at + 1;
-    let to = from + (text_length(&code[from..]) + 1);
-    if code.len() < to {
-        return last_step(Action::Fault(2));
+    let from = frame.at + 1;
+    let to = from + (text_length(&frame.code[from..]) + 1);
+    if frame.code.len() < to {
+        return Err(Fault::CodeEnded);
     }
-    push_item(
-        code,
-        stack,
-        stack.len(),
-        STRING_KIND,
-        &code[from..to],
-        to,
-        loopstart,
-    )
+    frame.push_item(frame.stack.len(), STRING_KIND, &frame.code[from..to], to)
 }
 
-pub fn set_variable(code: &[u8], stack: &[u8], at: usize, loopstart: u16) -> Step
-    requires { Ready code.now stack.now at }
-    ensures { Means stack.now result (sets code.now stack.now loopstart at) }
+pub fn set_variable(frame: &Frame<'_>) -> Result<Step, Fault>
+    ensures { Performs frame.now sets result }
 {
-    let from = at + 1;
+    let from = frame.at + 1;
     let to = from + 1;
-    if code.len() < to {
-        return last_step(Action::Fault(2));
+    if frame.code.len() < to {
+        return Err(Fault::CodeEnded);
     }
-    match top_value(stack, Types::AnyValue) {
-        TopValue::Lies(kind, place, len) => with_part(
-            Action::Assign(code[from], kind),
-            stack,
-            place,
-            len,
-            to,
-            loopstart,
-        ),
-        TopValue::NoValue(fault) => last_step(Action::Fault(fault)),
-    }
+    let x = top_value(frame.stack, Types::AnyValue)?;
+    Ok(frame.act_on(Action::Assign(frame.code[from], x.kind), x.at, x.len, to))
 }
 
-pub fn get_variable(
-    code: &[u8],
-    stack: &[u8],
-    at: usize,
-    loopstart: u16,
-    area: &[u8],
-    owner: u16,
-) -> Step
-    requires { Ready code.now stack.now at × (length area.now ≡ area_length)
-        × Readable (kernel_of area.now).variables }
-    ensures { Means stack.now result (gets code.now stack.now loopstart at
-        (owned (kernel_of area.now).variables owner)) }
+pub fn get_variable(frame: &Frame<'_>, area: &[u8], owner: u16) -> Result<Step, Fault>
+    requires { (length area.now ≡ area_length) × Readable (kernel_of area.now).variables }
+    ensures { Performs frame.now (λ code stack loopstart at. gets code stack loopstart at
+        (owned (kernel_of area.now).variables owner)) result }
 {
-    let from = at + 1;
+    let from = frame.at + 1;
     let to = from + 1;
-    if code.len() < to {
-        return last_step(Action::Fault(2));
+    if frame.code.len() < to {
+        return Err(Fault::CodeEnded);
     }
-    match find_in(area, code[from], owner) {
+    match find_in(area, frame.code[from], owner) {
         Some(i) => {
             let e = variable_at(area, i);
             let start = e.address as usize;
             let end = start + e.size as usize;
-            push_item(
-                code,
-                stack,
-                stack.len(),
-                e.kind,
-                &area[start..end],
-                to,
-                loopstart,
-            )
+            frame.push_item(frame.stack.len(), e.kind, &area[start..end], to)
         }
-        None => last_step(Action::Fault(9)),
+        None => Err(Fault::NoVariable),
     }
 }
 
-fn print_text(text: &[u8], ends: bool, kept: usize, pc: usize, loopstart: u16) -> Step
-    requires { (length text.now < stack_size) × (kept ≤ stack_size) × (pc ≤ max_code) }
-    ensures { (result ≡ step_of Action.Print kept (text.now ++ newline ends) pc loopstart)
+fn print_text(frame: &Frame<'_>, text: &[u8], ends: bool, kept: usize) -> Step
+    requires { (length text.now < stack_size) × (kept ≤ stack_size) }
+    ensures { (result ≡ step_of Action.Print kept (text.now ++ newline ends) (frame.now.at + 1) frame.now.loopstart)
         × (result.len ≤ stack_size) }
 {
     if ends {
-        return with_bytes(Action::Print, kept, text, b"\n", pc, loopstart);
+        return frame.step(Action::Print, kept, text, b"\n", frame.at + 1);
     }
-    with_bytes(Action::Print, kept, text, b"", pc, loopstart)
+    frame.step(Action::Print, kept, text, b"", frame.at + 1)
 }
 
 // Document 01: "PRINT: CHAR one byte; INT decimal; STRING without its zero; FLOAT to the nearest hundredth"
-fn print_value(kind: u8, bytes: &[u8], ends: bool, kept: usize, pc: usize, loopstart: u16) -> Step
-    requires { Printable kind bytes.now × (kept ≤ stack_size) × (pc ≤ max_code) }
+fn print_value(frame: &Frame<'_>, kind: u8, bytes: &[u8], ends: bool, kept: usize) -> Step
+    requires { Printable kind bytes.now × (kept ≤ stack_size) }
     ensures { (result ≡ step_of Action.Print kept
-        (printed (record { kind = kind; bytes = bytes.now }) ++ newline ends) pc loopstart)
+        (printed (record { kind = kind; bytes = bytes.now }) ++ newline ends) (frame.now.at + 1) frame.now.loopstart)
         × (result.len ≤ stack_size) }
 {
     if kind == STRING_KIND {
         let n = text_length(bytes);
-        return print_text(&bytes[..n], ends, kept, pc, loopstart);
+        return print_text(frame, &bytes[..n], ends, kept);
     }
     let text = number::text::write(number_of(kind, bytes));
     let shown = text.bytes;
     let n = text.len;
-    print_text(&shown[..n], ends, kept, pc, loopstart)
+    print_text(frame, &shown[..n], ends, kept)
 }
 
 // PRINT, and PRINTLN with a newline.
-pub fn print(code: &[u8], stack: &[u8], at: usize, loopstart: u16, ends: bool) -> Step
-    requires { Ready code.now stack.now at }
-    ensures { Means stack.now result
-        (prints code.now stack.now loopstart at ends) }
+pub fn print(frame: &Frame<'_>, ends: bool) -> Result<Step, Fault>
+    ensures { Performs frame.now (λ code stack loopstart at. prints code stack loopstart at ends) result }
 {
-    match top_value(stack, Types::AnyValue) {
-        TopValue::Lies(kind, place, len) => {
-            let end = place + len;
-            print_value(kind, &stack[place..end], ends, place, at + 1, loopstart)
-        }
-        TopValue::NoValue(fault) => last_step(Action::Fault(fault)),
-    }
+    let x = top_value(frame.stack, Types::AnyValue)?;
+    let end = x.at + x.len;
+    Ok(print_value(frame, x.kind, &frame.stack[x.at..end], ends, x.at))
 }

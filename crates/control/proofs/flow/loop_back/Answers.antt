@@ -10,4 +10,4 @@ returns-then-frame c =
     rw (eq-eqb _ _ c.if-frame.true, settle-nowhere a.code.now a.stack.now a.loopstart [] a.ready.low)
 
 pub returns : goal.returns
-returns c = rw (ne_eqb _ _ c.if-frame.false) c.jump.ensures
+returns c = rw (ne_eqb _ _ c.if-frame.false) (rw c.from.ensures at c.jump.ensures)

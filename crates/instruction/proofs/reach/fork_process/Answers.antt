@@ -1,25 +1,28 @@
 -- The name is the string less its zero.
-use Rattle.std.proofs.Common.{arith}
+use Rattle.std.proofs.Common.{arith, sym}
 use Rattle.operator.specs.declared.instruction.Types.TheVariants.{AnyString}
-use Rattle.stack.proofs.Popping.{string-text, value-faults, value-on-top}
+use Rattle.stack.proofs.Popping.{string-text, value-on-top}
+use Rattle.stack.proofs.Steps.{fault_passed}
 use Rattle.instruction.proofs.reach.fork_process.Goals as goal
 
-pub overflow_sub-len : goal.overflow_sub-len
-overflow_sub-len c =
-    let top = value-on-top AnyString c.args.stack.now c.top_value.ensures c.in-Lies.is in
-    (string-text c.args.stack.now _ c.in-Lies.place c.in-Lies.len top).0
+pub returns-in_err-name : goal.returns-in_err-name
+returns-in_err-name c = rw (sym c.in_err-name.ensures.0) (fault_passed _ _ _ c.from_residual.ensures.1)
 
-pub with_part-requires : goal.with_part-requires
-with_part-requires c =
-    let top = value-on-top AnyString c.args.stack.now c.top_value.ensures c.in-Lies.is in
-    let name = string-text c.args.stack.now _ c.in-Lies.place c.in-Lies.len top in
-    (omega (arith, top.inside, name.0), c.requires.low, omega (arith, c.requires.short, c.requires.inside))
+pub overflow_sub-name : goal.overflow_sub-name
+overflow_sub-name c =
+    let st = c.args.frame.now.stack.now in
+    (string-text st _ _ _ (value-on-top AnyString st c.in_ok-name.name c.in_ok-name.ensures)).0
 
-pub returns-in-Lies : goal.returns-in-Lies
-returns-in-Lies c =
-    let top = value-on-top AnyString c.args.stack.now c.top_value.ensures c.in-Lies.is in
-    let name = string-text c.args.stack.now _ c.in-Lies.place c.in-Lies.len top in
-    rw (top.pops, ← name.1) c.with_part.ensures
+pub act_on-requires : goal.act_on-requires
+act_on-requires c =
+    let st = c.args.frame.now.stack.now in
+    let top = value-on-top AnyString st c.in_ok-name.name c.in_ok-name.ensures in
+    let name = string-text st _ _ _ top in
+    (omega (arith, top.inside, name.0), omega arith)
 
-pub returns-in-NoValue : goal.returns-in-NoValue
-returns-in-NoValue c = value-faults AnyString _ c.top_value.ensures c.in-NoValue.is _ c.last_step.ensures _
+pub returns : goal.returns
+returns c =
+    let st = c.args.frame.now.stack.now in
+    let top = value-on-top AnyString st c.in_ok-name.name c.in_ok-name.ensures in
+    let name = string-text st _ _ _ top in
+    rw (top.pops, ← name.1) c.act_on.ensures

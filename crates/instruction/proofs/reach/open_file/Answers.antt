@@ -3,9 +3,10 @@ use Rattle.std.proofs.Common.{ℕ, ◌+◌, ◌-◌, ◌≤◌, ◌≡◌, List,
 use lib.Seq.{length-take-le, take-take}
 use Rattle.buffer.specs.Buffer.{part}
 use Rattle.buffer.proofs.Parts.{part-of-take}
-use Rattle.operator.specs.declared.instruction.Types.TheVariants.{AnyNumber, AnyString}
+use Rattle.operator.specs.declared.instruction.Types.TheVariants.{AnyString}
 use Rattle.disc.specs.Name.{trimmed}
-use Rattle.stack.proofs.Popping.{OnTop, number-faults, number-on-top, string-text, value-faults, value-on-top}
+use Rattle.stack.proofs.Popping.{OnTop, number-faults, number-goes, string-text, value-on-top}
+use Rattle.stack.proofs.Steps.{fault_passed}
 use Rattle.instruction.proofs.reach.open_file.Goals as goal
 
 -- a string on top of the first n bytes of the stack
@@ -29,37 +30,35 @@ name_below stack n kind place len fits top =
       below = take-take place n stack (omega arith);
     }
 
+pub returns-in_err-size : goal.returns-in_err-size
+returns-in_err-size c = rw (number-faults _ _ c.in_err-size.ensures.0 _) (fault_passed _ _ _ c.from_residual.ensures.1)
+
 pub slice_bounds-top_value-end : goal.slice_bounds-top_value-end
-slice_bounds-top_value-end c =
-    let number = number-on-top AnyNumber c.args.stack.now c.top_number.ensures c.in-Is.is in
-    sym (length-take-le c.in-Is.middle c.args.stack.now number.below)
+slice_bounds-top_value-end c = sym (length-take-le c.in_ok-size.size.below c.args.frame.now.stack.now c.in_ok-size.ensures.1)
 
-pub overflow_sub-len : goal.overflow_sub-len
-overflow_sub-len c =
-    let string = value-on-top AnyString (take c.in-Is.middle c.args.stack.now) c.top_value.ensures c.in-Lies.is in
-    (string-text _ _ c.in-Lies.place c.in-Lies.len string).0
+pub returns-in_err-name : goal.returns-in_err-name
+returns-in_err-name c =
+    rw (number-goes _ _ c.in_ok-size.ensures.0 _, sym c.in_err-name.ensures.0)
+    (fault_passed _ _ _ c.from_residual-in_err-name.ensures.1)
 
-pub with_part-requires : goal.with_part-requires
-with_part-requires c =
-    let st = c.args.stack.now in
-    let number = number-on-top AnyNumber st c.top_number.ensures c.in-Is.is in
-    let string = value-on-top AnyString (take c.in-Is.middle st) c.top_value.ensures c.in-Lies.is in
-    let name = name_below st c.in-Is.middle _ c.in-Lies.place c.in-Lies.len number.below string in
-    (omega (arith, name.inside, name.low, number.below), c.requires.low, omega (arith, c.requires.short, c.requires.inside))
+pub overflow_sub-name : goal.overflow_sub-name
+overflow_sub-name c =
+    let st = take c.in_ok-size.size.below c.args.frame.now.stack.now in
+    (string-text st _ _ _ (value-on-top AnyString st c.in_ok-name.name c.in_ok-name.ensures)).0
 
-pub returns-in-Lies : goal.returns-in-Lies
-returns-in-Lies c =
-    let st = c.args.stack.now in
-    let number = number-on-top AnyNumber st c.top_number.ensures c.in-Is.is in
-    let string = value-on-top AnyString (take c.in-Is.middle st) c.top_value.ensures c.in-Lies.is in
-    let name = name_below st c.in-Is.middle _ c.in-Lies.place c.in-Lies.len number.below string in
-    rw (number.pops, number.is, string.pops, ← name.text, name.below) c.with_part.ensures
+pub act_on-requires : goal.act_on-requires
+act_on-requires c =
+    let st = c.args.frame.now.stack.now in
+    let below = c.in_ok-size.size.below in
+    let inside : below ≤ length st = c.in_ok-size.ensures.1 in
+    let string = value-on-top AnyString (take below st) c.in_ok-name.name c.in_ok-name.ensures in
+    let name = name_below st below _ _ _ inside string in
+    (omega (arith, name.inside, name.low), omega arith)
 
-pub returns-in-NoValue : goal.returns-in-NoValue
-returns-in-NoValue c =
-    let st = c.args.stack.now in
-    let number = number-on-top AnyNumber st c.top_number.ensures c.in-Is.is in
-    rw number.pops (value-faults AnyString (take c.in-Is.middle st) c.top_value.ensures c.in-NoValue.is _ c.last_step.ensures _)
-
-pub returns-in-NoNumber : goal.returns-in-NoNumber
-returns-in-NoNumber c = number-faults AnyNumber _ c.top_number.ensures c.in-NoNumber.is _ c.last_step-in-NoNumber.ensures _
+pub returns : goal.returns
+returns c =
+    let st = c.args.frame.now.stack.now in
+    let below = c.in_ok-size.size.below in
+    let string = value-on-top AnyString (take below st) c.in_ok-name.name c.in_ok-name.ensures in
+    let name = name_below st below _ _ _ c.in_ok-size.ensures.1 string in
+    rw (number-goes _ _ c.in_ok-size.ensures.0 _, string.pops, ← name.text, name.below) c.act_on.ensures

@@ -1,19 +1,13 @@
 -- The ID comes off the stack of the state that goes on.
 use Rattle.std.proofs.Common.{◌≡◌, ◌+◌, ◌-◌, arith}
-use Rattle.operator.specs.declared.instruction.Types.TheVariants.{AnyNumber}
-use Rattle.stack.proofs.Popping.{number-faults, number-on-top}
+use Rattle.stack.proofs.Popping.{number-faults, number-goes}
+use Rattle.stack.proofs.Steps.{fault_passed}
 use Rattle.instruction.proofs.reach.wait.Goals as goal
 
-pub with_part-requires : goal.with_part-requires
-with_part-requires c =
-    let top = number-on-top AnyNumber c.args.stack.now c.top_number.ensures c.in-Is.is in
-    (omega (arith, top.below), c.requires.low, omega (arith, c.requires.short, c.requires.inside))
+pub returns-in_err-id : goal.returns-in_err-id
+returns-in_err-id c = rw (number-faults _ _ c.in_err-id.ensures.0 _) (fault_passed _ _ _ c.from_residual.ensures.1)
 
-pub returns-in-Is : goal.returns-in-Is
-returns-in-Is c =
-    let top = number-on-top AnyNumber c.args.stack.now c.top_number.ensures c.in-Is.is in
-    let back : c.args.at + 1 - 1 ≡ c.args.at = omega arith in
-    rw (top.pops, top.is) (rw back at c.with_part.ensures)
-
-pub returns-in-NoNumber : goal.returns-in-NoNumber
-returns-in-NoNumber c = number-faults AnyNumber _ c.top_number.ensures c.in-NoNumber.is _ c.last_step.ensures _
+pub returns : goal.returns
+returns c =
+    let back : c.args.frame.now.at + 1 - 1 ≡ c.args.frame.now.at = omega arith in
+    rw (number-goes _ _ c.in_ok-id.ensures.0 _) (rw back at c.act_on.ensures)

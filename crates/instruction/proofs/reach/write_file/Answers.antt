@@ -1,18 +1,10 @@
 -- The value's bytes are copied as they lie.
-use Rattle.std.proofs.Common.{arith}
-use Rattle.operator.specs.declared.instruction.Types.TheVariants.{AnyValue}
-use Rattle.stack.proofs.Popping.{value-faults, value-on-top}
+use Rattle.std.proofs.Common.{sym}
+use Rattle.stack.proofs.Steps.{fault_passed}
 use Rattle.instruction.proofs.reach.write_file.Goals as goal
 
-pub with_part-requires : goal.with_part-requires
-with_part-requires c =
-    let top = value-on-top AnyValue c.args.stack.now c.top_value.ensures c.in-Lies.is in
-    (omega (arith, top.inside), c.requires.low, omega (arith, c.requires.short, c.requires.inside))
+pub returns-in_err-x : goal.returns-in_err-x
+returns-in_err-x c = rw (sym c.in_err-x.ensures.0) (fault_passed _ _ _ c.from_residual.ensures.1)
 
-pub returns-in-Lies : goal.returns-in-Lies
-returns-in-Lies c =
-    let top = value-on-top AnyValue c.args.stack.now c.top_value.ensures c.in-Lies.is in
-    rw top.pops c.with_part.ensures
-
-pub returns-in-NoValue : goal.returns-in-NoValue
-returns-in-NoValue c = value-faults AnyValue _ c.top_value.ensures c.in-NoValue.is _ c.last_step.ensures _
+pub returns : goal.returns
+returns c = rw (sym c.in_ok-x.ensures.0) c.act_on.ensures

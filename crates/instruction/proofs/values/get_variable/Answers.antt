@@ -8,7 +8,6 @@ use Rattle.variable.specs.declared.Variables.{Variables}
 use Rattle.variable.proofs.Reading.{Own, find-own, find-own-none}
 use Rattle.machine.specs.Area.{kernel_of}
 use Rattle.instruction.proofs.Held.{Held, found-held, held_bytes}
-use Rattle.stack.proofs.Steps.{last-means}
 use Rattle.instruction.proofs.values.get_variable.Goals as goal
 
 -- what the machine's GET falls back on
@@ -19,39 +18,40 @@ own : (v : Variables) (name id i : ℕ) → Held v i → find v name id ≡ Some
     → Own v name id no_cell (cell_of v.memory (get_or v.entries i no_variable))
 own v name id i held e = rw held.same at (find-own v name id no_cell i e)
 
-pub returns-then-code-to : goal.returns-then-code-to
-returns-then-code-to c =
-    let a = c.args in
-    rw (lt-leb (a.at + 1 + 1) (length a.code.now) (omega arith)) (last-means a.stack.now c.last_step.ensures)
+pub returns-then-frame-to : goal.returns-then-frame-to
+returns-then-frame-to c =
+    let f = c.args.frame.now in
+    rw (lt-leb (f.at + 1 + 1) (length f.code.now) (omega arith))
 
 pub variable_at-e-requires : goal.variable_at-e-requires
 variable_at-e-requires c =
     let a = c.args in
     let table = (kernel_of a.area.now).variables in
-    let name = get_or a.code.now (a.at + 1) 0 in
-    let held = found-held table name a.owner c.in-Some.i c.requires.2 (sym c.find_in.ensures ∙ c.in-Some.is) in
-    (c.requires.1, held.low)
+    let name = get_or a.frame.now.code.now (a.frame.now.at + 1) 0 in
+    let held = found-held table name a.owner c.in-Some.i c.requires.1 (sym c.find_in.ensures ∙ c.in-Some.is) in
+    (c.requires.0, held.low)
 
 pub returns-in-Some : goal.returns-in-Some
 returns-in-Some c =
     let a = c.args in
+    let f = a.frame.now in
     let i = c.in-Some.i in
     let e = c.variable_at-e in
     let table = (kernel_of a.area.now).variables in
-    let name = get_or a.code.now (a.at + 1) 0 in
-    let fits : a.at + 1 + 1 ≤ length a.code.now = omega arith in
+    let name = get_or f.code.now (f.at + 1) 0 in
+    let fits : f.at + 1 + 1 ≤ length f.code.now = omega arith in
     let lookup = sym c.find_in.ensures ∙ c.in-Some.is in
-    let held = found-held table name a.owner i c.requires.2 lookup in
+    let held = found-held table name a.owner i c.requires.1 lookup in
     let o = own table name a.owner i held lookup in
     let kind = ap (λ (d : Variable). d.kind) e.ensures in
     let bytes = held_bytes a.area.now i e.result held e.ensures in
-    rw (le-leb _ _ fits, o.found, o.is, ← kind, ← bytes) (rw (take-length a.stack.now) at c.push_item.ensures)
+    rw (le-leb _ _ fits, o.found, o.is, ← kind, ← bytes) (rw (take-length f.stack.now) at c.push_item.ensures)
 
 pub returns-in-None : goal.returns-in-None
 returns-in-None c =
     let a = c.args in
+    let f = a.frame.now in
     let table = (kernel_of a.area.now).variables in
-    let name = get_or a.code.now (a.at + 1) 0 in
-    let fits : a.at + 1 + 1 ≤ length a.code.now = omega arith in
-    let none = find-own-none table name a.owner no_cell (sym c.find_in.ensures ∙ c.in-None.is) in
-    rw (le-leb _ _ fits, none) (last-means a.stack.now c.last_step-in-None.ensures)
+    let name = get_or f.code.now (f.at + 1) 0 in
+    let fits : f.at + 1 + 1 ≤ length f.code.now = omega arith in
+    rw (le-leb _ _ fits, find-own-none table name a.owner no_cell (sym c.find_in.ensures ∙ c.in-None.is))

@@ -34,7 +34,7 @@ slice_bounds-print_text-end c = sym (length-take-le c.text_length-n.result c.arg
 pub print_text-requires : goal.print_text-requires
 print_text-requires c =
     let size = length-take-le c.text_length-n.result c.args.bytes.now c.text_length-n.ensures.0 in
-    (omega (arith, c.requires.0.short), c.requires.1, c.requires.2)
+    (omega (arith, c.requires.0.short), c.requires.1)
 
 pub returns-then-kind-eq-STRING_KIND : goal.returns-then-kind-eq-STRING_KIND
 returns-then-kind-eq-STRING_KIND c =
@@ -52,7 +52,7 @@ slice_bounds-print_text-end-2 c = sym (written c.number_of.result c.write-text.r
 pub print_text-requires-2 : goal.print_text-requires-2
 print_text-requires-2 c =
     let text = written c.number_of.result c.write-text.result c.write-text.ensures in
-    (omega (arith, text.size, text.short), c.requires.1, c.requires.2)
+    (omega (arith, text.size, text.short), c.requires.1)
 
 pub returns : goal.returns
 returns c =

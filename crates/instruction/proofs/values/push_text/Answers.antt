@@ -6,7 +6,6 @@ use Rattle.buffer.specs.Buffer.{part}
 use Rattle.buffer.proofs.Parts.{part-to}
 use Rattle.disc.specs.Name.{trimmed}
 use Rattle.disc.proofs.Names.{text-with-zero}
-use Rattle.stack.proofs.Steps.{last-means}
 use Rattle.instruction.proofs.values.push_text.Goals as goal
 
 -- the code's n bytes from a place are its text there
@@ -29,20 +28,19 @@ module _ (code : List ℕ) (from n : ℕ) (known : TextOf code from n) where
       ap (λ (n : ℕ). take (n + 1) (drop from code)) (sym m)
       ∙ text-with-zero (drop from code) (omega (arith, length-drop from code))
 
-pub returns-then-code-to : goal.returns-then-code-to
-returns-then-code-to c =
-    let a = c.args in
-    let text = measured a.code.now (a.at + 1) c.text_length.result c.text_length.ensures in
-    let h : length a.code.now < a.at + 1 + (length (trimmed (drop (a.at + 1) a.code.now)) + 1) =
-    omega (arith, text, c.if-code-to.true) in
-    rw (lt-leb _ _ h) (last-means a.stack.now c.last_step.ensures)
+pub returns-then-frame-to : goal.returns-then-frame-to
+returns-then-frame-to c =
+    let f = c.args.frame.now in
+    let text = measured f.code.now (f.at + 1) c.text_length.result c.text_length.ensures in
+    let h : length f.code.now < f.at + 1 + (length (trimmed (drop (f.at + 1) f.code.now)) + 1) = omega (arith, text) in
+    rw (lt-leb _ _ h)
 
 pub returns : goal.returns
 returns c =
-    let a = c.args in
+    let f = c.args.frame.now in
     let n = c.text_length.result in
-    let text = measured a.code.now (a.at + 1) n c.text_length.ensures in
-    let h : a.at + 1 + (n + 1) ≤ length a.code.now = omega (arith, c.if-code-to.false) in
-    let with-zero = pushed a.code.now (a.at + 1) n c.text_length.ensures h in
+    let text = measured f.code.now (f.at + 1) n c.text_length.ensures in
+    let h : f.at + 1 + (n + 1) ≤ length f.code.now = omega arith in
+    let with-zero = pushed f.code.now (f.at + 1) n c.text_length.ensures h in
     rw (text, le-leb _ _ h)
-    (rw (take-length a.stack.now, part-to a.code.now (a.at + 1) (n + 1), with-zero) at c.push_item.ensures)
+    (rw (take-length f.stack.now, part-to f.code.now (f.at + 1) (n + 1), with-zero) at c.push_item.ensures)
