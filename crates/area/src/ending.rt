@@ -2,23 +2,25 @@
 ghost use Rattle.std.specs.Prelude.{◌≡◌};
 ghost use Rattle.machine.specs.Start.{started_process};
 ghost use Rattle.machine.specs.Ended.{ended_process};
+ghost use Rattle.machine.specs.Fault.{fault_byte};
 
 use crate::records::{NO_LOOP, RUNNING};
 use disc::Entry;
+use machine::fault::Fault;
 use machine::limits::STACK_SIZE;
 use machine::{OpenFile, Process};
 use place::Run;
 
 // Document 01: "Its record keeps name, ID and fault (0 unless a fault) and is otherwise zero."
-pub fn ended_process(p: Process, fault: u8) -> Process
-    ensures { result ≡ ended_process p fault }
+pub fn ended_process(p: Process, fault: Option<Fault>) -> Process
+    ensures { result ≡ ended_process p (fault_byte fault) }
 {
     let name = p.name;
     Process {
         name: name,
         id: p.id,
         state: 0,
-        fault: fault,
+        fault: fault.map_or(0, Fault::number),
         code: Run { start: 0, len: 0 },
         pc: 0,
         loopstart: 0,

@@ -66,7 +66,7 @@ fn end_by_id(disc: &[u8], area: &mut [u8], id: u32) -> Answer
     match slot_of(area, id) {
         None => Answer::Refused(Refusal::NoProcess),
         Some(slot) => {
-            finish(area, slot, 0);
+            finish(area, slot, None);
             Answer::Done(0)
         }
     }

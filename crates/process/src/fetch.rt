@@ -11,11 +11,12 @@ ghost use Rattle.stack.specs.Steps.{Means};
 ghost use Rattle.variable.specs.Table.{owned};
 
 use machine::Process;
+use machine::fault::Fault;
 use stack::Step;
 
 // Document 01: "An instruction reads its argument bytes from the program's own part of the disc."; "PC and loop are
 // offsets from the code start."
-pub fn next_step(disc: &[u8], area: &[u8], p: Process, clock: u32) -> Step
+pub fn next_step(disc: &[u8], area: &[u8], p: Process, clock: u32) -> Result<Step, Fault>
     requires { (p.code.start + p.code.len ≤ length disc.now) × (p.sp ≤ stack_size)
         × (length area.now ≡ area_length) × Readable (kernel_of area.now).variables }
     ensures { Means (stack_of p) result (exec (program_of disc.now p) clock (local_of p)

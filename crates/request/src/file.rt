@@ -9,19 +9,13 @@ ghost use Rattle.stack.specs.Steps.{about, keeping};
 ghost use Rattle.store.specs.File.{read_at};
 
 use crate::Access;
+use machine::fault::Fault;
 use machine::limits::STACK_SIZE;
 use machine::{OpenFile, Process};
 use place::Run;
 use process::advance::go_on;
 use process::ending::finish;
 use stack::{STRING_KIND, Step};
-
-// Document 01: "11 no open file; 12 past the file's end; [..] 4 stack above 32"
-const NO_OPEN_FILE: u8 = 11;
-
-const PAST_END: u8 = 12;
-
-const STACK_FULL: u8 = 4;
 
 fn access(file: OpenFile, n: usize) -> Access
     requires { n ≤ 65536 }
@@ -82,8 +76,8 @@ pub fn write_file(disc: &mut [u8], area: &mut [u8], slot: usize, p: Process, d: 
                 advanced(file, n),
             );
         }
-        Access::NoFile => finish(area, slot, NO_OPEN_FILE),
-        Access::PastEnd => finish(area, slot, PAST_END),
+        Access::NoFile => finish(area, slot, Some(Fault::NoOpenFile)),
+        Access::PastEnd => finish(area, slot, Some(Fault::PastEnd)),
     }
 }
 
@@ -106,7 +100,7 @@ fn push_read(
         (keeping (stack_of (own_at area.old slot)) d)) }
 {
     if STACK_SIZE < d.kept as usize + n + tail.len() {
-        finish(area, slot, STACK_FULL);
+        finish(area, slot, Some(Fault::StackFull));
         return;
     }
     let mut bytes = [0u8; STACK_SIZE];
@@ -136,8 +130,8 @@ pub fn read_number(disc: &[u8], area: &mut [u8], slot: usize, p: Process, d: Ste
             let tail = [kind];
             push_read(disc, area, slot, file, d, n, &tail);
         }
-        Access::NoFile => finish(area, slot, NO_OPEN_FILE),
-        Access::PastEnd => finish(area, slot, PAST_END),
+        Access::NoFile => finish(area, slot, Some(Fault::NoOpenFile)),
+        Access::PastEnd => finish(area, slot, Some(Fault::PastEnd)),
     }
 }
 
@@ -149,7 +143,7 @@ fn push_text(disc: &[u8], area: &mut [u8], slot: usize, p: Process, d: Step, n: 
         (keeping (stack_of p) d)) }
 {
     if STACK_SIZE < n {
-        finish(area, slot, STACK_FULL);
+        finish(area, slot, Some(Fault::StackFull));
         return;
     }
     let file = p.file;
@@ -165,12 +159,12 @@ pub fn read_string(disc: &[u8], area: &mut [u8], slot: usize, p: Process, d: Ste
 {
     let file = p.file;
     if file.len == 0 {
-        finish(area, slot, NO_OPEN_FILE);
+        finish(area, slot, Some(Fault::NoOpenFile));
         return;
     }
     let n = store::file::text_ahead(disc, file_run(file), file.offset as usize) + 1;
     if (file.len as usize) < file.offset as usize + n {
-        finish(area, slot, PAST_END);
+        finish(area, slot, Some(Fault::PastEnd));
         return;
     }
     push_text(disc, area, slot, p, d, n);

@@ -9,15 +9,13 @@ ghost use Rattle.stack.specs.Steps.{about, keeping};
 ghost use Rattle.disc.specs.Directory.{Readable};
 ghost use Rattle.store.specs.File.{admission};
 
+use machine::fault::Fault;
 use machine::{OpenFile, Process};
 use number::Number;
 use number::compare::size_within;
 use process::advance::go_on;
 use process::ending::finish;
 use stack::Step;
-
-// Document 01, fault 13: "OPEN's new file refused by name, size or store's 8 or 9"
-const FILE_REFUSED: u8 = 13;
 
 // The process goes on with the file of these bytes open, at offset 0.
 fn open_run(area: &mut [u8], slot: usize, p: Process, d: Step, start: u16, len: u16)
@@ -48,7 +46,7 @@ fn create_file(disc: &mut [u8], area: &mut [u8], slot: usize, p: Process, d: Ste
             store::file::create(disc, &bytes[..len], n as usize, start);
             open_run(area, slot, p, d, start as u16, n);
         }
-        Err(_) => finish(area, slot, FILE_REFUSED),
+        Err(_) => finish(area, slot, Some(Fault::FileRefused)),
     }
 }
 
@@ -62,7 +60,7 @@ fn open_new(disc: &mut [u8], area: &mut [u8], slot: usize, p: Process, d: Step, 
     let max = store::file::size_limit(disc);
     match size_within(size, max as u16) {
         Some(n) => create_file(disc, area, slot, p, d, n),
-        None => finish(area, slot, FILE_REFUSED),
+        None => finish(area, slot, Some(Fault::FileRefused)),
     }
 }
 

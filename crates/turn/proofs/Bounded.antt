@@ -18,7 +18,7 @@ use Rattle.variable.specs.Table.{owned}
 use Rattle.variable.specs.declared.Variable.{Variable}
 use Rattle.variable.proofs.Goodness.{good-size-bounds, good-variable-is}
 use Rattle.machine.specs.Area.{kernel_of}
-use Rattle.machine.specs.Effect.{Effect}
+use Rattle.machine.specs.Effect.{Effect, faults}
 use Rattle.machine.specs.Exec.{exec}
 use Rattle.machine.specs.Limits.{area_length, slot_count, stack_size}
 use Rattle.machine.specs.Refusals.{Passes}
@@ -34,9 +34,9 @@ use Rattle.machine.proofs.Instructions.Executing.{exec-sound}
 use Rattle.machine.proofs.Instructions.Sound.{Asked, Sound}
 use Rattle.instruction.specs.Readable.{Readable, is_held}
 use Rattle.process.specs.Stepping.{stack_of}
-use Rattle.stack.specs.Steps.{Means, about, effect_by, effect_of, keeping}
+use Rattle.stack.specs.Steps.{Does, about, effect_by, effect_of, keeping}
 use Rattle.stack.specs.declared.Action.{Action}
-use Rattle.stack.specs.declared.Action.TheVariants.{Push, Print, Assign, Stop, Fault, Open, Close, Write, Read, ReadString, Fork, Await}
+use Rattle.stack.specs.declared.Action.TheVariants.{Push, Print, Assign, Stop, Open, Close, Write, Read, ReadString, Fork, Await}
 use Rattle.stack.specs.declared.Step.{Step}
 use Rattle.request.specs.Answers.{Lies}
 use Rattle.turn.specs.Turns.{Bounds, Carries}
@@ -53,7 +53,7 @@ held live e t =
 -- what the code learns of the step that a process takes
 abbrev pub Steps : (disc area : List ℕ) (clock : ℕ) → Process → Step → Type 0
 Steps disc area clock q d =
-    Means (stack_of q) d (exec (program_of disc q) clock (local_of q) (owned (kernel_of area).variables q.id))
+    Does (stack_of q) d (exec (program_of disc q) clock (local_of q) (owned (kernel_of area).variables q.id))
 
 module _ (disc area : List ℕ) (passes : Passes disc area) where
   good : GoodState (kernel_of area) disc
@@ -111,7 +111,6 @@ module _ (disc area : List ℕ) (passes : Passes disc area) where
       bounded Print s = tt
       bounded (Assign name kind) s = omega (arith, (good-size-bounds kind _ s.1).0, bytes-size)
       bounded Stop s = tt
-      bounded (Fault n) s = tt
       bounded (Open x) s = tt
       bounded Close s = tt
       bounded Write s = tt
@@ -158,3 +157,11 @@ module _ (disc area : List ℕ) (passes : Passes disc area) where
         effect_is =
             subst⁻¹ (λ (r : Process). Steps disc area clock r d → effect_of (stack_of r) d ≡ effect_at (kernel_of area) slot clock disc)
             copied (λ m. m.same)
+
+      -- a fault is that of the instruction in that slot
+      pub fault_is : (clock fault : ℕ)
+          → faults fault ≡ exec (program_of disc q) clock (local_of q) (owned (kernel_of area).variables q.id)
+          → faults fault ≡ effect_at (kernel_of area) slot clock disc
+      fault_is clock fault =
+          subst⁻¹ (λ (r : Process). faults fault ≡ exec (program_of disc r) clock (local_of r) (owned (kernel_of area).variables r.id)
+          → faults fault ≡ effect_at (kernel_of area) slot clock disc) copied (λ e. e)

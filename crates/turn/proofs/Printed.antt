@@ -3,6 +3,7 @@ use Prim.Native.Nat.{ℕ}
 use mathlib.Core.Path.{◌≡◌, refl, sym, ap, ◌∙◌}
 use mathlib.Core.List.{List, []}
 use lib.ListN.{length}
+use lib.Seq.{paste-zero}
 use Rattle.buffer.specs.Buffer.{overwrite}
 use Rattle.variable.specs.Assign.{assigned, value_of}
 use Rattle.variable.specs.Assign.{Placing}
@@ -10,14 +11,16 @@ use Rattle.std.specs.Prelude.{Ok, Err}
 use Rattle.variable.specs.declared.Unplaced.TheVariants.{NoEntry, NoRun}
 use Rattle.variable.specs.declared.Variables.{Variables}
 use Rattle.machine.specs.Beyond.{Answered, answered, breaks, carries_on}
-use Rattle.machine.specs.Effect.{Effect}
+use Rattle.machine.specs.Area.{kernel_bytes}
+use Rattle.machine.specs.Effect.{Effect, faults}
+use Rattle.machine.specs.Ended.{ended}
 use Rattle.machine.specs.State.{Local, process_at}
 use Rattle.machine.specs.Turn.{Turned, answering, carried_out, effect_at, setting, turned}
 use Rattle.machine.specs.declared.Kernel.{Kernel}
 use Rattle.process.specs.Stepping.{left, left_by}
 use Rattle.stack.specs.Steps.{about, effect_by, effect_of, keeping}
 use Rattle.stack.specs.declared.Action.{Action}
-use Rattle.stack.specs.declared.Action.TheVariants.{Push, Print, Assign, Stop, Fault, Open, Close, Write, Read, ReadString, Fork, Await}
+use Rattle.stack.specs.declared.Action.TheVariants.{Push, Print, Assign, Stop, Open, Close, Write, Read, ReadString, Fork, Await}
 use Rattle.stack.specs.declared.Step.{Step}
 use Rattle.turn.specs.Turns.{printed, printed_by, turn_left, turn_left_by}
 
@@ -38,7 +41,6 @@ module _ (k : Kernel) (slot : ℕ) (disc : List ℕ) where
       let a = assigned k.variables name (process_at k slot).id (value_of kind bytes) in
       set-quiet a.placing a.variables l
   prints Stop stack bytes l = refl
-  prints (Fault n) stack bytes l = refl
   prints (Open size) stack bytes l = answer-quiet (answered k slot disc _)
   prints Close stack bytes l = answer-quiet (answered k slot disc _)
   prints Write stack bytes l = answer-quiet (answered k slot disc _)
@@ -57,4 +59,12 @@ module _ (k : Kernel) (slot : ℕ) (disc : List ℕ) where
       let t : Turned = carried_out k slot disc (effect_of stack d) in
       let said : printed_by d ≡ t.out = sym (prints d.action stack (about d) (keeping stack d)) in
       (λ i. turn_left ((text.0 ∙ ap length said) i) (done i).disc (done i).area ((text.1 ∙ ap (overwrite out 0) said) i))
+      ∙ ap (λ (e : Effect). turn_left_by (carried_out k slot disc e) out) effect
+
+  -- a process whose instruction faults is ended, and prints nothing
+  pub turn-faulted : (clock fault : ℕ) → faults fault ≡ effect_at k slot clock disc → (area out : List ℕ)
+      → area ≡ kernel_bytes (ended k slot fault) → turn_left 0 disc area out ≡ turn_left_by (turned k slot clock disc) out
+  unfolding turned carried_out
+  turn-faulted clock fault effect area out done =
+      (λ i. turn_left 0 disc (done i) (sym (paste-zero out 0 []) i))
       ∙ ap (λ (e : Effect). turn_left_by (carried_out k slot disc e) out) effect

@@ -11,7 +11,7 @@ use Rattle.process.specs.Stepping.{Stepping, stack_of}
 use Rattle.request.specs.Answers.{Lies}
 use Rattle.stack.specs.Steps.{about, placed}
 use Rattle.stack.specs.declared.Action.{Action}
-use Rattle.stack.specs.declared.Action.TheVariants.{Push, Print, Assign, Stop, Fault, Open, Close, Write, Read}
+use Rattle.stack.specs.declared.Action.TheVariants.{Push, Print, Assign, Stop, Open, Close, Write, Read}
 use Rattle.stack.specs.declared.Action.TheVariants.{ReadString, Fork, Await}
 use Rattle.stack.specs.declared.Step.{Step}
 use Rattle.disc.specs.Directory.{Readable}
@@ -24,7 +24,6 @@ Bounds Push p d = d.kept + d.len ≤ stack_size
 Bounds Print p d = Unit {0}
 Bounds (Assign name kind) p d = 1 ≤ d.len
 Bounds Stop p d = Unit {0}
-Bounds (Fault n) p d = Unit {0}
 Bounds (Open size) p d = Unit {0}
 Bounds Close p d = Unit {0}
 Bounds Write p d = Unit {0}
@@ -46,7 +45,6 @@ printed Push bytes = []
 printed Print bytes = bytes
 printed (Assign name kind) bytes = []
 printed Stop bytes = []
-printed (Fault n) bytes = []
 printed (Open size) bytes = []
 printed Close bytes = []
 printed Write bytes = []

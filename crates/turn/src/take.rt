@@ -39,8 +39,7 @@ fn carry_out(disc: &mut [u8], area: &mut [u8], slot: usize, p: Process, d: Step)
         }
         Action::Print => go_on(area, slot, d.kept, d.pc, d.loopstart, b"", b"", file),
         Action::Assign(name, kind) => set_variable(area, slot, p, d, name, kind),
-        Action::Stop => finish(area, slot, 0),
-        Action::Fault(n) => finish(area, slot, n),
+        Action::Stop => finish(area, slot, None),
         Action::Open(size) => open_file(disc, area, slot, p, d, size),
         Action::Close => go_on(area, slot, d.kept, d.pc, d.loopstart, b"", b"", file),
         Action::Write => write_file(disc, area, slot, p, d),
@@ -81,9 +80,16 @@ pub fn take_turn(
     ensures { turn_left result disc.new area.new out.new
         ≡ turn_left_by (turned (kernel_of area.old) slot clock disc.old) out.old }
 {
-    let d = next_step(disc, area, p, clock);
-    carry_out(disc, area, slot, p, d);
-    print(d, out)
+    match next_step(disc, area, p, clock) {
+        Ok(d) => {
+            carry_out(disc, area, slot, p, d);
+            print(d, out)
+        }
+        Err(fault) => {
+            finish(area, slot, Some(fault));
+            0
+        }
+    }
 }
 
 // One of the ten processes.

@@ -4,7 +4,7 @@ use lib.Seq.{length-take-le}
 use Rattle.buffer.proofs.Parts.{part_length, part-to}
 use Rattle.disc.proofs.Locations.{contents-part}
 use Rattle.machine.specs.Limits.{stack_size}
-use Rattle.stack.specs.Steps.{max_code}
+use Rattle.stack.specs.Ready.{max_code}
 use Rattle.process.proofs.fetch.next_step.Goals as goal
 
 pub slice_bounds-stack-end : goal.slice_bounds-stack-end

@@ -1,7 +1,8 @@
 -- The variables are set in place; then the process goes on, or ends where no place was found.
-use Rattle.std.proofs.Common.{◌≡◌, length, sym, arith, rules}
+use Rattle.std.proofs.Common.{◌≡◌, length, sym, ap, arith, rules}
 use lib.Seq.{length-take-le}
 use Rattle.std.specs.Prelude.{Err}
+use Rattle.variable.specs.Assign.{placing_fault}
 use Rattle.machine.specs.Limits.{stack_size}
 use Rattle.process.proofs.Assigning.{set-done, set-few, set_on, set-refused}
 use Rattle.process.proofs.setting.set_variable.Goals as goal
@@ -41,4 +42,4 @@ finish-requires c =
 pub returns-in-Err : goal.returns-in-Err
 returns-in-Err c =
     set-refused c.requires.0 c.args.name c.args.kind c.assign_in-placing.ensures (Err c.in-Err.field-0) tt c.in-Err.is
-    c.placing_fault.ensures c.finish.ensures
+    (sym (ap placing_fault c.in-Err.is)) c.finish.ensures

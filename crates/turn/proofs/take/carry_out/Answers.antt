@@ -86,14 +86,10 @@ pub returns-in-Assign : goal.returns-in-Assign
 unfolding carried_out
 returns-in-Assign c = done-as c.requires c.in-Assign.is (c.set_variable.ensures c.args.disc.now)
 
--- ---- the ends
+-- ---- the end
 pub returns-in-Stop : goal.returns-in-Stop
 unfolding carried_out
 returns-in-Stop c = done-as c.requires c.in-Stop.is (ap (left c.args.disc.now) c.finish.ensures)
-
-pub returns-in-Fault : goal.returns-in-Fault
-unfolding carried_out
-returns-in-Fault c = done-as c.requires c.in-Fault.is (ap (left c.args.disc.now) c.finish-in-Fault.ensures)
 
 -- ---- what reaches beyond the process
 pub returns-in-Open : goal.returns-in-Open

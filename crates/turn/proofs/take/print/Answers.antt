@@ -7,7 +7,7 @@ use borrow.Author.Rules.{rules}
 use lib.ListN.{length}
 use lib.Seq.{length-take-le}
 use Rattle.stack.specs.declared.Action.{Action}
-use Rattle.stack.specs.declared.Action.TheVariants.{Push, Print, Assign, Stop, Fault, Open, Close, Write, Read, ReadString, Fork, Await}
+use Rattle.stack.specs.declared.Action.TheVariants.{Push, Print, Assign, Stop, Open, Close, Write, Read, ReadString, Fork, Await}
 use Rattle.machine.specs.Limits.{stack_size}
 use Rattle.buffer.specs.Buffer.{overwrite}
 use Rattle.stack.specs.Steps.{about}
@@ -28,7 +28,6 @@ prints-nothing Push bytes h = refl
 prints-nothing Print bytes h = absurd (h refl)
 prints-nothing (Assign name kind) bytes h = refl
 prints-nothing Stop bytes h = refl
-prints-nothing (Fault n) bytes h = refl
 prints-nothing (Open size) bytes h = refl
 prints-nothing Close bytes h = refl
 prints-nothing Write bytes h = refl
