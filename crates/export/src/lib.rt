@@ -11,107 +11,109 @@ ghost use Rattle.machine.specs.Operations.{kill, resume, suspend};
 ghost use Rattle.operation.specs.Answers.{lent};
 ghost use Rattle.export.specs.Returned.{returned};
 
+use store::answer::number;
+
 pub fn arduinos_format(disc: &mut [u8], area: &mut [u8]) -> i32
     ensures { (out : List ℕ) → returned result disc.new area.new out
         ≡ format_answer (lent disc.old area.old out) }
 {
-    operation::numbers::number(operation::format::format(disc, area))
+    number(operation::format::format(disc, area))
 }
 
 pub fn arduinos_boot(area: &mut [u8]) -> i32
     ensures { (disc out : List ℕ) → returned result disc area.new out
         ≡ boot_answer (lent disc area.old out) }
 {
-    operation::numbers::number(operation::format::boot(area))
+    number(operation::format::boot(area))
 }
 
 pub fn arduinos_store(disc: &mut [u8], name: &[u8], data: &[u8]) -> i32
     ensures { (area out : List ℕ) → returned result disc.new area out
         ≡ answer (other (store name.now «data».now)) (lent disc.old area out) }
 {
-    disc_operation::numbers::number(disc_operation::operations::store(disc, name, data))
+    number(disc_operation::operations::store(disc, name, data))
 }
 
 pub fn arduinos_retrieve(disc: &[u8], name: &[u8], out: &mut [u8]) -> i32
     ensures { (area : List ℕ) → returned result disc.now area out.new
         ≡ answer (other (retrieve name.now)) (lent disc.now area out.old) }
 {
-    disc_operation::numbers::number(disc_operation::operations::retrieve(disc, name, out))
+    number(disc_operation::operations::retrieve(disc, name, out))
 }
 
 pub fn arduinos_erase(disc: &mut [u8], area: &[u8], name: &[u8]) -> i32
     ensures { (out : List ℕ) → returned result disc.new area.now out
         ≡ answer (other (erase name.now)) (lent disc.old area.now out) }
 {
-    operation::numbers::number(operation::files::erase(disc, area, name))
+    number(operation::files::erase(disc, area, name))
 }
 
 pub fn arduinos_files(disc: &[u8], out: &mut [u8]) -> i32
     ensures { (area : List ℕ) → returned result disc.now area out.new
         ≡ answer (other files) (lent disc.now area out.old) }
 {
-    disc_operation::numbers::number(disc_operation::operations::files(disc, out))
+    number(disc_operation::operations::files(disc, out))
 }
 
 pub fn arduinos_free_space(disc: &[u8]) -> i32
     ensures { (area out : List ℕ) → returned result disc.now area out
         ≡ answer (other free_space) (lent disc.now area out) }
 {
-    disc_operation::numbers::number(disc_operation::operations::free_space(disc))
+    number(disc_operation::operations::free_space(disc))
 }
 
 pub fn arduinos_run(disc: &[u8], area: &mut [u8], name: &[u8]) -> i32
     ensures { (out : List ℕ) → returned result disc.now area.new out
         ≡ answer (run name.now) (lent disc.now area.old out) }
 {
-    operation::numbers::number(operation::files::run(disc, area, name))
+    number(operation::files::run(disc, area, name))
 }
 
 pub fn arduinos_suspend(disc: &[u8], area: &mut [u8], id: u32) -> i32
     ensures { (out : List ℕ) → returned result disc.now area.new out
         ≡ answer (command suspend id) (lent disc.now area.old out) }
 {
-    operation::numbers::number(operation::commands::suspend(disc, area, id))
+    number(operation::commands::suspend(disc, area, id))
 }
 
 pub fn arduinos_resume(disc: &[u8], area: &mut [u8], id: u32) -> i32
     ensures { (out : List ℕ) → returned result disc.now area.new out
         ≡ answer (command resume id) (lent disc.now area.old out) }
 {
-    operation::numbers::number(operation::commands::resume(disc, area, id))
+    number(operation::commands::resume(disc, area, id))
 }
 
 pub fn arduinos_kill(disc: &[u8], area: &mut [u8], id: u32) -> i32
     ensures { (out : List ℕ) → returned result disc.now area.new out
         ≡ answer (command kill id) (lent disc.now area.old out) }
 {
-    operation::numbers::number(operation::commands::kill(disc, area, id))
+    number(operation::commands::kill(disc, area, id))
 }
 
 pub fn arduinos_share(disc: &[u8], area: &mut [u8], id: u32, turns: u32) -> i32
     ensures { (out : List ℕ) → returned result disc.now area.new out
         ≡ answer (share id turns) (lent disc.now area.old out) }
 {
-    operation::numbers::number(operation::commands::share(disc, area, id, turns))
+    number(operation::commands::share(disc, area, id, turns))
 }
 
 pub fn arduinos_list(disc: &[u8], area: &[u8], out: &mut [u8]) -> i32
     ensures { returned result disc.now area.now out.new
         ≡ answer (other list) (lent disc.now area.now out.old) }
 {
-    operation::numbers::number(operation::list::list(disc, area, out))
+    number(operation::list::list(disc, area, out))
 }
 
 pub fn arduinos_turn(disc: &mut [u8], area: &mut [u8], slot: u32, clock: u32, out: &mut [u8]) -> i32
     ensures { returned result disc.new area.new out.new
         ≡ answer (turn slot clock) (lent disc.old area.old out.old) }
 {
-    operation::numbers::number(operation::turns::turn(disc, area, slot, clock, out))
+    number(operation::turns::turn(disc, area, slot, clock, out))
 }
 
 pub fn arduinos_round(disc: &mut [u8], area: &mut [u8], clock: u32, out: &mut [u8]) -> i32
     ensures { returned result disc.new area.new out.new
         ≡ answer (round clock) (lent disc.old area.old out.old) }
 {
-    operation::numbers::number(operation::turns::round(disc, area, clock, out))
+    number(operation::turns::round(disc, area, clock, out))
 }

@@ -1,5 +1,5 @@
 -- The tests that come first, as the code makes them: what a refused call answers, and what is known of buffers that pass.
-use Rattle.std.specs.Prelude.{Some}
+use Rattle.std.specs.Prelude.{Some, Ok, Err, Result}
 use Prim.Native.Nat.{ℕ, ◌≤◌, ◌<◌}
 use mathlib.Core.Path.{◌≡◌, refl, sym, ap, ◌∙◌}
 use mathlib.Core.Bool.{Bool, true, false, ◌&&◌}
@@ -9,6 +9,8 @@ use lib.ListN.{length}
 use borrow.Author.Tests.{le-leb, lt-leb}
 use Rattle.disc.specs.Directory.{good_disc, is_disc_length}
 use Rattle.store.specs.File.{unless}
+use Rattle.store.specs.declared.Refusal.{Refusal}
+use Rattle.store.specs.declared.Refusal.TheVariants.{WrongLength, BadDisc, BadArea, ShortOutput}
 use Rattle.machine.specs.Answer.{good_area, on_good, refused, with_room}
 use Rattle.machine.specs.Answer.{Answer as Expected}
 use Rattle.machine.specs.Area.{is_area_length, kernel_of}
@@ -19,29 +21,24 @@ use Rattle.machine.proofs.Bytes.Sizes.{decoded-sized}
 use Rattle.machine.proofs.Changes.Slots.{slot_at}
 use Rattle.machine.proofs.Demands.GoodCalls.{on-good}
 use Rattle.validation.specs.Tests.{tested}
-use Rattle.validation.specs.declared.Tested.TheVariants as tests
-use Rattle.operation.specs.Answers.{answered, checked, lent, usable}
-use Rattle.operation.specs.declared.Answer.TheVariants.{Refused}
-use Rattle.operation.specs.declared.Checked.{Checked}
-use Rattle.operation.specs.declared.Checked.TheVariants.{Usable, Unusable}
-use Rattle.operation.specs.declared.Refusal.{Refusal}
-use Rattle.operation.specs.declared.Refusal.TheVariants.{WrongLength, BadDisc, BadArea, ShortOutput}
+use Rattle.operation.specs.Answers.{answered, lent}
 
 -- ---- one test after the other, and what the code was told of them
-module _ (disc area : List ℕ) {told : Checked} (e : told ≡ checked disc area) where
+module _ (disc area : List ℕ) where
   -- refused, whatever else the operation does
-  pub first-refused : {refusal : Refusal} → told ≡ Unusable refusal → (out : List ℕ) (rest : Expected)
-      → answered (Refused refusal) disc area out ≡ on_good (lent disc area out) rest
+  pub first-refused : {refusal : Refusal} → Err refusal ≡ tested disc area → (out : List ℕ) (rest : Expected)
+      → answered (Err refusal) disc area out ≡ on_good (lent disc area out) rest
   unfolding tested
-  first-refused {refusal} u out rest =
-      go (is_disc_length (length disc) && is_area_length (length area)) (good_disc disc) (good_area disc area) (sym e ∙ u)
+  first-refused {refusal} e out rest =
+      go (is_disc_length (length disc) && is_area_length (length area)) (good_disc disc) (good_area disc area) e
     where
-      named : (r : Refusal) → Unusable r ≡ Unusable refusal → answered (Refused refusal) disc area out ≡ answered (Refused r) disc area out
-      named r h = let q : refusal ≡ r = cc in ap (λ (x : Refusal). answered (Refused x) disc area out) q
+      named : (r : Refusal) → ◌≡◌ {A = Result (Unit {0}) Refusal} (Err refusal) (Err r)
+          → answered (Err refusal) disc area out ≡ answered (Err r) disc area out
+      named r h = let q : refusal ≡ r = cc in ap (λ (x : Refusal). answered (Err x) disc area out) q
 
-      go : (a b c : Bool)
-          → usable (unless a tests.WrongLength (unless b tests.BadDisc (unless c tests.BadArea tests.Pass))) ≡ Unusable refusal
-          → answered (Refused refusal) disc area out
+      go : (a b c : Bool) → ◌≡◌ {A = Result (Unit {0}) Refusal} (Err refusal)
+          (unless a (Err WrongLength) (unless b (Err BadDisc) (unless c (Err BadArea) (Ok tt))))
+          → answered (Err refusal) disc area out
           ≡ unless a (refused 1 (lent disc area out))
           (unless b (refused 2 (lent disc area out)) (unless c (refused 3 (lent disc area out)) rest))
       go false b c h = named WrongLength h
@@ -49,32 +46,34 @@ module _ (disc area : List ℕ) {told : Checked} (e : told ≡ checked disc area
       go true true false h = named BadArea h
       go true true true h = absurd (let z : ◌≡◌ {A = ℕ} 0 1 = cc in omega arith)
 
-  pub first-passed : told ≡ Usable → Passes disc area
+  pub first-passed : {u : Unit {0}} → Ok u ≡ tested disc area → Passes disc area
   unfolding tested
-  first-passed u =
-      go (is_disc_length (length disc) && is_area_length (length area)) refl (good_disc disc) refl (good_area disc area) refl (sym e ∙ u)
+  first-passed {u} e =
+      go (is_disc_length (length disc) && is_area_length (length area)) refl (good_disc disc) refl (good_area disc area) refl e
     where
       go : (a : Bool) → is_disc_length (length disc) && is_area_length (length area) ≡ a → (b : Bool) → good_disc disc ≡ b
           → (c : Bool) → good_area disc area ≡ c
-          → usable (unless a tests.WrongLength (unless b tests.BadDisc (unless c tests.BadArea tests.Pass))) ≡ Usable → Passes disc area
+          → ◌≡◌ {A = Result (Unit {0}) Refusal} (Ok u) (unless a (Err WrongLength) (unless b (Err BadDisc) (unless c (Err BadArea) (Ok tt))))
+          → Passes disc area
       go false p b q c r h = absurd (let z : ◌≡◌ {A = ℕ} 0 1 = cc in omega arith)
       go true p false q c r h = absurd (let z : ◌≡◌ {A = ℕ} 0 1 = cc in omega arith)
       go true p true q false r h = absurd (let z : ◌≡◌ {A = ℕ} 0 1 = cc in omega arith)
       go true p true q true r h = record { sizes = p; disc-good = q; area-good = r }
 
   -- passed, so that the rest is the answer
-  pub first_done : told ≡ Usable → (out : List ℕ) {given rest : Expected} → given ≡ rest → given ≡ on_good (lent disc area out) rest
-  first_done u out h = h ∙ sym (on-good _ _ (first-passed u))
+  pub first_done : {u : Unit {0}} → Ok u ≡ tested disc area → (out : List ℕ) {given rest : Expected} → given ≡ rest
+      → given ≡ on_good (lent disc area out) rest
+  first_done e out h = h ∙ sym (on-good _ _ (first-passed e))
 
   -- then the room of the output
-  module _ (u : told ≡ Usable) (out : List ℕ) (n : ℕ) (rest : Expected) where
+  module _ {u : Unit {0}} (e : Ok u ≡ tested disc area) (out : List ℕ) (n : ℕ) (rest : Expected) where
     pub first_short : length out < n
-        → answered (Refused ShortOutput) disc area out ≡ on_good (lent disc area out) (with_room n (lent disc area out) rest)
-    first_short h = first_done u out (rw (lt-leb n (length out) h))
+        → answered (Err ShortOutput) disc area out ≡ on_good (lent disc area out) (with_room n (lent disc area out) rest)
+    first_short h = first_done e out (rw (lt-leb n (length out) h))
 
     pub first-roomy : n ≤ length out → {given : Expected} → given ≡ rest
         → given ≡ on_good (lent disc area out) (with_room n (lent disc area out) rest)
-    first-roomy h g = first_done u out (rw (le-leb n (length out) h) g)
+    first-roomy h g = first_done e out (rw (le-leb n (length out) h) g)
 
 -- the slot of an ID is one of the ten
 pub slot-low : (area : List ℕ) (id : ℕ) {slot : ℕ} → length area ≡ area_length → slot_of (kernel_of area) id ≡ Some slot → slot < slot_count

@@ -1,6 +1,6 @@
--- the answers and their numbers, and the tests that come first
+-- the answers with the buffers
 pub mod Answers
--- suspend and resume
+-- suspend, resume, kill and share
 pub mod Commands
 -- the lines of list
 pub mod Lines

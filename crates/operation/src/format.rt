@@ -4,8 +4,8 @@ ghost use Rattle.machine.specs.Answer.{boot_answer, booted, format_answer};
 ghost use Rattle.machine.specs.Limits.{area_length};
 ghost use Rattle.operation.specs.Answers.{answered, lent};
 
-use crate::{Answer, Refusal};
 use machine::limits::{AREA_LENGTH, NEXT_AT};
+use store::{Answer, Refusal};
 
 fn fill_zeros(bytes: &mut [u8])
     ensures { bytes.new ≡ replicate (length bytes.old) 0 }
@@ -31,10 +31,10 @@ pub fn boot(area: &mut [u8]) -> Answer
         ≡ boot_answer (lent disc area.old out) }
 {
     if area.len() != AREA_LENGTH {
-        return Answer::Refused(Refusal::WrongLength);
+        return Err(Refusal::WrongLength);
     }
     clear_area(area);
-    Answer::Done(0)
+    Ok(0)
 }
 
 // Document 01: "Format zeroes the disc, then boots."
@@ -43,12 +43,12 @@ pub fn format(disc: &mut [u8], area: &mut [u8]) -> Answer
         ≡ format_answer (lent disc.old area.old out) }
 {
     if !disc::good::is_disc_length(disc.len()) {
-        return Answer::Refused(Refusal::WrongLength);
+        return Err(Refusal::WrongLength);
     }
     if area.len() != AREA_LENGTH {
-        return Answer::Refused(Refusal::WrongLength);
+        return Err(Refusal::WrongLength);
     }
     fill_zeros(disc);
     clear_area(area);
-    Answer::Done(0)
+    Ok(0)
 }

@@ -8,12 +8,12 @@ ghost use Rattle.machine.specs.Operations.{list_text};
 ghost use Rattle.operation.specs.Answers.{answered, lent};
 ghost use Rattle.operation.specs.Lines.{line_of};
 
-use crate::checks::check;
-use crate::{Answer, Checked, Refusal};
 use area::processes::is_live;
 use area::records::{ID_AT, STATE_AT, record_at};
 use disc::layout::NAME_SIZE;
 use machine::limits::SLOT_COUNT;
+use store::{Answer, Refusal};
+use validation::check;
 
 // Document 01, List: "ID, space, 'r' or 'p', space, name, newline per live process". Nothing for one that has ended.
 fn line_length(bytes: &[u8]) -> usize
@@ -76,11 +76,9 @@ pub fn list(disc: &[u8], area: &[u8], out: &mut [u8]) -> Answer
     ensures { answered result disc.now area.now out.new
         ≡ answer (other list) (lent disc.now area.now out.old) }
 {
-    if let Checked::Unusable(refusal) = check(disc, area) {
-        return Answer::Refused(refusal);
-    }
+    check(disc, area)?;
     if out.len() < list_length(area) {
-        return Answer::Refused(Refusal::ShortOutput);
+        return Err(Refusal::ShortOutput);
     }
-    Answer::Done(put_list(area, out) as u16)
+    Ok(put_list(area, out) as u16)
 }

@@ -6,10 +6,10 @@
 ghost use Rattle.std.specs.Io.{ReadsAtMost};
 ghost use Rattle.std.specs.Prelude.{◌≤◌, length, IfOk};
 
-use operation::Answer;
 use std::fs::File;
 use std::io;
 use std::io::{BufReader, Read};
+use store::Answer;
 
 // No buffer of a vector is longer.
 const LONGEST: usize = 4096;
@@ -100,7 +100,7 @@ fn run(
 ) -> io::Result<()> {
     let answer = perform(letter, disc, area, name, first, second, out);
     printing::text(rt, &[letter, b' '])?;
-    printing::number(rt, operation::numbers::number(answer))?;
+    printing::number(rt, store::answer::number(answer))?;
     printing::checksum(rt, disc)?;
     printing::checksum(rt, area)?;
     printing::checksum(rt, out)?;

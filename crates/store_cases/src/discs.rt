@@ -3,27 +3,27 @@ ghost use Rattle.std.specs.Prelude.{◌<◌, ◌≤◌};
 ghost use Rattle.disc.specs.Layout.{max_files};
 
 use disc::layout::SHORT_DISC;
-use store::Checked;
+use store::answer::number;
 
 pub fn store(disc: &mut [u8], name: &[u8], data: &[u8]) -> i32 {
-    disc_operation::numbers::number(disc_operation::operations::store(disc, name, data))
+    number(disc_operation::operations::store(disc, name, data))
 }
 
 pub fn retrieve(disc: &[u8], name: &[u8], out: &mut [u8]) -> i32 {
-    disc_operation::numbers::number(disc_operation::operations::retrieve(disc, name, out))
+    number(disc_operation::operations::retrieve(disc, name, out))
 }
 
 pub fn files(disc: &[u8], out: &mut [u8]) -> i32 {
-    disc_operation::numbers::number(disc_operation::operations::files(disc, out))
+    number(disc_operation::operations::files(disc, out))
 }
 
 pub fn free_space(disc: &[u8]) -> i32 {
-    disc_operation::numbers::number(disc_operation::operations::free_space(disc))
+    number(disc_operation::operations::free_space(disc))
 }
 
 // Erases the file of that name, if the disc is good and has one. Whether it is in use, only the kernel knows.
 fn erase(disc: &mut [u8], name: &[u8]) {
-    if let Checked::Usable = disc_operation::operations::check(disc)
+    if let Ok(()) = disc_operation::operations::check(disc)
         && let Some(i) = disc::directory::find(disc, name)
     {
         store::file::erase_entry(disc, i);

@@ -49,7 +49,7 @@ fn run(
 ) -> io::Result<()> {
     let answer = perform(operation, disc, name, bytes, out);
     printing::text(rt, &[operation, b' '])?;
-    printing::number(rt, disc_operation::numbers::number(answer))?;
+    printing::number(rt, store::answer::number(answer))?;
     printing::checksum(rt, disc)?;
     printing::checksum(rt, out)?;
     println!(rt;)

@@ -4,15 +4,17 @@ use borrow.Author.Tests.{eq-eqb, ne_eqb}
 use Rattle.disc.proofs.Lengths.{disc-bounds, readable}
 use Rattle.validation.specs.Tests.{tested}
 use Rattle.validation.proofs.check.Goals as goal
+use Rattle.validation.proofs.check.Goals.{then-not-is_disc_length-via-then-not-is_disc_length}
+use Rattle.validation.proofs.check.Goals.{then-not-is_disc_length-via-else-not-is_disc_length+then-area-ne-AREA_LENGTH}
 
 pub returns-then-not-is_disc_length : goal.returns-then-not-is_disc_length
 unfolding tested
-returns-then-not-is_disc_length c = rw (sym c.is_disc_length.ensures ∙ c.if-not-is_disc_length.true)
-
-pub returns-then-area-ne-AREA_LENGTH : goal.returns-then-area-ne-AREA_LENGTH
-unfolding tested
-returns-then-area-ne-AREA_LENGTH c =
-    rw (sym c.is_disc_length.ensures ∙ c.if-not-is_disc_length.false, ne_eqb _ _ c.if-area-ne-AREA_LENGTH.true)
+returns-then-not-is_disc_length c =
+    elim c.then-not-is_disc_length.branch [
+      | then-not-is_disc_length-via-then-not-is_disc_length w ↦ rw (sym c.is_disc_length.ensures ∙ w.if-not-is_disc_length.true)
+      | then-not-is_disc_length-via-else-not-is_disc_length+then-area-ne-AREA_LENGTH w ↦
+          rw (sym c.is_disc_length.ensures ∙ w.if-not-is_disc_length.false, ne_eqb _ _ w.if-area-ne-AREA_LENGTH.true)
+    ]
 
 pub is_good_disc-requires : goal.is_good_disc-requires
 is_good_disc-requires c = (disc-bounds _ (sym c.is_disc_length.ensures ∙ c.if-not-is_disc_length.false)).low

@@ -1,15 +1,66 @@
--- Behind the tests, the program is started.
-use Rattle.machine.specs.Answer.{answer}
+-- Behind the tests, the program is started where a slot, its file and an ID are found; else the refusal says what was not.
+use Rattle.std.specs.Prelude.{Ok}
+use Rattle.std.proofs.lemmas.Result.{err_from_is_err_and}
+use mathlib.Core.Path.{◌≡◌, ap, ◌∙◌}
+use native.Mathlib.Omega.{arith}
+use Rattle.disc.specs.Directory.{entry_at}
+use Rattle.machine.specs.Answer.{answer, run_at}
+use Rattle.machine.specs.Area.{kernel_bytes, kernel_of}
+use Rattle.machine.specs.Start.{started}
+use Rattle.machine.specs.Start.{Starting as StartOf}
+use Rattle.turn.proofs.Passing.{area-size, disc-readable, next_low}
+use Rattle.operation.specs.Answers.{answered, lent}
 use Rattle.operation.proofs.FirstTests.{first_done, first-passed, first-refused}
 use Rattle.operation.proofs.files.run.Goals as goal
 
-pub returns-in-Unusable : goal.returns-in-Unusable
+pub returns-in_err-check : goal.returns-in_err-check
 unfolding answer
-returns-in-Unusable c out = first-refused _ _ c.check.ensures c.in-Unusable.is out _
+returns-in_err-check c out =
+    let p = err_from_is_err_and c.from_residual.result c.from_residual.ensures.1 in
+    rw (p.1, p.2) (first-refused _ _ c.in_err-check.ensures out _)
 
-pub run_file-requires : goal.run_file-requires
-run_file-requires c = first-passed _ _ c.check.ensures c.in_default.is
+pub find_start-requires : goal.find_start-requires
+find_start-requires c = (disc-readable (first-passed c.args.disc.now c.args.area.now c.in_ok-check.ensures), area-size (first-passed c.args.disc.now c.args.area.now c.in_ok-check.ensures))
 
-pub returns : goal.returns
+pub next_id-next-requires : goal.next_id-next-requires
+next_id-next-requires c = area-size (first-passed c.args.disc.now c.args.area.now c.in_ok-check.ensures)
+
+pub entry_at-requires : goal.entry_at-requires
+entry_at-requires c =
+    let r = disc-readable (first-passed c.args.disc.now c.args.area.now c.in_ok-check.ensures) in
+    (r.low, omega (arith, c.in-Starts.ensures.1.file-low, r.few))
+
+pub start-requires : goal.start-requires
+start-requires c = (area-size (first-passed c.args.disc.now c.args.area.now c.in_ok-check.ensures), c.in-Starts.ensures.1.slot-low, omega (arith, next_low (first-passed c.args.disc.now c.args.area.now c.in_ok-check.ensures)))
+
+pub returns-in-Starts : goal.returns-in-Starts
 unfolding answer
-returns c out = first_done _ _ c.check.ensures c.in_default.is out (c.run_file.ensures out)
+returns-in-Starts c out =
+    let a = c.args in
+    let k = kernel_of a.area.now in
+    let begun : c.start.new.area ≡ kernel_bytes (started k c.in-Starts.slot (entry_at a.disc.now c.in-Starts.i)) =
+    c.start.ensures ∙ (λ i. kernel_bytes (started k c.in-Starts.slot (c.entry_at.ensures i))) in
+    first_done _ _ c.in_ok-check.ensures out
+    ((λ i. answered (Ok (c.next_id-next.ensures i)) a.disc.now (begun i) out)
+    ∙ ap (λ (s : StartOf). run_at s k (lent a.disc.now a.area.now out)) c.in-Starts.ensures.0)
+
+pub returns-in-NoSlot : goal.returns-in-NoSlot
+unfolding answer
+returns-in-NoSlot c out =
+    let a = c.args in
+    first_done _ _ c.in_ok-check.ensures out
+    (ap (λ (s : StartOf). run_at s (kernel_of a.area.now) (lent a.disc.now a.area.now out)) c.in-NoSlot.ensures.0)
+
+pub returns-in-NoFile : goal.returns-in-NoFile
+unfolding answer
+returns-in-NoFile c out =
+    let a = c.args in
+    first_done _ _ c.in_ok-check.ensures out
+    (ap (λ (s : StartOf). run_at s (kernel_of a.area.now) (lent a.disc.now a.area.now out)) c.in-NoFile.ensures.0)
+
+pub returns-in-NoId : goal.returns-in-NoId
+unfolding answer
+returns-in-NoId c out =
+    let a = c.args in
+    first_done _ _ c.in_ok-check.ensures out
+    (ap (λ (s : StartOf). run_at s (kernel_of a.area.now) (lent a.disc.now a.area.now out)) c.in-NoId.ensures.0)

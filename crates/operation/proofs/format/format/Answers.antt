@@ -1,4 +1,5 @@
 -- Both lengths are tested; then the disc is zeros, and the area is cleared.
+use Rattle.std.specs.Prelude.{Ok}
 use Prim.Native.Nat.{ℕ}
 use mathlib.Core.Path.{◌≡◌, sym, ap₂, ◌∙◌}
 use mathlib.Core.Bool.{true}
@@ -8,7 +9,6 @@ use borrow.Author.Tests.{eq-eqb, ne_eqb}
 use Rattle.disc.specs.Directory.{is_disc_length}
 use Rattle.machine.specs.Answer.{format_answer}
 use Rattle.operation.specs.Answers.{answered}
-use Rattle.operation.specs.declared.Answer.TheVariants.{Done}
 use Rattle.operation.proofs.format.format.Goals as goal
 
 pub returns-then-not-is_disc_length : goal.returns-then-not-is_disc_length
@@ -26,4 +26,4 @@ unfolding format_answer
 returns c out =
     let disc-long : is_disc_length (length c.args.disc.now) ≡ true = sym c.is_disc_length.ensures ∙ c.if-not-is_disc_length.false in
     rw (disc-long, eq-eqb _ _ c.if-area-ne-AREA_LENGTH.false)
-    (ap₂ (λ (d a : List ℕ). answered (Done 0) d a out) c.fill_zeros.ensures c.clear_area.ensures)
+    (ap₂ (λ (d a : List ℕ). answered (Ok 0) d a out) c.fill_zeros.ensures c.clear_area.ensures)

@@ -1,4 +1,6 @@
 -- Behind the tests, the lines of the live processes, if the output has room.
+use Rattle.std.proofs.lemmas.Result.{err_from_is_err_and}
+use Rattle.std.specs.Prelude.{Ok}
 use Prim.Native.Nat.{ℕ}
 use mathlib.Core.Path.{◌≡◌, ap, ap₂}
 use mathlib.Core.List.{List}
@@ -9,29 +11,30 @@ use Rattle.machine.specs.Area.{kernel_of}
 use Rattle.machine.specs.Limits.{slot_count}
 use Rattle.machine.specs.Operations.{list_text}
 use Rattle.operation.specs.Answers.{answered}
-use Rattle.operation.specs.declared.Answer.TheVariants.{Done}
 use Rattle.turn.proofs.Passing.{area-size}
 use Rattle.operation.proofs.FirstTests.{first-passed, first-refused, first-roomy, first_short}
 use Rattle.operation.proofs.Lines.{list-short, live-lines}
 use Rattle.operation.proofs.list.list.Goals as goal
 
-pub returns-in-Unusable : goal.returns-in-Unusable
+pub returns-in_err-check : goal.returns-in_err-check
 unfolding answer other_answer
-returns-in-Unusable c = first-refused _ _ c.check.ensures c.in-Unusable.is _ _
+returns-in_err-check c =
+    let p = err_from_is_err_and c.from_residual.result c.from_residual.ensures.1 in
+    rw (p.1, p.2) (first-refused _ _ c.in_err-check.ensures _ _)
 
 pub list_length-requires : goal.list_length-requires
-list_length-requires c = area-size (first-passed _ _ c.check.ensures c.in_default.is)
+list_length-requires c = area-size (first-passed _ _ c.in_ok-check.ensures)
 
 pub returns-then-out-list_length : goal.returns-then-out-list_length
 unfolding answer other_answer
 returns-then-out-list_length c =
-    first_short _ _ c.check.ensures c.in_default.is _ (length (list_text (kernel_of c.args.area.now))) _
+    first_short _ _ c.in_ok-check.ensures _ (length (list_text (kernel_of c.args.area.now))) _
     (omega (arith, c.list_length.ensures))
 
 pub put_list-requires : goal.put_list-requires
 put_list-requires c =
     record {
-      area_len = area-size (first-passed _ _ c.check.ensures c.in_default.is);
+      area_len = area-size (first-passed _ _ c.in_ok-check.ensures);
       area_in_bounds = omega (arith, c.list_length.ensures);
     }
 
@@ -46,5 +49,5 @@ returns c =
     let a = c.args in
     let text = list_text (kernel_of a.area.now) in
     let n : c.put_list.result ≡ length text = omega (arith, c.put_list.ensures.place) in
-    first-roomy _ _ c.check.ensures c.in_default.is a.out.now (length text) _ (omega (arith, c.list_length.ensures))
-    (ap₂ (λ (m : ℕ) (l : List ℕ). answered (Done m) a.disc.now a.area.now l) n c.put_list.ensures.bytes)
+    first-roomy _ _ c.in_ok-check.ensures a.out.now (length text) _ (omega (arith, c.list_length.ensures))
+    (ap₂ (λ (m : ℕ) (l : List ℕ). answered (Ok m) a.disc.now a.area.now l) n c.put_list.ensures.bytes)
