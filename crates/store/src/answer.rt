@@ -9,7 +9,7 @@ pub fn number(answer: Answer) -> i32
     ensures { result ≡ answer_number answer }
 {
     match answer {
-        Ok(n) => n as i32,
+        Ok(n) => i32::from(n),
         Err(refusal) => -(refusal as i32),
     }
 }
