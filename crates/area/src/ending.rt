@@ -6,10 +6,30 @@ ghost use Rattle.machine.specs.Fault.{fault_byte};
 
 use crate::records::{NO_LOOP, RUNNING};
 use disc::Entry;
+use disc::layout::NAME_SIZE;
 use machine::fault::Fault;
 use machine::limits::STACK_SIZE;
 use machine::{OpenFile, Process};
 use place::Run;
+
+// A record of zeros.
+const NO_PROCESS: Process = Process {
+    name: [0; NAME_SIZE],
+    id: 0,
+    state: 0,
+    fault: 0,
+    code: Run { start: 0, len: 0 },
+    pc: 0,
+    loopstart: 0,
+    file: OpenFile {
+        start: 0,
+        len: 0,
+        offset: 0,
+    },
+    sp: 0,
+    share: 0,
+    stack: [0; STACK_SIZE],
+};
 
 // Document 01: "Its record keeps name, ID and fault (0 unless a fault) and is otherwise zero."
 pub fn ended_process(p: Process, fault: Option<Fault>) -> Process
@@ -17,21 +37,10 @@ pub fn ended_process(p: Process, fault: Option<Fault>) -> Process
 {
     let name = p.name;
     Process {
-        name: name,
+        name,
         id: p.id,
-        state: 0,
         fault: fault.map_or(0, Fault::number),
-        code: Run { start: 0, len: 0 },
-        pc: 0,
-        loopstart: 0,
-        file: OpenFile {
-            start: 0,
-            len: 0,
-            offset: 0,
-        },
-        sp: 0,
-        share: 0,
-        stack: [0u8; STACK_SIZE],
+        ..NO_PROCESS
     }
 }
 
@@ -41,23 +50,14 @@ pub fn started_process(e: Entry, id: u16) -> Process
 {
     let name = e.name;
     Process {
-        name: name,
-        id: id,
+        name,
+        id,
         state: RUNNING,
-        fault: 0,
         code: Run {
             start: e.start,
             len: e.len,
         },
-        pc: 0,
         loopstart: NO_LOOP,
-        file: OpenFile {
-            start: 0,
-            len: 0,
-            offset: 0,
-        },
-        sp: 0,
-        share: 0,
-        stack: [0u8; STACK_SIZE],
+        ..NO_PROCESS
     }
 }

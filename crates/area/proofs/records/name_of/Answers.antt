@@ -1,11 +1,5 @@
--- The bytes spelled are the first twelve.
-use native.Mathlib.Omega.{arith}
-use Rattle.buffer.specs.Lists.{tab}
-use Rattle.buffer.proofs.Words.{spelled}
-use Rattle.disc.specs.Layout.{name_size}
+-- The name stands first.
 use Rattle.area.proofs.records.name_of.Goals as goal
 
 pub returns : goal.returns
-unfolding tab
-returns c =
-    spelled c.args.bytes.now 0 name_size (omega arith)
+returns c = (rw c.unwrap.ensures at c.first_chunk.ensures.cases).same
