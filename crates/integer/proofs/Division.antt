@@ -1,29 +1,32 @@
--- Negation, the quotient cut toward zero and its remainder, over the width: where they fit and what they read. Assumes nothing.
-use Rattle.std.proofs.Common.{◌≡◌, ℕ, zero, suc, ◌-◌, ◌/◌, ◌^◌, ◌<◌, ◌≤◌, ℤ, pos, negsuc, ◌-ℤ◌, neg_ℤ, sym, refl, ap, ◌∙◌, mod-eq_of_lt}
-use Rattle.std.proofs.Common.{div-le_self, div-one, arith, pow_pos, to_z-of_z, SFits, to_z, of_z}
-use mathlib.Core.Path.{subst⁻¹}
-use native.Mathlib.Nat.{mod-one, div-lt_self}
-use lib.IntN.{+ℤ_idl}
+-- Negation, the quotient cut toward zero and its remainder, over the width: what the standard library's wrapping operations read.
+-- Assumes nothing.
+use Rattle.std.proofs.Common.{◌≡◌, ℕ, zero, suc, ◌-◌, ◌/◌, ◌%◌, ◌^◌, ◌<◌, ◌≤◌, ℤ, pos, negsuc, neg_ℤ, nat_abs, sym, refl, ap, ◌∙◌}
+use Rattle.std.proofs.Common.{lt_of_le_of_lt, mod-eq_of_lt, div-le_self, arith, to_z-of_z, SFits, to_z, of_z}
+use Rattle.std.specs.Int.{int_wrapping_div, int_wrapping_neg}
+use native.Mathlib.Nat.{mod_self, div-lt_self, zero-mod}
 use lib.Signed.{mag, quot_z, rem_z, mag_rem}
 use mir.Syntax.{Width}
 use mir.Val.{bits, hbits}
 use mir.ValLaws.{half_full, pow-bits, sfits_le}
 use Rattle.integer.specs.Modular.{residue, wrapped}
-use Rattle.integer.proofs.Modular.{wrapped_same, reads-wrapped, reads-fitting}
+use Rattle.integer.proofs.Modular.{size-of-fitting, reads-sized, reads-wrapped}
+
+pub size-negated : (z : ℤ) → nat_abs (neg_ℤ z) ≡ nat_abs z
+size-negated (pos zero) = refl
+size-negated (pos (suc n)) = refl
+size-negated (negsuc n) = refl
+
+pub size-of-quotient : (x y : ℤ) → nat_abs (quot_z x y) ≤ nat_abs x
+size-of-quotient (pos a) (pos b) = div-le_self a b
+size-of-quotient (pos a) (negsuc b) = omega (arith, size-negated (pos (a / suc b)), div-le_self a (suc b))
+size-of-quotient (negsuc a) (pos b) = omega (arith, size-negated (pos (suc a / b)), div-le_self (suc a) b)
+size-of-quotient (negsuc a) (negsuc b) = div-le_self (suc a) (suc b)
 
 mag-negated : (k : ℕ) → mag (neg_ℤ (pos k)) ≤ k - 1
 mag-negated zero = omega arith
 mag-negated (suc k) = omega arith
 
 module _ (w : Width) where
-  -- −1 is the one number whose bits are all ones
-  minus_one : (b : ℤ) → SFits w b → of_z w b ≡ 2 ^ bits w - 1 → b ≡ negsuc 0
-  minus_one (pos n) f e = absurd (too_large n f.sfits e)
-    where
-      too_large : (n : ℕ) → n < 2 ^ hbits w → n ≡ 2 ^ bits w - 1 → ⊥
-      too_large n h e = omega (arith, pow-bits w, pow_pos (hbits w))
-  minus_one (negsuc n) f e = ap negsuc (omega (arith, half_full w f.sfits))
-
   pub positive-bits : (b : ℤ) → SFits w b → (b ≡ pos 0 → ⊥) → 0 < of_z w b
   positive-bits (pos zero) f h = absurd (h refl)
   positive-bits (pos (suc n)) f h = omega arith
@@ -38,69 +41,35 @@ module _ (w : Width) where
   quotient_fits (negsuc a) (negsuc (suc b)) f h =
       omega (arith, div-lt_self {n = suc a} {k = suc (suc b)} (omega arith) (omega arith), f.sfits)
 
-  -- the least number is its own negative, modulo the width
-  least-negated : (a : ℤ) → SFits w a → of_z w a ≡ 2 ^ hbits w → residue (2 ^ bits w) (neg_ℤ a) ≡ of_z w a
-  least-negated (pos n) f e = absurd (too_large n f.sfits e)
-    where
-      too_large : (n : ℕ) → n < 2 ^ hbits w → n ≡ 2 ^ hbits w → ⊥
-      too_large n h e = omega arith
-  least-negated (negsuc n) f e = mod-eq_of_lt (omega (arith, f.sfits, pow-bits w)) ∙ omega (arith, f.sfits, pow-bits w)
-
-  negated_fits : (a : ℤ) → SFits w a → (of_z w a ≡ 2 ^ hbits w → ⊥) → mag (neg_ℤ a) < 2 ^ hbits w
-  negated_fits (pos zero) f h = pow_pos (hbits w)
-  negated_fits (pos (suc n)) f h = omega (arith, f.sfits)
-  negated_fits (negsuc n) f h = omega (arith, f.sfits, pow-bits w)
-
-quotient-by-minus-one : (a : ℤ) → quot_z a (negsuc 0) ≡ neg_ℤ a
-quotient-by-minus-one (pos n) = ap (λ (k : ℕ). neg_ℤ (pos k)) (div-one n)
-quotient-by-minus-one (negsuc n) = ap pos (div-one (suc n))
-
-remainder-by-minus-one : (a : ℤ) → rem_z a (negsuc 0) ≡ pos 0
-remainder-by-minus-one (pos n) = ap pos (mod-one n)
-remainder-by-minus-one (negsuc n) = ap (λ (k : ℕ). neg_ℤ (pos k)) (mod-one (suc n))
+  -- the bits of the negative: those of the least number are its own
+  negated-bits : (a : ℤ) → SFits w a → (2 ^ bits w - of_z w a) % 2 ^ bits w ≡ residue (2 ^ bits w) (neg_ℤ a)
+  negated-bits (pos zero) f = ap (λ (u : ℕ). u % 2 ^ bits w) (omega arith) ∙ mod_self (2 ^ bits w) ∙ sym (zero-mod (2 ^ bits w))
+  negated-bits (pos (suc n)) f =
+      let small : suc n < 2 ^ bits w = half_full w f.sfits in
+      let same : n % 2 ^ bits w ≡ n = mod-eq_of_lt (omega arith) in
+      mod-eq_of_lt (omega arith) ∙ ap (λ (u : ℕ). 2 ^ bits w - suc u) (sym same)
+  negated-bits (negsuc n) f =
+      let small : suc n < 2 ^ bits w = size-of-fitting w (negsuc n) f in
+      ap (λ (u : ℕ). u % 2 ^ bits w) (omega arith)
 
 module _ (w : Width) (a : ℤ) (fa : SFits w a) where
-  module _ (h : of_z w a ≡ 2 ^ hbits w → ⊥) where
-    difference : pos 0 -ℤ to_z w (of_z w a) ≡ neg_ℤ a
-    difference = ap (λ (y : ℤ). pos 0 -ℤ y) (to_z-of_z fa) ∙ +ℤ_idl (neg_ℤ a)
-
-    pub negate-fits : SFits w (pos 0 -ℤ to_z w (of_z w a))
-    negate-fits = subst⁻¹ (SFits w) difference (record { sfits = negated_fits w a fa h })
-
-    pub negate-reads : to_z w (of_z w (pos 0 -ℤ to_z w (of_z w a))) ≡ wrapped w (neg_ℤ a)
-    negate-reads = reads-fitting w (neg_ℤ a) (record { sfits = negated_fits w a fa h }) difference
-
-  pub negate-least : of_z w a ≡ 2 ^ hbits w → to_z w (of_z w a) ≡ wrapped w (neg_ℤ a)
-  unfolding wrapped
-  negate-least h = ap (to_z w) (sym (least-negated w a fa h))
-
-module _ (w : Width) (a b : ℤ) (fa : SFits w a) (fb : SFits w b) where
   -- an operation of the operands as the machine reads them
-  pub on-operands : {A : Type 0} (g : ℤ → ℤ → A) → g (to_z w (of_z w a)) (to_z w (of_z w b)) ≡ g a b
-  on-operands g = ap (λ (y : ℤ). g y (to_z w (of_z w b))) (to_z-of_z fa) ∙ ap (g a) (to_z-of_z fb)
+  pub on-operands : (b : ℤ) → SFits w b → {A : Type 0} (g : ℤ → ℤ → A) → g (to_z w (of_z w a)) (to_z w (of_z w b)) ≡ g a b
+  on-operands b fb g = ap (λ (y : ℤ). g y (to_z w (of_z w b))) (to_z-of_z fa) ∙ ap (g a) (to_z-of_z fb)
 
-  -- a divisor that is not −1, by its bits
-  module _ (h : of_z w b ≡ 2 ^ bits w - 1 → ⊥) where
-    fits : SFits w (quot_z a b)
-    fits = record { sfits = quotient_fits w a b fa (λ e. h (ap (of_z w) e)) }
+  pub negate-reads : {r : ℤ} → r ≡ int_wrapping_neg w (to_z w (of_z w a)) → to_z w (of_z w r) ≡ wrapped w (neg_ℤ a)
+  unfolding wrapped
+  negate-reads e = reads-wrapped w (neg_ℤ a) (e ∙ ap (int_wrapping_neg w) (to_z-of_z fa) ∙ ap (to_z w) (negated-bits w a fa))
 
-    pub divides : (b ≡ pos 0 → ⊥) → (0 < of_z w b) × SFits w (quot_z (to_z w (of_z w a)) (to_z w (of_z w b)))
-    divides z = (positive-bits w b fb z, subst⁻¹ (SFits w) (on-operands quot_z) fits)
-
-    pub quotient-reads : to_z w (of_z w (quot_z (to_z w (of_z w a)) (to_z w (of_z w b)))) ≡ wrapped w (quot_z a b)
-    quotient-reads = reads-fitting w (quot_z a b) fits (on-operands quot_z)
-
-    pub remainder-reads : to_z w (of_z w (rem_z (to_z w (of_z w a)) (to_z w (of_z w b)))) ≡ wrapped w (rem_z a b)
-    remainder-reads = reads-fitting w (rem_z a b) (sfits_le (mag_rem a b) fa) (on-operands rem_z)
-
-  module _ (h : of_z w b ≡ 2 ^ bits w - 1) where
-    pub quotient-negates : {r : ℤ} → r ≡ wrapped w (neg_ℤ (to_z w (of_z w a))) → to_z w (of_z w r) ≡ wrapped w (quot_z a b)
-    quotient-negates e =
+  -- by −1 too: the size of a quotient is no more than the dividend's
+  module _ (b : ℤ) (fb : SFits w b) where
+    pub quotient-reads : {r : ℤ} → r ≡ int_wrapping_div w (to_z w (of_z w a)) (to_z w (of_z w b)) → to_z w (of_z w r) ≡ wrapped w (quot_z a b)
+    quotient-reads e =
         reads-wrapped w (quot_z a b)
-        (e ∙ ap (λ (y : ℤ). wrapped w (neg_ℤ y)) (to_z-of_z fa)
-        ∙ ap (wrapped w) (sym (ap (quot_z a) (minus_one w b fb h) ∙ quotient-by-minus-one a)))
+        (e ∙ on-operands b fb (int_wrapping_div w)
+        ∙ reads-sized w (quot_z a b) (lt_of_le_of_lt (size-of-quotient a b) (size-of-fitting w a fa)))
 
-    pub remainder-vanishes : pos 0 ≡ wrapped w (rem_z a b)
-    remainder-vanishes =
-        sym (ap (wrapped w) (ap (rem_z a) (minus_one w b fb h) ∙ remainder-by-minus-one a)
-        ∙ wrapped_same w (pos 0) (record { sfits = pow_pos (hbits w) }))
+    pub remainder-reads : {r : ℤ} → r ≡ rem_z (to_z w (of_z w a)) (to_z w (of_z w b)) → to_z w (of_z w r) ≡ wrapped w (rem_z a b)
+    remainder-reads e =
+        ap (λ (z : ℤ). to_z w (of_z w z)) (e ∙ on-operands b fb rem_z)
+        ∙ reads-sized w (rem_z a b) (size-of-fitting w (rem_z a b) (sfits_le (mag_rem a b) fa))

@@ -1,6 +1,6 @@
 -- `residue m` carries sums, differences and products of whole numbers to those of the residues, for every m above 0; so the
 -- wrapping operations on the bits give the exact result, wrapped, at every width. Assumes nothing.
-use Rattle.std.proofs.Common.{◌≡◌, ℕ, zero, suc, ◌+◌, ◌-◌, ◌*◌, ◌/◌, ◌%◌, ◌^◌, ◌<◌, ℤ, pos, negsuc, ◌+ℤ◌, ◌-ℤ◌, ◌*ℤ◌, sym, ap, ◌∙◌, ⊎_elim}
+use Rattle.std.proofs.Common.{◌≡◌, ℕ, zero, suc, ◌+◌, ◌-◌, ◌*◌, ◌/◌, ◌%◌, ◌^◌, ◌<◌, ℤ, pos, negsuc, ◌+ℤ◌, ◌-ℤ◌, ◌*ℤ◌, sym, ap, ap₂, ◌∙◌, ⊎_elim, nat_abs}
 use Rattle.std.proofs.Common.{lt_of_le_of_lt, le_of_lt, mod-lt, mod-eq_of_lt, suc-mul, add-mul, eq-or-lt_of_le, mul-le-mul_left}
 use Rattle.std.proofs.Common.{mul-lt-mul_of_pos_right, mul_right_comm, arith, pow_pos, pow-add, to_z-of_z, Fits, SFits, to_z, of_z}
 use mathlib.Core.Path.{subst⁻¹}
@@ -8,9 +8,9 @@ use native.Mathlib.Nat.{mod_self, suc-mod, mod-add-mod, add-mod-mod, add-mod_rig
 use native.Mathlib.Nat.{add-mul-mod_self_right, zero-mod}
 use lib.IntN.{suc_ℤ, pred_ℤ, suc-pred, +ℤ-suc_ℤ, +ℤ_idr, zero-*ℤ, suc_ℤ-*ℤ, pred_ℤ-*ℤ, -ℤ-+ℤ_cancel}
 use mir.Syntax.{Width}
-use mir.Val.{bits}
-use mir.Facts.{of_z-to_z, Fits-lt-pow, Fits-of_z, sfits_to_z}
-use mir.ValLaws.{half_full}
+use mir.Val.{bits, hbits}
+use mir.Facts.{of_z-to_z, sfits_to_z}
+use mir.ValLaws.{half_full, pow-bits}
 use Rattle.integer.specs.Modular.{residue, wrapped}
 
 -- induction by successor and predecessor, the form of the laws of `lib.IntN`
@@ -70,15 +70,18 @@ module _ (m : ℕ) (h : 0 < m) where
       ∙ sym (ap (λ (u : ℕ). (residue m a + u) % m) residue-zero ∙ ap (λ (u : ℕ). u % m) (omega arith) ∙ mod-eq_of_lt (residue-lt a)))
       (λ z e. add-suc a z e) (λ z e. add-pred a z e) b
 
+  back : (x : ℕ) → x < m → (b : ℤ) → x ≡ ((x + residue m b) % m + (m - residue m b)) % m
+  back x p b = sym (mod-add-mod (x + residue m b) m (m - residue m b) ∙ ap (λ (u : ℕ). u % m) (omega (arith, residue-lt b))
+      ∙ add-mod_right x m ∙ mod-eq_of_lt p)
+
+  residue-difference : (a b : ℤ) → residue m (a -ℤ b) ≡ (residue m a + (m - residue m b)) % m
+  residue-difference a b =
+      back (residue m (a -ℤ b)) (residue-lt (a -ℤ b)) b
+      ∙ ap (λ (u : ℕ). (u + (m - residue m b)) % m) (sym (residue-add (a -ℤ b) b) ∙ ap (residue m) (-ℤ-+ℤ_cancel a b))
+
   -- the one residue that b's, added to it, makes a's
   pub residue-sub : (a b : ℤ) (r : ℕ) → r < m → (r + residue m b) % m ≡ residue m a → r ≡ residue m (a -ℤ b)
-  residue-sub a b r k e =
-      back r k ∙ ap (λ (u : ℕ). (u + (m - residue m b)) % m) (e ∙ ap (residue m) (sym (-ℤ-+ℤ_cancel a b)) ∙ residue-add (a -ℤ b) b)
-      ∙ sym (back (residue m (a -ℤ b)) (residue-lt (a -ℤ b)))
-    where
-      back : (x : ℕ) → x < m → x ≡ ((x + residue m b) % m + (m - residue m b)) % m
-      back x p = sym (mod-add-mod (x + residue m b) m (m - residue m b) ∙ ap (λ (u : ℕ). u % m) (omega (arith, residue-lt b))
-          ∙ add-mod_right x m ∙ mod-eq_of_lt p)
+  residue-sub a b r k e = back r k b ∙ ap (λ (u : ℕ). (u + (m - residue m b)) % m) e ∙ sym (residue-difference a b)
 
   mod-mul : (x y : ℕ) → x % m * y % m ≡ x * y % m
   mod-mul x y = sym (add-mul-mod_self_right (x % m * y) (x / m * y) m)
@@ -118,10 +121,17 @@ product-below k {a} {b} ha hb =
     (lt_of_le_of_lt (mul-le-mul_left a (le_of_lt hb)) (mul-lt-mul_of_pos_right ha (pow_pos k)))
 
 module _ (w : Width) where
-  -- the bits of a number that fits are its residue
+  -- the bits of a number are its residue, where its size is below 2 ^ bits w, and so where it fits
+  sized-bits : (z : ℤ) → nat_abs z < 2 ^ bits w → residue (2 ^ bits w) z ≡ of_z w z
+  sized-bits (pos n) h = mod-eq_of_lt h
+  sized-bits (negsuc n) h = ap (λ (u : ℕ). 2 ^ bits w - suc u) (mod-eq_of_lt (omega arith))
+
+  pub size-of-fitting : (z : ℤ) → SFits w z → nat_abs z < 2 ^ bits w
+  size-of-fitting (pos n) f = half_full w f.sfits
+  size-of-fitting (negsuc n) f = omega (arith, f.sfits, pow-bits w, pow_pos (hbits w))
+
   pub residue-bits : (z : ℤ) → SFits w z → residue (2 ^ bits w) z ≡ of_z w z
-  residue-bits (pos n) f = mod-eq_of_lt (Fits-lt-pow (Fits-of_z f))
-  residue-bits (negsuc n) f = ap (λ (u : ℕ). 2 ^ bits w - suc u) (mod-eq_of_lt (half_full w f.sfits))
+  residue-bits z f = sized-bits z (size-of-fitting z f)
 
   pub residue-read : {n : ℕ} → Fits w n → residue (2 ^ bits w) (to_z w n) ≡ n
   residue-read f = residue-bits (to_z w _) (sfits_to_z f) ∙ of_z-to_z f
@@ -142,34 +152,25 @@ module _ (w : Width) where
   pub reads-wrapped : {r : ℤ} (z : ℤ) → r ≡ wrapped w z → to_z w (of_z w r) ≡ wrapped w z
   reads-wrapped z e = ap (λ (y : ℤ). to_z w (of_z w y)) e ∙ to_z-of_z (wrapped-fits z)
 
-  pub reads-fitting : {r : ℤ} (z : ℤ) → SFits w z → r ≡ z → to_z w (of_z w r) ≡ wrapped w z
-  reads-fitting z f e = reads-wrapped z (e ∙ sym (wrapped_same z f))
+  -- a result that is kept by its bits alone
+  pub reads-sized : (z : ℤ) → nat_abs z < 2 ^ bits w → to_z w (of_z w z) ≡ wrapped w z
+  unfolding wrapped
+  reads-sized z h = ap (to_z w) (sym (sized-bits z h))
 
--- the three wrapping operations: x and y are the bits of a and b as the calls give them, q the bits of the result, r its reading
+-- the wrapping operations of the standard library, on the bits of a and b
 module _ (w : Width) (a b : ℤ) (fa : SFits w a) (fb : SFits w b) where
   -- g on the bits is g on the residues
-  on-bits : (g : ℕ → ℕ → ℕ) {x y : ℕ} → x ≡ of_z w (to_z w (of_z w a)) → y ≡ of_z w (to_z w (of_z w b))
-      → g x y ≡ g (residue (2 ^ bits w) a) (residue (2 ^ bits w) b)
-  on-bits g {x} {y} ex ey =
-      ap (λ (n : ℕ). g n y) (ex ∙ ap (of_z w) (to_z-of_z fa) ∙ sym (residue-bits w a fa))
-      ∙ ap (λ (n : ℕ). g (residue (2 ^ bits w) a) n) (ey ∙ ap (of_z w) (to_z-of_z fb) ∙ sym (residue-bits w b fb))
+  on-bits : (g : ℕ → ℕ → ℕ) → g (of_z w a) (of_z w b) ≡ g (residue (2 ^ bits w) a) (residue (2 ^ bits w) b)
+  on-bits g = ap₂ g (sym (residue-bits w a fa)) (sym (residue-bits w b fb))
 
-  module _ {x y : ℕ} (q : ℕ) {r : ℤ} (ex : x ≡ of_z w (to_z w (of_z w a))) (ey : y ≡ of_z w (to_z w (of_z w b))) (er : r ≡ to_z w q) where
-    pub add_wraps : q ≡ (x + y) % 2 ^ bits w → to_z w (of_z w r) ≡ wrapped w (a +ℤ b)
-    unfolding wrapped
-    add_wraps e =
-        reads-wrapped w (a +ℤ b)
-        (er ∙ ap (to_z w) (e ∙ on-bits (λ (m n : ℕ). (m + n) % 2 ^ bits w) ex ey ∙ sym (residue-add (2 ^ bits w) (pow_pos (bits w)) a b)))
+  pub add_wraps : to_z w ((of_z w a + of_z w b) % 2 ^ bits w) ≡ wrapped w (a +ℤ b)
+  unfolding wrapped
+  add_wraps = ap (to_z w) (on-bits (λ (m n : ℕ). (m + n) % 2 ^ bits w) ∙ sym (residue-add (2 ^ bits w) (pow_pos (bits w)) a b))
 
-    pub multiply-wraps : q ≡ x * y % 2 ^ bits w → to_z w (of_z w r) ≡ wrapped w (a *ℤ b)
-    unfolding wrapped
-    multiply-wraps e =
-        reads-wrapped w (a *ℤ b)
-        (er ∙ ap (to_z w) (e ∙ on-bits (λ (m n : ℕ). m * n % 2 ^ bits w) ex ey ∙ sym (residue-mul (2 ^ bits w) (pow_pos (bits w)) a b)))
+  pub multiply-wraps : to_z w (of_z w a * of_z w b % 2 ^ bits w) ≡ wrapped w (a *ℤ b)
+  unfolding wrapped
+  multiply-wraps = ap (to_z w) (on-bits (λ (m n : ℕ). m * n % 2 ^ bits w) ∙ sym (residue-mul (2 ^ bits w) (pow_pos (bits w)) a b))
 
-    pub subtract-wraps : q < 2 ^ bits w → (q + y) % 2 ^ bits w ≡ x → to_z w (of_z w r) ≡ wrapped w (a -ℤ b)
-    unfolding wrapped
-    subtract-wraps k e =
-        reads-wrapped w (a -ℤ b)
-        (er ∙ ap (to_z w) (residue-sub (2 ^ bits w) (pow_pos (bits w)) a b q k
-        (sym (on-bits (λ (m n : ℕ). (q + n) % 2 ^ bits w) ex ey) ∙ e ∙ on-bits (λ (m n : ℕ). m) ex ey)))
+  pub subtract-wraps : to_z w ((of_z w a + (2 ^ bits w - of_z w b)) % 2 ^ bits w) ≡ wrapped w (a -ℤ b)
+  unfolding wrapped
+  subtract-wraps = ap (to_z w) (on-bits (λ (m n : ℕ). (m + (2 ^ bits w - n)) % 2 ^ bits w) ∙ sym (residue-difference (2 ^ bits w) (pow_pos (bits w)) a b))

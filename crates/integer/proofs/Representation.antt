@@ -1,4 +1,4 @@
--- The two's complement of a signed number and back, over the width: what `signed8`, `signed16`, `bits8` and `bits16` ask.
+-- The two's complement of a signed number and back, over the width: what `from_bits` and `bits` ask.
 -- A signed argument stands in a function's needs as `to_z w (of_z w z)`, the reading of its bits. Assumes nothing.
 use Rattle.std.proofs.Common.{◌≡◌, ℕ, suc, ◌+◌, ◌-◌, ◌*◌, ◌/◌, ◌%◌, ◌^◌, ◌<◌, ◌≤◌, Bool, true, false, T, ltb, leb, ℤ, pos, negsuc, ◌+ℤ◌}
 use Rattle.std.proofs.Common.{◌*ℤ◌, neg_ℤ, nat_abs, sym, refl, ap, ◌∙◌, subst, ap₂, add-zero, mod-eq_of_lt, mul-zero, mul-one, arith}

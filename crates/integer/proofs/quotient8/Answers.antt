@@ -1,7 +1,0 @@
--- The laws of Division on the quotient at 8 bits.
-use Rattle.std.proofs.Common.{w8}
-use Rattle.integer.proofs.Division.{quotient-reads}
-use Rattle.integer.proofs.quotient8.Goals as goal
-
-pub returns-else-b-eqminus1 : goal.returns-else-b-eqminus1
-returns-else-b-eqminus1 c = quotient-reads w8 c.args.a c.args.b c.ranges.a c.ranges.b c.if-b-eqminus1.false
