@@ -3,5 +3,4 @@ pub mod Ahead
 pub mod Encoding
 pub mod Operands
 pub mod Signs
-pub mod Sizes
 pub mod Texts

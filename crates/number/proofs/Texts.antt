@@ -1,17 +1,14 @@
 -- Texts laid one behind the other, and how long they are. Assumes nothing.
-use Rattle.std.proofs.Common.{◌≡◌, ℕ, suc, ◌+◌, ◌/◌, ◌≤◌, Bool, true, false, List, [], ◌∷◌, ◌++◌, length, drop, ℤ, pos, negsuc, nat_abs}
-use Rattle.std.proofs.Common.{sym, ap, ◌∙◌, ap₂, append_assoc, append-nil, add_assoc, arith, length-append, drop-drop, to_z-of_z, SFits}
-use Rattle.std.proofs.Common.{to_z, of_z, le-ltb}
+use Rattle.std.proofs.Common.{◌≡◌, ℕ, suc, ◌+◌, ◌/◌, ◌≤◌, Bool, true, false, List, [], ◌∷◌, ◌++◌, length, drop, pos, negsuc}
+use Rattle.std.proofs.Common.{sym, ap, ◌∙◌, ap₂, append_assoc, add_assoc, arith, length-append, drop-drop}
 use lib.Seq.{take-append_seam, drop-append-add}
-use lib.Signed.{lt_z}
-use mir.Syntax.{Width}
 use Rattle.buffer.specs.Buffer.{overwrite}
 use Rattle.decimal.specs.Decimal.{decimal, max_digits}
 use Rattle.decimal.proofs.Laws.{digits-few}
 use Rattle.float.specs.Print.{printed_of}
 use Rattle.float.specs.declared.print.Printed.{Printed}
 use Rattle.float.specs.declared.print.Printed.TheVariants.{NotANumber, Infinite, Overflow, Hundredths}
-use Rattle.number.specs.Text.{sign, whole_text, decimals, printed_text, text_of, zeros, laid}
+use Rattle.number.specs.Text.{sign, decimals, printed_text, text_of, zeros, laid}
 use Rattle.number.specs.declared.Number.{Number}
 use Rattle.number.specs.declared.Number.TheVariants.{Char, Int, Float}
 use Rattle.number.specs.declared.text.Text.{Text}
@@ -51,18 +48,6 @@ module _ (h b t : List ℕ) {x y z : List ℕ} (ex : x ≡ overwrite zeros 0 h) 
 
 pub decimal-short : (n : ℕ) → length (decimal n) ≤ max_digits
 decimal-short n = digits-few max_digits n
-
--- the text of a whole number from its sign and its size
-whole-text : (x : ℤ) → sign (lt_z x (pos 0)) ++ (decimal (nat_abs x) ++ []) ≡ whole_text x
-whole-text (pos n) = ap₂ (λ (s : Bool) (l : List ℕ). sign s ++ l) (le-ltb n 0 (omega arith)) (append-nil (decimal n))
-whole-text (negsuc n) = ap (λ (l : List ℕ). 45 ∷ l) (append-nil (decimal (suc n)))
-
--- the same as the machine reads x, m its size as a call gives it
-pub whole-text-laid : (w : Width) (x : ℤ) → SFits w x → (m : ℕ) → m ≡ nat_abs (to_z w (of_z w x))
-    → laid (sign (lt_z (to_z w (of_z w x)) (pos 0)) ++ (decimal m ++ [])) ≡ laid (whole_text x)
-whole-text-laid w x f m e =
-    ap (λ (n : ℕ). laid (sign (lt_z (to_z w (of_z w x)) (pos 0)) ++ (decimal n ++ []))) e
-    ∙ ap (λ (z : ℤ). laid (sign (lt_z z (pos 0)) ++ (decimal (nat_abs z) ++ []))) (to_z-of_z f) ∙ ap laid (whole-text x)
 
 -- the longest text is that of -4294967040.00
 sign-short : (s : Bool) (l : List ℕ) → length (sign s ++ l) ≤ 1 + length l

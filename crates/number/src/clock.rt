@@ -3,6 +3,7 @@ ghost use Rattle.std.specs.Prelude.{◌≡◌};
 ghost use Rattle.number.specs.Clock.{ahead_by, whole_is_ahead, is_ahead};
 
 use crate::Number;
+use integer::Whole;
 
 // Document 02, Q-4: "1 to 32,767"
 const MAX_AHEAD: u16 = 32767;
@@ -11,9 +12,8 @@ const MAX_AHEAD: u16 = 32767;
 fn ahead_by(x: i16, clock: u32) -> u16
     ensures { result ≡ ahead_by x clock }
 {
-    let target = integer::bits16(x);
     let reading = (clock % 65536) as u16;
-    std::num::wrapping_sub_u16(target, reading)
+    x.bits().wrapping_sub(reading)
 }
 
 fn whole_is_ahead(x: i16, clock: u32) -> bool

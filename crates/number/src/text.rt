@@ -1,5 +1,5 @@
 // What PRINT writes of a number.
-ghost use Rattle.std.specs.Prelude.{◌≡◌, ◌+◌, ◌/◌, ◌<◌, ◌≤◌, ◌++◌, length, unsigned_abs};
+ghost use Rattle.std.specs.Prelude.{◌≡◌, ◌+◌, ◌/◌, ◌<◌, ◌≤◌, ◌++◌, length};
 ghost use Rattle.decimal.specs.Decimal.{decimal};
 ghost use Rattle.float.specs.Print.{printed_of};
 ghost use Rattle.number.specs.Text.{sign, decimals, whole_text, printed_text, text_of, laid};
@@ -7,6 +7,7 @@ ghost use Rattle.number.specs.Text.{sign, decimals, whole_text, printed_text, te
 use crate::Number;
 use buffer::bytes::overwrite_at;
 use float::print::{Printed, to_printed};
+use integer::Whole;
 
 // The first `len` bytes are the text, the others 0.
 #[derive(Clone, Copy)]
@@ -47,20 +48,10 @@ fn signed_decimal(negative: bool, n: u32, tail: &[u8]) -> Text
     signed(negative, decimal::digits_of(n).as_slice(), tail)
 }
 
-fn magnitude(x: i16) -> u32
-    ensures { result ≡ unsigned_abs x }
-{
-    if x < 0 {
-        65536 - integer::bits16(x) as u32
-    } else {
-        integer::bits16(x) as u32
-    }
-}
-
 fn int_text(x: i16) -> Text
     ensures { result ≡ laid (whole_text x) }
 {
-    signed_decimal(x < 0, magnitude(x), b"")
+    signed_decimal(x < 0, x.unsigned_abs() as u32, b"")
 }
 
 fn decimals_of(hundredths: u64) -> [u8; 3]
@@ -92,12 +83,13 @@ fn float_text(x: f32) -> Text
     }
 }
 
+#[tactic(auto, unfolding(crate::specs::Text::text_of))]
 pub fn write(a: Number) -> Text
     ensures { result ≡ laid (text_of a) }
 {
     match a {
         Number::Char(x) => {
-            let byte = [integer::bits8(x)];
+            let byte = [x.bits()];
             signed(false, &byte, b"")
         }
         Number::Int(x) => int_text(x),

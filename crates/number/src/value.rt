@@ -3,6 +3,7 @@ ghost use Rattle.std.specs.Prelude.{◌≡◌, [], ◌∷◌};
 ghost use Rattle.number.specs.Value.{encoded, number_of, is_zero};
 
 use crate::Number;
+use integer::Whole;
 
 // The first `kind` bytes are the value's, the others 0: the type byte is also the number of bytes.
 #[derive(Clone, Copy)]
@@ -11,12 +12,13 @@ pub struct Encoded {
     pub kind: u8,
 }
 
+#[tactic(auto, unfolding(crate::specs::Value::encoded))]
 pub fn encode(a: Number) -> Encoded
     ensures { result ≡ encoded a }
 {
     match a {
         Number::Char(x) => Encoded {
-            bytes: [integer::bits8(x), 0, 0, 0],
+            bytes: [x.bits(), 0, 0, 0],
             kind: 1,
         },
         Number::Int(x) => Encoded {
@@ -31,11 +33,12 @@ pub fn encode(a: Number) -> Encoded
 }
 
 // The number of the type `kind` whose bytes these are; a CHAR has only the first, an INT the first two.
+#[tactic(auto, unfolding(crate::specs::Value::number_of))]
 pub fn decode(kind: u8, a: u8, b: u8, c: u8, d: u8) -> Number
     ensures { result ≡ number_of kind (a ∷ b ∷ c ∷ d ∷ []) }
 {
     if kind == 1 {
-        Number::Char(integer::signed8(a))
+        Number::Char(i8::from_bits(a))
     } else if kind == 2 {
         Number::Int(integer::from_bytes(a, b))
     } else {
