@@ -2,15 +2,24 @@
 // and division that cuts toward zero.
 #![tactic(auto)]
 
-ghost use Rattle.std.specs.Prelude.{◌≡◌, ℕ, ℤ, ◌+◌, ◌*◌, ◌/◌, ◌%◌, pos, ◌+ℤ◌, ◌-ℤ◌, ◌*ℤ◌, neg_ℤ, ◌≢◌, int_div, int_rem};
+ghost use Rattle.std.specs.Prelude.{◌≡◌, ◌≢◌, ℕ, ◌+◌, ◌*◌, ◌/◌, ◌%◌, ℤ, pos, ◌+ℤ◌, ◌-ℤ◌, ◌*ℤ◌, neg_ℤ};
+ghost use Rattle.std.specs.Prelude.{int_div, int_rem, FitsSigned};
+ghost use Rattle.std.specs.Bool.{Decides};
+ghost use Rattle.std.specs.Int.Bits.{bit_and, bit_or, bit_xor};
 ghost use Rattle.std.specs.Int.{Width, w8, w16};
 ghost use Rattle.std.proofs.Common.{to_z, of_z};
+ghost use mir.Facts.{sfits_lit};
 ghost use Rattle.integer.specs.Modular.{wrapped};
 
 // A whole number of `width` bits: i8 is CHAR's, i16 is INT's. Each contract gives the definition of specs/Modular.antt,
 // or the library's, at that width.
 pub trait Whole: Copy {
     type Bits;
+
+    // The greatest number.
+    const MAX: u16;
+
+    ghost MAX: { ℕ };
 
     ghost width: { Width };
 
@@ -26,6 +35,26 @@ pub trait Whole: Copy {
     // The two's complement: the number modulo 256 or 65,536, after a sum that is never negative.
     fn bits(self) -> Self::Bits
         ensures { natural result ≡ of_z width (value self) };
+
+    fn exact(self) -> i64
+        ensures value { result ≡ value self }
+        ensures bound { FitsSigned width result };
+
+    final fn is_zero(self) -> bool
+        ensures { Decides result (value self ≡ pos 0) }
+    {
+        self.exact() == 0
+    }
+
+    // The three bitwise operators, on the two's complement.
+    fn and(self, other: Self) -> Self
+        ensures { value result ≡ to_z width (bit_and (of_z width (value self)) (of_z width (value other))) };
+
+    fn or(self, other: Self) -> Self
+        ensures { value result ≡ to_z width (bit_or (of_z width (value self)) (of_z width (value other))) };
+
+    fn xor(self, other: Self) -> Self
+        ensures { value result ≡ to_z width (bit_xor (of_z width (value self)) (of_z width (value other))) };
 
     // Document 01: "the exact whole result is kept modulo 65,536, or 256 for CHAR".
     fn add(self, other: Self) -> Self
@@ -54,10 +83,16 @@ pub trait Whole: Copy {
     // An exact result of up to 64 bits, kept modulo 256 or 65,536: its remainder lies above −256 or −65,536.
     fn reduce(z: i64) -> Self
         ensures { value result ≡ wrapped width z };
+
+    ghost max_fits: { FitsSigned width (pos MAX) };
 }
 
 impl Whole for i8 {
     type Bits = u8;
+
+    const MAX: u16 = 127;
+
+    ghost MAX = { 127 };
 
     ghost width = { w8 };
 
@@ -71,6 +106,22 @@ impl Whole for i8 {
 
     fn bits(self) -> u8 {
         ((self as i16 + 256) as u16 % 256) as u8
+    }
+
+    fn exact(self) -> i64 {
+        self as i64
+    }
+
+    fn and(self, other: i8) -> i8 {
+        self & other
+    }
+
+    fn or(self, other: i8) -> i8 {
+        self | other
+    }
+
+    fn xor(self, other: i8) -> i8 {
+        self ^ other
     }
 
     fn add(self, other: i8) -> i8 {
@@ -100,10 +151,16 @@ impl Whole for i8 {
     fn reduce(z: i64) -> i8 {
         i8::from_bits(((z % 256 + 256) as u64 % 256) as u8)
     }
+
+    ghost max_fits = { sfits_lit tt };
 }
 
 impl Whole for i16 {
     type Bits = u16;
+
+    const MAX: u16 = 32767;
+
+    ghost MAX = { 32767 };
 
     ghost width = { w16 };
 
@@ -117,6 +174,22 @@ impl Whole for i16 {
 
     fn bits(self) -> u16 {
         ((self as i32 + 65536) as u32 % 65536) as u16
+    }
+
+    fn exact(self) -> i64 {
+        self as i64
+    }
+
+    fn and(self, other: i16) -> i16 {
+        self & other
+    }
+
+    fn or(self, other: i16) -> i16 {
+        self | other
+    }
+
+    fn xor(self, other: i16) -> i16 {
+        self ^ other
     }
 
     fn add(self, other: i16) -> i16 {
@@ -146,6 +219,8 @@ impl Whole for i16 {
     fn reduce(z: i64) -> i16 {
         i16::from_bits(((z % 65536 + 65536) as u64 % 65536) as u16)
     }
+
+    ghost max_fits = { sfits_lit tt };
 }
 
 // Document 01: "A value lies as its bytes, high byte first".

@@ -8,8 +8,9 @@ use Rattle.number.specs.Text.{text_of}
 use Rattle.operator.specs.Unary.{unary}
 use Rattle.number.specs.Value.{number_of, type_of, value_bytes}
 use Rattle.number.specs.declared.Number.{Number}
-use Rattle.operator.specs.declared.Outcome.{Outcome}
-use Rattle.operator.specs.declared.Outcome.TheVariants.{Value, DivisionByZero, OutOfRange}
+use Rattle.operator.specs.Outcome.{Outcome}
+use Rattle.std.specs.Prelude.{Ok, Err}
+use Rattle.operator.specs.declared.ArithmeticError.TheVariants.{DivisionByZero, OutOfRange}
 use Rattle.operator.specs.declared.operators.Operator.{Operator}
 use Rattle.operator.specs.declared.operators.Operator.TheVariants.{OfOne, OfTwo, Scale, NotAnOperator}
 use Rattle.operator.specs.declared.operators.Scaling.TheVariants.{Constrain, Map, Power}
@@ -70,9 +71,9 @@ with_number (cannot fault) next = faults fault
 
 -- ---- operators
 abbrev pub with_outcome : Outcome → (Number → Effect) → Effect
-with_outcome (Value a) next = next a
-with_outcome DivisionByZero next = faults (fault_of DivisionByZero)
-with_outcome OutOfRange next = faults (fault_of OutOfRange)
+with_outcome (Ok a) next = next a
+with_outcome (Err DivisionByZero) next = faults (fault_of (Err DivisionByZero))
+with_outcome (Err OutOfRange) next = faults (fault_of (Err OutOfRange))
 
 -- the operand at a place, 0 that of the operand pushed first: which types it takes goes by operator and place
 abbrev pub with_operand : Operator → ℕ → List ℕ → (Number → List ℕ → Effect) → Effect
@@ -91,7 +92,7 @@ operates (Scale Constrain) stack next =
     with_operand (Scale Constrain) 2 stack λ b rest.
     with_operand (Scale Constrain) 1 rest λ a rest.
     with_operand (Scale Constrain) 0 rest λ x rest.
-    with_outcome (Value (constrained x a b)) λ z. next (push rest (type_of z) (value_bytes z))
+    with_outcome (Ok (constrained x a b)) λ z. next (push rest (type_of z) (value_bytes z))
 operates (Scale Map) stack next =
     with_operand (Scale Map) 4 stack λ e rest.
     with_operand (Scale Map) 3 rest λ d rest.

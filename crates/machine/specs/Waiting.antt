@@ -5,7 +5,7 @@ use Rattle.number.specs.Value.{number_of}
 use Rattle.number.specs.declared.Number.{Number}
 use Rattle.number.specs.declared.Number.TheVariants.{Int}
 use Rattle.operator.specs.Binary.{binary}
-use Rattle.operator.specs.declared.Outcome.TheVariants.{Value}
+use Rattle.std.specs.Prelude.{Ok}
 use Rattle.operator.specs.declared.instruction.Types.TheVariants.{CharOrInt}
 use Rattle.operator.specs.declared.operators.Arithmetic.TheVariants.{Plus}
 use Rattle.operator.specs.declared.operators.Binary.TheVariants.{Arithmetic}
@@ -35,7 +35,7 @@ module _ (x : Number) (clock : ℕ) where
 -- at their end, and in the 32,768 milliseconds after it.
 pub record Waits (time d : ℕ) : Type 0 where
   pub x : Number
-  pub sum : binary (Arithmetic Plus) (number_of 2 (clock_bytes (reading time))) (Int (pos d)) ≡ Value x
+  pub sum : binary (Arithmetic Plus) (number_of 2 (clock_bytes (reading time))) (Int (pos d)) ≡ Ok x
   pub stays : (e : ℕ) → e < d → Stays x (reading (time + e))
   pub over : (e : ℕ) → e ≤ max_ahead + 1 → GoesOn x (reading (time + d + e))
 

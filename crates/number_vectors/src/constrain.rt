@@ -2,7 +2,6 @@
 use crate::operands::{CHAR, Grid, OPERANDS, kind_at, kind_by, operand_at, whole};
 use crate::tally::{Tally, count, empty, write_field, write_tally};
 use number::Number;
-use operator::Outcome;
 use scaling::constrain::constrain;
 use std::io;
 
@@ -15,7 +14,7 @@ fn over_chars() -> Tally {
         let x = whole(CHAR, n / 65536);
         let a = whole(CHAR, n / 256);
         let b = whole(CHAR, n);
-        t = count(t, Outcome::Value(constrain(x, a, b)));
+        t = count(t, Ok(constrain(x, a, b)));
     }
     t
 }
@@ -24,7 +23,7 @@ fn over_thirds(start: Tally, x: Number, a: Number, third: u8, grid: &Grid) -> Ta
     let mut t = start;
     for i in 0..OPERANDS {
         if kind_at(grid, i) == third {
-            t = count(t, Outcome::Value(constrain(x, a, operand_at(grid, i))));
+            t = count(t, Ok(constrain(x, a, operand_at(grid, i))));
         }
     }
     t

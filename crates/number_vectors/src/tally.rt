@@ -1,7 +1,7 @@
 // A checksum over outcomes, with the number of faults.
 use number::Number;
 use number::value::encode;
-use operator::Outcome;
+use operator::{ArithmeticError, Outcome};
 use std::io;
 
 // The greatest prime below 2^32.
@@ -37,17 +37,17 @@ fn checksum_value(sum: u32, a: Number) -> u32 {
 
 pub fn count(t: Tally, outcome: Outcome) -> Tally {
     match outcome {
-        Outcome::Value(a) => Tally {
+        Ok(a) => Tally {
             sum: checksum_value(t.sum, a),
             sevens: t.sevens,
             eights: t.eights,
         },
-        Outcome::DivisionByZero => Tally {
+        Err(ArithmeticError::DivisionByZero) => Tally {
             sum: checksum(t.sum, 7),
             sevens: t.sevens.wrapping_add(1),
             eights: t.eights,
         },
-        Outcome::OutOfRange => Tally {
+        Err(ArithmeticError::OutOfRange) => Tally {
             sum: checksum(t.sum, 8),
             sevens: t.sevens,
             eights: t.eights.wrapping_add(1),

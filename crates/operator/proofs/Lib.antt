@@ -1,6 +1,5 @@
 -- The laws of crate operator, by topic.
 pub mod Calculating
-pub mod Magnitude
 pub mod OneOperand
 pub mod Table
 pub mod Zeros

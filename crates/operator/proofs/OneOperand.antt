@@ -1,37 +1,42 @@
 -- Negation, absolute value and whole root of CHAR and INT, and FLOATs converted to either: one law for both, over the width w, k the type.
 -- Assumes nothing.
-use Rattle.std.specs.Prelude.{None, Option, Some}
+use Rattle.std.specs.Prelude.{Option, Some}
 use mathlib.Core.Path.{◌≡◌, refl, sym, ◌∙◌, ap, subst, subst⁻¹}
 use mathlib.Core.Bool.{true, false}
-use Prim.Native.Nat.{ℕ, ◌*◌, ◌≤◌, ◌<◌, ◌^◌}
+use Prim.Native.Nat.{ℕ, ◌<◌, ◌^◌}
 use native.Mathlib.Nat.{le-mul_of_pos_right, lt_of_lt_of_le, lt_of_le_of_lt}
-use native.Mathlib.Omega.{arith}
-use lib.Ieee.{Float, nan, inf, fin, up, down}
+use lib.Ieee.{Float, nan, inf, fin}
 use lib.IntN.{ℤ, pos, negsuc, neg_ℤ, nat_abs}
 use lib.Pow.{pow_pos}
 use lib.Signed.{mag, lt_z}
-use mir.Syntax.{Width, w32}
+use mir.Syntax.{Width, w32, w64}
 use mir.Val.{to_z, of_z, SFits, hbits}
 use mir.Facts.{to_z-of_z, to_z_pos}
 use Rattle.integer.specs.Modular.{wrapped}
 use Rattle.integer.proofs.Modular.{reads-wrapped, wrapped_same}
-use Rattle.integer.proofs.Representation.{true-not-false}
+use Rattle.integer.proofs.Representation.{true-not-false, widened}
 use Rattle.root.specs.Root.{whole_root}
 use Rattle.root.proofs.Squares.{root_below, root_is}
-use Rattle.float.specs.Whole.{whole_of, whole_size, signed}
+use Rattle.float.specs.Whole.{whole_of}
 use Rattle.float.specs.declared.whole.Rounding.{Rounding}
-use Rattle.float.proofs.Ranges.{within-mag}
+use Rattle.float.proofs.Sizes.{whole-mag}
 use Rattle.number.specs.declared.Number.{Number}
 use Rattle.number.proofs.Signs.{not-negative, sign_read, size-negated, size_same}
 use Rattle.operator.specs.Conversion.{value_or}
-use Rattle.operator.specs.Unary.{whole_square_root}
-use Rattle.operator.specs.declared.Outcome.TheVariants.{Value, OutOfRange}
+use Rattle.std.specs.Float.{float_with_sign}
+use Rattle.operator.specs.Unary.{magnitude, whole_square_root}
+use Rattle.operator.specs.Outcome.{Outcome}
+use Rattle.std.specs.Prelude.{Ok, Err}
+use Rattle.operator.specs.declared.ArithmeticError.TheVariants.{OutOfRange}
 
-root-of-negative : (k : ℤ → Number) (x : ℤ) → lt_z x (pos 0) ≡ true → OutOfRange ≡ whole_square_root k x
+abbrev gives : Number → Outcome
+gives a = Ok a
+
+root-of-negative : (k : ℤ → Number) (x : ℤ) → lt_z x (pos 0) ≡ true → Err OutOfRange ≡ whole_square_root k x
 root-of-negative k (pos n) h = not-negative n h
 root-of-negative k (negsuc n) h = refl
 
-root-of-size : (k : ℤ → Number) (x : ℤ) → lt_z x (pos 0) ≡ false → Value (k (pos (whole_root (nat_abs x)))) ≡ whole_square_root k x
+root-of-size : (k : ℤ → Number) (x : ℤ) → lt_z x (pos 0) ≡ false → gives (k (pos (whole_root (nat_abs x)))) ≡ whole_square_root k x
 root-of-size k (pos n) h = refl
 root-of-size k (negsuc n) h = true-not-false refl h
 
@@ -45,47 +50,43 @@ module _ (w : Width) (k : ℤ → Number) (x : ℤ) (f : SFits w x) where
   pub absolute-same : lt_z (to_z w (of_z w x)) (pos 0) ≡ false → k x ≡ k (wrapped w (pos (nat_abs x)))
   absolute-same h = ap k (sym (wrapped_same w x f) ∙ ap (wrapped w) (size_same x (sign_read w x f h)))
 
-  pub root-negative : lt_z (to_z w (of_z w x)) (pos 0) ≡ true → OutOfRange ≡ whole_square_root k x
+  pub root-negative : lt_z (to_z w (of_z w x)) (pos 0) ≡ true → Err OutOfRange ≡ whole_square_root k x
   root-negative h = root-of-negative k x (sign_read w x f h)
 
-  -- n is the bits of x as a call gives them, r their root
-  module _ (h : lt_z (to_z w (of_z w x)) (pos 0) ≡ false) {n : ℕ} (r : ℕ) (en : n ≡ of_z w (to_z w (of_z w x)))
-      (er : r ≡ whole_root n) where
-    root-is-of : r ≡ whole_root (nat_abs x)
-    root-is-of = er ∙ ap whole_root (en ∙ ap (of_z w) (to_z-of_z f ∙ size_same x (sign_read w x f h)))
+-- z is the number in 64 bits, and r the root of its size
+module _ (w : Width) (z : ℤ) (f : SFits w z) (fz : SFits w64 z) (h : lt_z (to_z w64 (of_z w64 z)) (pos 0) ≡ false) {r : ℕ}
+    (er : r ≡ whole_root (nat_abs (to_z w64 (of_z w64 z)))) where
+  root-is-of : r ≡ whole_root (nat_abs z)
+  root-is-of = er ∙ ap (λ (y : ℤ). whole_root (nat_abs y)) (to_z-of_z fz)
 
-    below : r < 2 ^ hbits w
-    below =
-        subst⁻¹ (λ (m : ℕ). m < 2 ^ hbits w) root-is-of
-        (root_below (2 ^ hbits w) (root_is (nat_abs x)) (lt_of_lt_of_le size_below (le-mul_of_pos_right (2 ^ hbits w) (pow_pos (hbits w)))))
-      where
-        size_below : nat_abs x < 2 ^ hbits w
-        size_below = subst (λ (z : ℤ). mag z < 2 ^ hbits w) (size_same x (sign_read w x f h)) f.sfits
+  below : (v : Width) → SFits v z → r < 2 ^ hbits v
+  below v g =
+      subst⁻¹ (λ (m : ℕ). m < 2 ^ hbits v) root-is-of
+      (root_below (2 ^ hbits v) (root_is (nat_abs z)) (lt_of_lt_of_le size_below (le-mul_of_pos_right (2 ^ hbits v) (pow_pos (hbits v)))))
+    where
+      size_below : nat_abs z < 2 ^ hbits v
+      size_below = subst (λ (y : ℤ). mag y < 2 ^ hbits v) (size_same z (sign_read w64 z fz h)) g.sfits
 
-    pub root-fits : SFits w (pos r)
-    root-fits = record { sfits = below }
+  pub root-fits : SFits w64 (pos r)
+  root-fits = record { sfits = below w64 fz }
 
-    pub root-reads : Value (k (to_z w r)) ≡ whole_square_root k x
-    root-reads = ap (λ (z : ℤ). Value (k z)) (to_z_pos w below ∙ ap pos root-is-of) ∙ root-of-size k x (sign_read w x f h)
+  pub root-reads : (k : ℤ → Number) {n : ℤ} {a : Number} → n ≡ wrapped w (to_z w64 r) → a ≡ k n → gives a ≡ whole_square_root k z
+  root-reads k en ea =
+      ap gives (ea ∙ ap k (en ∙ ap (wrapped w) (to_z_pos w64 (below w64 fz)) ∙ wrapped_same w (pos r) (record { sfits = below w f }) ∙ ap pos root-is-of))
+      ∙ root-of-size k z (sign_read w64 z fz h)
 
--- a FLOAT as a whole number from −max − 1 to max
-within-range : (r : Rounding) (max : ℕ) (x : Float) {z : ℤ} → Some z ≡ whole_of r max x → mag z ≤ max
-unfolding whole_of
-within-range r max nan e = let clash : ◌≡◌ {A = ℕ} 0 1 = cc in omega arith
-within-range r max (inf s) e = let clash : ◌≡◌ {A = ℕ} 0 1 = cc in omega arith
-within-range r max (fin s m p) e = within-mag max (signed s (whole_size r s (m * up p) (down p))) e
+-- a FLOAT as a whole number from −max − 1 to max, in 32 bits and wrapped to w: it fits
+module _ (w : Width) {max : ℕ} (small : SFits w (pos max)) (r : Rounding) (x : Float) {o : Option ℤ} (eo : o ≡ whole_of r max x) where
+  pub narrowed : (k : ℤ → Number) (z : ℤ) → o ≡ Some z → SFits w32 z → {n : ℤ} {a : Number}
+      → n ≡ wrapped w (to_z w64 (of_z w64 (to_z w32 (of_z w32 z)))) → a ≡ k n → gives a ≡ value_or k (whole_of r max x)
+  narrowed k z ez f en ea =
+      ap gives (ea ∙ ap k (en ∙ ap (wrapped w) (widened w32 w64 tt z f)
+      ∙ wrapped_same w z (record { sfits = lt_of_le_of_lt (whole-mag r max x (sym ez ∙ eo)) small.sfits })))
+      ∙ ap (value_or k) (sym ez ∙ eo)
 
-module _ (w : Width) {max : ℕ} (small : max < 2 ^ hbits w) (r : Rounding) (x : Float) {o : Option ℤ} (eo : o ≡ whole_of r max x) where
-  module _ (z : ℤ) (ez : o ≡ Some z) (f : SFits w32 z) where
-    fits : SFits w z
-    fits = record { sfits = lt_of_le_of_lt (within-range r max x (sym ez ∙ eo)) small }
-
-    pub narrows : SFits w (to_z w32 (of_z w32 z))
-    narrows = subst⁻¹ (SFits w) (to_z-of_z f) fits
-
-    pub narrowed : (k : ℤ → Number) → Value (k (to_z w (of_z w (to_z w32 (of_z w32 z))))) ≡ value_or k (whole_of r max x)
-    narrowed k = ap (λ (y : ℤ). Value (k y)) (ap (λ (y : ℤ). to_z w (of_z w y)) (to_z-of_z f) ∙ to_z-of_z fits) ∙ ap (value_or k) (sym ez
-        ∙ eo)
-
-  pub beyond : o ≡ None → (k : ℤ → Number) → OutOfRange ≡ value_or k (whole_of r max x)
-  beyond e k = ap (value_or k) (sym e ∙ eo)
+-- the library's size of a FLOAT
+pub magnitude-is : (x : Float) → float_with_sign false x ≡ magnitude x
+unfolding float_with_sign magnitude
+magnitude-is nan = refl
+magnitude-is (inf s) = refl
+magnitude-is (fin s m e) = refl

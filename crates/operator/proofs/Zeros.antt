@@ -7,7 +7,7 @@ use Rattle.float.specs.Print.{printed_of}
 use Rattle.operator.specs.Binary.{binary, ordered_floats}
 use Rattle.number.specs.Text.{text_of}
 use Rattle.number.specs.declared.Number.TheVariants.{Float}
-use Rattle.operator.specs.declared.Outcome.TheVariants.{Value}
+use Rattle.std.specs.Prelude.{Ok}
 use Rattle.operator.specs.declared.operators.Binary.TheVariants.{Extremum}
 use Rattle.operator.specs.declared.operators.Extremum.TheVariants.{Min}
 
@@ -20,7 +20,7 @@ unfolding of_bits
 minus_zero = of_bits binary32 2147483648
 
 -- "MIN gives the operand pushed first unless the second is less": of 0 and −0 the first
-min-of-zeros : binary (Extremum Min) (Float zero) (Float minus_zero) ≡ Value (Float zero)
+min-of-zeros : binary (Extremum Min) (Float zero) (Float minus_zero) ≡ Ok (Float zero)
 unfolding binary ordered_floats lt zero minus_zero of_bits
 min-of-zeros = refl
 

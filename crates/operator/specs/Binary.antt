@@ -13,8 +13,9 @@ use Rattle.number.specs.Value.{is_zero}
 use Rattle.number.specs.Whole.{equal}
 use Rattle.number.specs.declared.Number.{Number}
 use Rattle.number.specs.declared.Number.TheVariants.{Char, Int}
-use Rattle.operator.specs.declared.Outcome.{Outcome}
-use Rattle.operator.specs.declared.Outcome.TheVariants.{Value, OutOfRange}
+use Rattle.operator.specs.Outcome.{Outcome}
+use Rattle.std.specs.Prelude.{Ok, Err}
+use Rattle.operator.specs.declared.ArithmeticError.TheVariants.{OutOfRange}
 use Rattle.operator.specs.declared.operators.Binary.{Binary}
 use Rattle.operator.specs.declared.operators.Binary.TheVariants.{Arithmetic, Comparison as Comparing, Logical}
 use Rattle.operator.specs.declared.operators.Binary.TheVariants.{Bitwise, Extremum as Choosing}
@@ -63,9 +64,9 @@ whole_bits w Xor x y = to_z w (bit_xor (of_z w x) (of_z w y))
 
 -- Document 01: "Bitwise and MODULUS refuse FLOAT": the pop refuses it first, so two FLOATs are never asked here.
 abbrev pub bitwise : Connective → Pair → Outcome
-bitwise o (Chars x y) = Value (Char (whole_bits w8 o x y))
-bitwise o (Ints x y) = Value (Int (whole_bits w16 o x y))
-bitwise o (Floats x y) = OutOfRange
+bitwise o (Chars x y) = Ok (Char (whole_bits w8 o x y))
+bitwise o (Ints x y) = Ok (Int (whole_bits w16 o x y))
+bitwise o (Floats x y) = Err OutOfRange
 
 -- Document 01: "MIN gives the operand pushed first unless the second is less, MAX unless it is greater."
 abbrev pub replaces : Extremum → Pair → Bool
@@ -81,4 +82,4 @@ binary (Arithmetic o) a b = arithmetic o (promoted a b)
 binary (Comparing o) a b = flag (compared o (promoted a b))
 binary (Logical o) a b = flag (connected o (not (is_zero a)) (not (is_zero b)))
 binary (Bitwise o) a b = bitwise o (promoted a b)
-binary (Choosing o) a b = Value (extremum o (promoted a b))
+binary (Choosing o) a b = Ok (extremum o (promoted a b))

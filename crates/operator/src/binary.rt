@@ -1,75 +1,50 @@
 // The operators of two operands. CHAR and INT share each definition and each law, with the width as parameter.
-ghost use Rattle.std.specs.Prelude.{◌≡◌};
-ghost use Rattle.std.specs.Int.{w8, w16};
+ghost use Rattle.std.specs.Prelude.{◌≡◌, ◌≢◌, pos, Ok, IfOk, IfErr};
 ghost use Rattle.operator.specs.Arithmetic.{whole, real, arithmetic};
 ghost use Rattle.operator.specs.Binary.{ordered, ordered_floats, compared, connected, whole_bits, bitwise};
 ghost use Rattle.operator.specs.Binary.{replaces, extremum, binary};
 ghost use Rattle.operator.specs.Outcome.{flag};
 
-use crate::Outcome;
 use crate::operators::{Arithmetic, Binary, Comparison, Connective, Extremum};
-use number::Number;
+use crate::{ArithmeticError, Outcome};
+use integer::Whole;
 use number::promotion::{Pair, first_of, promote, second_of};
 use number::value::is_zero;
+use number::{Number, WholeNumber};
 
 // The guide, appendix C: 1 where it holds, else 0, a CHAR.
 pub fn flagged(holds: bool) -> Outcome
     ensures { result ≡ flag holds }
 {
     if holds {
-        Outcome::Value(Number::Char(1))
+        Ok(Number::Char(1))
     } else {
-        Outcome::Value(Number::Char(0))
+        Ok(Number::Char(0))
+    }
+}
+
+// Document 01: "7 whole divisor zero".
+fn nonzero<T: Whole>(divisor: T) -> Result<T, ArithmeticError>
+    ensures ok { IfOk result (λ y. (y ≡ divisor) × (T.value divisor ≢ pos 0)) }
+    ensures err { IfErr result (λ e. (e ≡ ArithmeticError.DivisionByZero) × (T.value divisor ≡ pos 0)) }
+{
+    if divisor.is_zero() {
+        Err(ArithmeticError::DivisionByZero)
+    } else {
+        Ok(divisor)
     }
 }
 
 #[tactic(auto, unfolding(crate::specs::Arithmetic::whole))]
-fn calculate8(operator: Arithmetic, x: i8, y: i8) -> Outcome
-    ensures { result ≡ whole w8 Number.Char operator x y }
+fn calculate_wholes<T: WholeNumber>(operator: Arithmetic, x: T, y: T) -> Outcome
+    ensures { result ≡ whole T.width T.number operator (T.value x) (T.value y) }
 {
     match operator {
-        Arithmetic::Plus => Outcome::Value(Number::Char(integer::add8(x, y))),
-        Arithmetic::Minus => Outcome::Value(Number::Char(integer::subtract8(x, y))),
-        Arithmetic::Times => Outcome::Value(Number::Char(integer::multiply8(x, y))),
-        Arithmetic::DividedBy => {
-            if y == 0 {
-                Outcome::DivisionByZero
-            } else {
-                Outcome::Value(Number::Char(integer::quotient8(x, y)))
-            }
-        }
-        Arithmetic::Modulus => {
-            if y == 0 {
-                Outcome::DivisionByZero
-            } else {
-                Outcome::Value(Number::Char(integer::remainder8(x, y)))
-            }
-        }
-    }
-}
-
-#[tactic(auto, unfolding(crate::specs::Arithmetic::whole))]
-fn calculate16(operator: Arithmetic, x: i16, y: i16) -> Outcome
-    ensures { result ≡ whole w16 Number.Int operator x y }
-{
-    match operator {
-        Arithmetic::Plus => Outcome::Value(Number::Int(integer::add16(x, y))),
-        Arithmetic::Minus => Outcome::Value(Number::Int(integer::subtract16(x, y))),
-        Arithmetic::Times => Outcome::Value(Number::Int(integer::multiply16(x, y))),
-        Arithmetic::DividedBy => {
-            if y == 0 {
-                Outcome::DivisionByZero
-            } else {
-                Outcome::Value(Number::Int(integer::quotient16(x, y)))
-            }
-        }
-        Arithmetic::Modulus => {
-            if y == 0 {
-                Outcome::DivisionByZero
-            } else {
-                Outcome::Value(Number::Int(integer::remainder16(x, y)))
-            }
-        }
+        Arithmetic::Plus => Ok(x.add(y).number()),
+        Arithmetic::Minus => Ok(x.subtract(y).number()),
+        Arithmetic::Times => Ok(x.multiply(y).number()),
+        Arithmetic::DividedBy => Ok(x.quotient(nonzero(y)?).number()),
+        Arithmetic::Modulus => Ok(x.remainder(nonzero(y)?).number()),
     }
 }
 
@@ -78,11 +53,11 @@ fn calculate_floats(operator: Arithmetic, x: f32, y: f32) -> Outcome
     ensures { result ≡ real operator x y }
 {
     match operator {
-        Arithmetic::Plus => Outcome::Value(Number::Float(x + y)),
-        Arithmetic::Minus => Outcome::Value(Number::Float(x - y)),
-        Arithmetic::Times => Outcome::Value(Number::Float(x * y)),
-        Arithmetic::DividedBy => Outcome::Value(Number::Float(x / y)),
-        Arithmetic::Modulus => Outcome::OutOfRange,
+        Arithmetic::Plus => Ok(Number::Float(x + y)),
+        Arithmetic::Minus => Ok(Number::Float(x - y)),
+        Arithmetic::Times => Ok(Number::Float(x * y)),
+        Arithmetic::DividedBy => Ok(Number::Float(x / y)),
+        Arithmetic::Modulus => Err(ArithmeticError::OutOfRange),
     }
 }
 
@@ -90,8 +65,8 @@ fn calculate(operator: Arithmetic, pair: Pair) -> Outcome
     ensures { result ≡ arithmetic operator pair }
 {
     match pair {
-        Pair::Chars(x, y) => calculate8(operator, x, y),
-        Pair::Ints(x, y) => calculate16(operator, x, y),
+        Pair::Chars(x, y) => calculate_wholes(operator, x, y),
+        Pair::Ints(x, y) => calculate_wholes(operator, x, y),
         Pair::Floats(x, y) => calculate_floats(operator, x, y),
     }
 }
@@ -146,24 +121,13 @@ fn connect(operator: Connective, x: bool, y: bool) -> bool
 }
 
 #[tactic(auto, unfolding(crate::specs::Binary::whole_bits))]
-fn combine8(operator: Connective, x: i8, y: i8) -> i8
-    ensures { result ≡ whole_bits w8 operator x y }
+fn combine_wholes<T: WholeNumber>(operator: Connective, x: T, y: T) -> Outcome
+    ensures { result ≡ Ok (T.number (whole_bits T.width operator (T.value x) (T.value y))) }
 {
     match operator {
-        Connective::And => x & y,
-        Connective::Or => x | y,
-        Connective::Xor => x ^ y,
-    }
-}
-
-#[tactic(auto, unfolding(crate::specs::Binary::whole_bits))]
-fn combine16(operator: Connective, x: i16, y: i16) -> i16
-    ensures { result ≡ whole_bits w16 operator x y }
-{
-    match operator {
-        Connective::And => x & y,
-        Connective::Or => x | y,
-        Connective::Xor => x ^ y,
+        Connective::And => Ok(x.and(y).number()),
+        Connective::Or => Ok(x.or(y).number()),
+        Connective::Xor => Ok(x.xor(y).number()),
     }
 }
 
@@ -171,9 +135,9 @@ fn combine(operator: Connective, pair: Pair) -> Outcome
     ensures { result ≡ bitwise operator pair }
 {
     match pair {
-        Pair::Chars(x, y) => Outcome::Value(Number::Char(combine8(operator, x, y))),
-        Pair::Ints(x, y) => Outcome::Value(Number::Int(combine16(operator, x, y))),
-        Pair::Floats(_, _) => Outcome::OutOfRange,
+        Pair::Chars(x, y) => combine_wholes(operator, x, y),
+        Pair::Ints(x, y) => combine_wholes(operator, x, y),
+        Pair::Floats(_, _) => Err(ArithmeticError::OutOfRange),
     }
 }
 
@@ -206,6 +170,6 @@ pub fn apply(operator: Binary, a: Number, b: Number) -> Outcome
         Binary::Comparison(o) => flagged(compare(o, promote(a, b))),
         Binary::Logical(o) => flagged(connect(o, !is_zero(a), !is_zero(b))),
         Binary::Bitwise(o) => combine(o, promote(a, b)),
-        Binary::Extremum(o) => Outcome::Value(choose(o, promote(a, b))),
+        Binary::Extremum(o) => Ok(choose(o, promote(a, b))),
     }
 }

@@ -8,10 +8,12 @@ pub mod unary;
 
 use number::Number;
 
-// What an operator answers. `fault_of` of specs/Outcome.antt gives document 01's fault numbers.
-#[derive(Clone, Copy)]
-pub enum Outcome {
-    Value(Number),
+// Why an operator has no answer. `fault_of` of specs/Outcome.antt gives document 01's fault numbers.
+#[derive(Clone, Copy, Debug, PartialEq, Eq)]
+pub enum ArithmeticError {
     DivisionByZero,
     OutOfRange,
 }
+
+// What an operator answers.
+pub type Outcome = Result<Number, ArithmeticError>;

@@ -14,8 +14,9 @@ use Rattle.integer.proofs.Representation.{widened}
 use Rattle.number.specs.declared.Number.{Number}
 use Rattle.number.proofs.Operands.{zero_bits}
 use Rattle.operator.specs.Arithmetic.{divisible}
-use Rattle.operator.specs.declared.Outcome.{Outcome}
-use Rattle.operator.specs.declared.Outcome.TheVariants.{Value, DivisionByZero}
+use Rattle.operator.specs.Outcome.{Outcome}
+use Rattle.std.specs.Prelude.{Ok, Err}
+use Rattle.operator.specs.declared.ArithmeticError.TheVariants.{DivisionByZero}
 use Rattle.operator.proofs.Calculating.{divides-by}
 use Rattle.scaling.specs.Map.{map_exact, map_whole}
 use Rattle.scaling.proofs.Sizes.{difference_below, difference-fits, product-fits, quotient_fits, sum_fits}
@@ -93,9 +94,9 @@ module _ (x y : ℤ) (mx : mag x < 2 ^ hbits w64) (my : mag y < 2 ^ hbits w64) (
 -- the exact result at either width, k the type; z is the divisor
 module _ (w : Width) (k : ℤ → Number) (a b c d e : ℤ) (z : ℤ) (mz : mag z < 2 ^ hbits w64) (is : z ≡ c -ℤ b) where
   abbrev answer : Outcome
-  answer = Value (k (wrapped w (map_exact a b c d e)))
+  answer = Ok (k (wrapped w (map_exact a b c d e)))
 
-  pub no-divisor : of_z w64 z ≡ 0 → DivisionByZero ≡ map_whole w k a b c d e
+  pub no-divisor : of_z w64 z ≡ 0 → Err DivisionByZero ≡ map_whole w k a b c d e
   no-divisor h = ap (λ (y : ℤ). divisible y answer) (sym (zero_bits w64 z (held w64 z mz) h) ∙ is)
 
   module _ (h : of_z w64 z ≡ 0 → ⊥) where
@@ -103,7 +104,7 @@ module _ (w : Width) (k : ℤ → Number) (a b c d e : ℤ) (z : ℤ) (mz : mag 
     divisor zero = h (ap (of_z w64) (is ∙ zero))
 
     pub reduced : (m : ℤ) {r : ℤ} → mag m < 2 ^ hbits w64 → m ≡ map_exact a b c d e → r ≡ wrapped w (to_z w64 (of_z w64 m))
-        → Value (k (to_z w (of_z w r))) ≡ map_whole w k a b c d e
+        → Ok (k (to_z w (of_z w r))) ≡ map_whole w k a b c d e
     reduced m g exact given =
-        ap (λ (y : ℤ). Value (k y)) (reads-wrapped w (map_exact a b c d e) (given ∙ ap (wrapped w) (to_z-of_z (held w64 m g) ∙ exact)))
+        ap (λ (y : ℤ). Ok (k y)) (reads-wrapped w (map_exact a b c d e) (given ∙ ap (wrapped w) (to_z-of_z (held w64 m g) ∙ exact)))
         ∙ divides-by (c -ℤ b) divisor answer

@@ -8,8 +8,8 @@ use Rattle.integer.specs.Modular.{wrapped}
 use Rattle.number.specs.declared.Number.{Number}
 use Rattle.number.specs.declared.Number.TheVariants.{Char, Int, Float}
 use Rattle.operator.specs.Arithmetic.{divisible}
-use Rattle.operator.specs.declared.Outcome.{Outcome}
-use Rattle.operator.specs.declared.Outcome.TheVariants.{Value}
+use Rattle.operator.specs.Outcome.{Outcome}
+use Rattle.std.specs.Prelude.{Ok}
 use Rattle.scaling.specs.declared.map.Kind.{Kind}
 use Rattle.scaling.specs.declared.map.Kind.TheVariants.{Chars, Ints, Floats}
 
@@ -42,7 +42,7 @@ map_exact a b c d e = quot_z ((a -ℤ b) *ℤ (e -ℤ d)) (c -ℤ b) +ℤ d
 
 -- "the result reduced to the widest type; there equal b and c give fault 7." The type is k, of the width w.
 abbrev pub map_whole : Width → (ℤ → Number) → ℤ → ℤ → ℤ → ℤ → ℤ → Outcome
-map_whole w k a b c d e = divisible (c -ℤ b) (Value (k (wrapped w (map_exact a b c d e))))
+map_whole w k a b c d e = divisible (c -ℤ b) (Ok (k (wrapped w (map_exact a b c d e))))
 
 -- "With a FLOAT all five become FLOAT and each operation rounds once, as written."
 unfoldable pub map_real : Binary32 → Binary32 → Binary32 → Binary32 → Binary32 → Binary32
@@ -52,7 +52,7 @@ map_real a b c d e =
 abbrev pub mapped_as : Kind → Number → Number → Number → Number → Number → Outcome
 mapped_as Chars a b c d e = map_whole w8 Char (exact a) (exact b) (exact c) (exact d) (exact e)
 mapped_as Ints a b c d e = map_whole w16 Int (exact a) (exact b) (exact c) (exact d) (exact e)
-mapped_as Floats a b c d e = Value (Float (map_real (real a) (real b) (real c) (real d) (real e)))
+mapped_as Floats a b c d e = Ok (Float (map_real (real a) (real b) (real c) (real d) (real e)))
 
 unfoldable pub mapped : Number → Number → Number → Number → Number → Outcome
 mapped a b c d e = mapped_as (widest a b c d e) a b c d e

@@ -11,8 +11,9 @@ use Rattle.number.specs.declared.Number.{Number}
 use Rattle.number.specs.declared.Number.TheVariants.{Char, Int, Float}
 use Rattle.number.specs.declared.promotion.Pair.{Pair}
 use Rattle.number.specs.declared.promotion.Pair.TheVariants.{Chars, Ints, Floats}
-use Rattle.operator.specs.declared.Outcome.{Outcome}
-use Rattle.operator.specs.declared.Outcome.TheVariants.{Value, OutOfRange}
+use Rattle.operator.specs.Outcome.{Outcome}
+use Rattle.std.specs.Prelude.{Ok, Err}
+use Rattle.operator.specs.declared.ArithmeticError.TheVariants.{OutOfRange}
 
 -- Document 02, Q-3: "POW takes a whole y from 0 to 15, else fault 8".
 abbrev pub max_exponent : ℕ
@@ -41,8 +42,8 @@ raised (Ints x y) n = Int (wrapped w16 (pow x n))
 raised (Floats x y) n = Float (power_real x n)
 
 abbrev pub raised_by : Pair → Option ℕ → Outcome
-raised_by pair (Some n) = Value (raised pair n)
-raised_by pair None = OutOfRange
+raised_by pair (Some n) = Ok (raised pair n)
+raised_by pair None = Err OutOfRange
 
 unfoldable pub power : Number → Number → Outcome
 power x y = raised_by (promoted x y) (exponent y)

@@ -4,10 +4,10 @@ ghost use Rattle.std.specs.Float.{binary32};
 ghost use Rattle.std.specs.Float.Ieee.{sub};
 ghost use Rattle.scaling.specs.Map.{wider, widest, exact, real, map_exact, map_whole, map_real};
 ghost use Rattle.scaling.specs.Map.{mapped_as, mapped};
-ghost use Rattle.std.specs.Int.{w8, w16};
 
-use number::Number;
-use operator::Outcome;
+use integer::Whole;
+use number::{Number, WholeNumber};
+use operator::{ArithmeticError, Outcome};
 
 // The types by how wide they are.
 #[derive(Clone, Copy)]
@@ -77,24 +77,13 @@ fn map_exact(a: Number, b: Number, c: Number, d: Number, e: Number) -> i64
 }
 
 // "the result reduced to the widest type; there equal b and c give fault 7": CHAR, and INT.
-fn map8(a: Number, b: Number, c: Number, d: Number, e: Number) -> Outcome
-    ensures { result ≡ map_whole w8 Number.Char (exact a) (exact b) (exact c) (exact d) (exact e) }
+fn map_whole<T: WholeNumber>(a: Number, b: Number, c: Number, d: Number, e: Number) -> Outcome
+    ensures { result ≡ map_whole T.width T.number (exact a) (exact b) (exact c) (exact d) (exact e) }
 {
     if difference(c, b) == 0 {
-        Outcome::DivisionByZero
-    } else {
-        Outcome::Value(Number::Char(integer::reduce8(map_exact(a, b, c, d, e))))
+        return Err(ArithmeticError::DivisionByZero);
     }
-}
-
-fn map16(a: Number, b: Number, c: Number, d: Number, e: Number) -> Outcome
-    ensures { result ≡ map_whole w16 Number.Int (exact a) (exact b) (exact c) (exact d) (exact e) }
-{
-    if difference(c, b) == 0 {
-        Outcome::DivisionByZero
-    } else {
-        Outcome::Value(Number::Int(integer::reduce16(map_exact(a, b, c, d, e))))
-    }
+    Ok(T::reduce(map_exact(a, b, c, d, e)).number())
 }
 
 fn real_difference(a: Number, b: Number) -> f32
@@ -116,9 +105,9 @@ fn map_as(kind: Kind, a: Number, b: Number, c: Number, d: Number, e: Number) -> 
     ensures { result ≡ mapped_as kind a b c d e }
 {
     match kind {
-        Kind::Chars => map8(a, b, c, d, e),
-        Kind::Ints => map16(a, b, c, d, e),
-        Kind::Floats => Outcome::Value(Number::Float(map_real(a, b, c, d, e))),
+        Kind::Chars => map_whole::<i8>(a, b, c, d, e),
+        Kind::Ints => map_whole::<i16>(a, b, c, d, e),
+        Kind::Floats => Ok(Number::Float(map_real(a, b, c, d, e))),
     }
 }
 

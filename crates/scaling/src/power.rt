@@ -1,13 +1,13 @@
 // POW of x, y: x to the power of y.
 ghost use Rattle.std.specs.Prelude.{◌≡◌};
 ghost use Rattle.std.proofs.Math.IntN.{pow};
-ghost use Rattle.std.specs.Int.{w16};
 ghost use Rattle.integer.specs.Modular.{wrapped};
-ghost use Rattle.scaling.specs.Power.{whole_exponent, exponent, power_real, raised, raised_by, power};
+ghost use Rattle.scaling.specs.Power.{whole_exponent, exponent, power_real, raised, power};
 
-use number::Number;
+use integer::Whole;
 use number::promotion::{Pair, promote};
-use operator::Outcome;
+use number::{Number, WholeNumber};
+use operator::{ArithmeticError, Outcome};
 
 const MAX_EXPONENT: i16 = 15;
 
@@ -35,27 +35,23 @@ fn exponent_of(y: Number) -> Option<u8>
     }
 }
 
-// "multiplying from the left starting at 1": modulo 65,536, of which modulo 256 is a part.
-fn power16(x: i16, n: u8) -> i16
-    ensures { result ≡ wrapped w16 (pow x n) }
+// "multiplying from the left starting at 1": of whole numbers modulo the type's width.
+fn power_whole<T: WholeNumber>(x: T, n: u8) -> Number
+    ensures { result ≡ T.number (wrapped T.width (pow (T.value x) n)) }
 {
-    let mut product: i16 = 1;
-    let mut i: u8 = 0;
-    while i < n {
-        product = integer::multiply16(product, x);
-        i += 1;
+    let mut product = T::reduce(1);
+    for _ in 0..n {
+        product = product.multiply(x);
     }
-    product
+    product.number()
 }
 
 fn power_real(x: f32, n: u8) -> f32
     ensures { result ≡ power_real x n }
 {
     let mut product: f32 = 1.0;
-    let mut i: u8 = 0;
-    while i < n {
+    for _ in 0..n {
         product = product * x;
-        i += 1;
     }
     product
 }
@@ -64,18 +60,9 @@ fn raise(pair: Pair, n: u8) -> Number
     ensures { result ≡ raised pair n }
 {
     match pair {
-        Pair::Chars(x, _) => Number::Char(integer::reduce8(power16(x as i16, n) as i64)),
-        Pair::Ints(x, _) => Number::Int(power16(x, n)),
+        Pair::Chars(x, _) => power_whole(x, n),
+        Pair::Ints(x, _) => power_whole(x, n),
         Pair::Floats(x, _) => Number::Float(power_real(x, n)),
-    }
-}
-
-fn raise_by(pair: Pair, exponent: Option<u8>) -> Outcome
-    ensures { result ≡ raised_by pair exponent }
-{
-    match exponent {
-        Some(n) => Outcome::Value(raise(pair, n)),
-        None => Outcome::OutOfRange,
     }
 }
 
@@ -83,5 +70,6 @@ fn raise_by(pair: Pair, exponent: Option<u8>) -> Outcome
 pub fn power_of(x: Number, y: Number) -> Outcome
     ensures { result ≡ power x y }
 {
-    raise_by(promote(x, y), exponent_of(y))
+    let n = exponent_of(y).ok_or(ArithmeticError::OutOfRange)?;
+    Ok(raise(promote(x, y), n))
 }

@@ -7,7 +7,7 @@ use crate::{Action, STRING_KIND, Step};
 use machine::fault::Fault;
 use machine::limits::STACK_SIZE;
 use number::Number;
-use operator::Outcome;
+use operator::{ArithmeticError, Outcome};
 
 impl Step {
     // Of an instruction that ends its process.
@@ -145,9 +145,9 @@ impl Frame<'_> {
             (push (take kept self.now.stack.now) (type_of a) (value_bytes a)))) }
     {
         match outcome {
-            Outcome::Value(a) => self.push_number(kept, a, to),
-            Outcome::DivisionByZero => Err(Fault::DivisionByZero),
-            Outcome::OutOfRange => Err(Fault::OutOfRange),
+            Ok(a) => self.push_number(kept, a, to),
+            Err(ArithmeticError::DivisionByZero) => Err(Fault::DivisionByZero),
+            Err(ArithmeticError::OutOfRange) => Err(Fault::OutOfRange),
         }
     }
 }

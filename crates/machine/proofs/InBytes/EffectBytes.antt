@@ -15,8 +15,9 @@ use Rattle.number.specs.Value.{type_of, value_bytes}
 use Rattle.number.specs.declared.Number.{Number}
 use Rattle.number.specs.declared.Number.TheVariants.{Char, Int, Float}
 use Rattle.operator.specs.declared.instruction.Types.{Types}
-use Rattle.operator.specs.declared.Outcome.{Outcome}
-use Rattle.operator.specs.declared.Outcome.TheVariants.{Value, DivisionByZero, OutOfRange}
+use Rattle.operator.specs.Outcome.{Outcome}
+use Rattle.std.specs.Prelude.{Ok, Err}
+use Rattle.operator.specs.declared.ArithmeticError.TheVariants.{DivisionByZero, OutOfRange}
 use Rattle.operator.specs.declared.operators.Operator.{Operator}
 use Rattle.operator.specs.declared.operators.Operator.TheVariants.{OfOne, OfTwo, Scale, NotAnOperator}
 use Rattle.operator.specs.declared.operators.Scaling.TheVariants.{Constrain, Map, Power}
@@ -116,9 +117,9 @@ type-byte (Float x) = omega arith
 outcome-gives : (o : Outcome) (rest : List ℕ) (next : List ℕ → Effect) → Answers o → Bytes rest
     → ((s : List ℕ) → Bytes s → GivesBytes (next s)) → GivesBytes (with_outcome o λ a. next (push rest (type_of a) (value_bytes a)))
 unfolding GivesBytes
-outcome-gives (Value a) rest next f h g = g _ (push-bytes rest (type_of a) (value_bytes a) h (type-byte a) (value-bytes a f))
-outcome-gives DivisionByZero rest next f h g = tt
-outcome-gives OutOfRange rest next f h g = tt
+outcome-gives (Ok a) rest next f h g = g _ (push-bytes rest (type_of a) (value_bytes a) h (type-byte a) (value-bytes a f))
+outcome-gives (Err DivisionByZero) rest next f h g = tt
+outcome-gives (Err OutOfRange) rest next f h g = tt
 
 pub operates-gives : (o : Operator) (stack : List ℕ) (next : List ℕ → Effect) → Bytes stack
     → ((s : List ℕ) → Bytes s → GivesBytes (next s)) → GivesBytes (operates o stack next)
@@ -134,7 +135,7 @@ operates-gives (Scale Constrain) stack next h g =
     number-gives (types_of (Scale Constrain) 2) stack h _ λ b rest fb k.
     number-gives (types_of (Scale Constrain) 1) rest k _ λ a rest fa k.
     number-gives (types_of (Scale Constrain) 0) rest k _ λ x rest fx k.
-    outcome-gives (Value (constrained x a b)) rest next (constrained-fits x a b fx fa fb) k g
+    outcome-gives (Ok (constrained x a b)) rest next (constrained-fits x a b fx fa fb) k g
 operates-gives (Scale Map) stack next h g =
     number-gives (types_of (Scale Map) 4) stack h _ λ e rest fe k.
     number-gives (types_of (Scale Map) 3) rest k _ λ d rest fd k.

@@ -30,8 +30,9 @@ use Rattle.operator.specs.Unary.{absolute, magnitude, negated, square_root, unar
 use Rattle.number.specs.Value.{is_zero}
 use Rattle.number.specs.declared.Number.{Number}
 use Rattle.number.specs.declared.Number.TheVariants.{Char, Int, Float}
-use Rattle.operator.specs.declared.Outcome.{Outcome}
-use Rattle.operator.specs.declared.Outcome.TheVariants.{Value, DivisionByZero, OutOfRange}
+use Rattle.operator.specs.Outcome.{Outcome}
+use Rattle.std.specs.Prelude.{Ok, Err}
+use Rattle.operator.specs.declared.ArithmeticError.TheVariants.{DivisionByZero, OutOfRange}
 use Rattle.operator.specs.declared.operators.Arithmetic.{Arithmetic}
 use Rattle.operator.specs.declared.operators.Arithmetic.TheVariants.{Plus, Minus, Times, DividedBy, Modulus}
 use Rattle.operator.specs.declared.operators.Binary.{Binary}
@@ -51,9 +52,9 @@ use Rattle.number.proofs.Encoding.{Fits}
 
 -- the value, where there is one
 abbrev pub Answers : Outcome → Type 0
-Answers (Value a) = Fits a
-Answers DivisionByZero = Unit {0}
-Answers OutOfRange = Unit {0}
+Answers (Ok a) = Fits a
+Answers (Err DivisionByZero) = Unit {0}
+Answers (Err OutOfRange) = Unit {0}
 
 abbrev BothFit : Pair → Type 0
 BothFit (Chars x y) = SFits w8 x × SFits w8 y
@@ -86,7 +87,7 @@ bits_fit w Or x y f g = sfits_to_z (Fits-or (Fits-of_z f) (Fits-of_z g))
 bits_fit w Xor x y f g = sfits_to_z (Fits-xor (Fits-of_z f) (Fits-of_z g))
 
 module _ (w : Width) (k : ℤ → Number) (is : (z : ℤ) → SFits w z → Fits (k z)) where
-  pub divisible-answers : (y z : ℤ) → Answers (divisible y (Value (k (wrapped w z))))
+  pub divisible-answers : (y z : ℤ) → Answers (divisible y (Ok (k (wrapped w z))))
   divisible-answers (pos zero) z = tt
   divisible-answers (pos (suc n)) z = is _ (wrapped-fits w z)
   divisible-answers (negsuc n) z = is _ (wrapped-fits w z)

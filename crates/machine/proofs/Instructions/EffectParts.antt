@@ -14,8 +14,9 @@ use Rattle.operator.specs.Instruction.{types_of}
 use Rattle.operator.specs.Unary.{unary}
 use Rattle.number.specs.declared.Number.{Number}
 use Rattle.operator.specs.declared.instruction.Types.{Types}
-use Rattle.operator.specs.declared.Outcome.{Outcome}
-use Rattle.operator.specs.declared.Outcome.TheVariants.{Value, DivisionByZero, OutOfRange}
+use Rattle.operator.specs.Outcome.{Outcome}
+use Rattle.std.specs.Prelude.{Ok, Err}
+use Rattle.operator.specs.declared.ArithmeticError.TheVariants.{DivisionByZero, OutOfRange}
 use Rattle.operator.specs.declared.operators.Operator.{Operator}
 use Rattle.operator.specs.declared.operators.Operator.TheVariants.{OfOne, OfTwo, Scale, NotAnOperator}
 use Rattle.operator.specs.declared.operators.Scaling.TheVariants.{Constrain, Map, Power}
@@ -78,9 +79,9 @@ module _ (prog : List ℕ) (l : Local) where
 
   outcome-does : (o : Outcome) (next : Number → Effect) → ((a : Number) → Does prog l (next a)) → Does prog l (with_outcome o next)
   unfolding Does
-  outcome-does (Value a) next h = h a
-  outcome-does DivisionByZero next h = (omega arith, omega arith)
-  outcome-does OutOfRange next h = (omega arith, omega arith)
+  outcome-does (Ok a) next h = h a
+  outcome-does (Err DivisionByZero) next h = (omega arith, omega arith)
+  outcome-does (Err OutOfRange) next h = (omega arith, omega arith)
 
   pub variable-does : (f : Option ℕ) (own : List Cell) (next : Cell → Effect) → ((c : Cell) → Does prog l (next c))
       → Does prog l (with_variable f own next)

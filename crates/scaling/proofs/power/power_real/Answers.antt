@@ -1,17 +1,10 @@
 -- The product so far is the power of as many factors as there were turns.
-use mathlib.Core.Path.{◌≡◌, ◌∙◌, ap}
-use native.Mathlib.Omega.{arith}
-use Rattle.scaling.specs.Power.{power_real}
+use Rattle.std.proofs.Common.{arith}
 use Rattle.scaling.proofs.Powers.{one, real-next}
 use Rattle.scaling.proofs.power.power_real.Goals as goal
 
-pub loop-i-init : goal.loop-i-init
-loop-i-init c = record { within = omega arith; is = one c.args.x }
+pub loop-init : goal.loop-init
+loop-init c = (omega arith, one c.args.x)
 
-pub loop-i-preserved : goal.loop-i-preserved
-loop-i-preserved c = record { within = omega arith; is = real-next c.args.x c.loop-i.i c.loop-i.invariant.is }
-
-pub returns : goal.returns
-returns c =
-    let e : c.loop-i.i ≡ c.args.n = omega (arith, c.loop-i.invariant.within) in
-    c.loop-i.invariant.is ∙ ap (power_real c.args.x) e
+pub loop-preserved : goal.loop-preserved
+loop-preserved c = (omega arith, real-next c.args.x c.loop.counter c.loop.invariant.1)
