@@ -2,10 +2,11 @@
 ghost use Rattle.std.specs.Prelude.{◌≡◌, ◌+◌, ◌*◌, ◌<◌, ◌≤◌, length};
 ghost use Rattle.buffer.specs.Buffer.{overwrite};
 ghost use Rattle.place.specs.Place.{filled};
-ghost use Rattle.disc.specs.Directory.{Readable, entry_at, entry_bytes, file_count, lookup, run_of, taken};
+ghost use Rattle.disc.specs.Directory.{Readable, entry_at, entry_bytes, file_count, lookup, taken};
 ghost use Rattle.disc.specs.Layout.{data_start, entry_size, max_files};
 
 use crate::Entry;
+use crate::good::same_name;
 use crate::layout::{COUNT_AT, ENTRY_SIZE, NAME_SIZE};
 use place::{MAX_RUNS, Run};
 
@@ -13,7 +14,7 @@ pub fn file_count(disc: &[u8]) -> usize
     requires { data_start ≤ length disc.now }
     ensures { result ≡ file_count disc.now }
 {
-    disc[COUNT_AT] as usize
+    usize::from(disc[COUNT_AT])
 }
 
 pub fn entry_at(disc: &[u8], i: usize) -> Entry
@@ -25,11 +26,7 @@ pub fn entry_at(disc: &[u8], i: usize) -> Entry
     buffer::bytes::copy_part(&mut name, disc, at);
     let start = buffer::bytes::word_at(disc, at + NAME_SIZE);
     let len = buffer::bytes::word_at(disc, at + NAME_SIZE + 2);
-    Entry {
-        name: name,
-        start: start,
-        len: len,
-    }
+    Entry { name, start, len }
 }
 
 pub fn put_entry(disc: &mut [u8], i: usize, entry: Entry)
@@ -37,14 +34,13 @@ pub fn put_entry(disc: &mut [u8], i: usize, entry: Entry)
     ensures { disc.new ≡ overwrite disc.old (i * entry_size) (entry_bytes entry) }
 {
     let at = i * ENTRY_SIZE;
-    let name = entry.name;
     let fields = [
         buffer::bytes::low(entry.start),
         buffer::bytes::high(entry.start),
         buffer::bytes::low(entry.len),
         buffer::bytes::high(entry.len),
     ];
-    buffer::bytes::overwrite_at(disc, at, &name);
+    buffer::bytes::overwrite_at(disc, at, &entry.name);
     buffer::bytes::overwrite_at(disc, at + NAME_SIZE, &fields);
 }
 
@@ -57,26 +53,12 @@ pub fn find(disc: &[u8], name: &[u8]) -> Option<usize>
         return None;
     }
     let field = crate::name::pad(name);
-    let count = file_count(disc);
-    let mut i: usize = 0;
-    while i < count {
-        let entry = entry_at(disc, i);
-        let held = entry.name;
-        if buffer::bytes::same_bytes(&held, &field) {
+    for i in 0..file_count(disc) {
+        if same_name(disc, i * ENTRY_SIZE, &field, 0) {
             return Some(i);
         }
-        i += 1;
     }
     None
-}
-
-pub fn run_of(entry: Entry) -> Run
-    ensures { result ≡ run_of entry }
-{
-    Run {
-        start: entry.start,
-        len: entry.len,
-    }
 }
 
 // The runs that files take, and nothing behind them.
@@ -84,13 +66,9 @@ pub fn taken_runs(disc: &[u8]) -> [Run; MAX_RUNS]
     requires { Readable disc.now }
     ensures { result ≡ filled (taken disc.now) }
 {
-    let count = file_count(disc);
     let mut runs = place::no_runs();
-    let mut i: usize = 0;
-    while i < count {
-        let run = run_of(entry_at(disc, i));
-        runs[i] = run;
-        i += 1;
+    for i in 0..file_count(disc) {
+        runs[i] = entry_at(disc, i).run();
     }
     runs
 }

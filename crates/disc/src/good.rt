@@ -12,7 +12,7 @@ use crate::layout::{
     DATA_START, ENTRY_SIZE, LONG_DISC, MAX_FILES, MAX_NAME, NAME_SIZE, SHORT_DISC,
 };
 use buffer::bytes::{four_at, word_at};
-use place::{Run, is_apart, run_end};
+use place::Run;
 
 // Document 02, Q-2: "Either length is now a disc".
 pub fn is_disc_length(n: usize) -> bool
@@ -34,11 +34,9 @@ fn is_good_field(disc: &[u8], at: usize) -> bool
     ensures { result ≡ good_field (part disc.now at name_size) }
 {
     let mut good = (disc[at] != 0) & (disc[at + MAX_NAME] == 0);
-    let mut i: u32 = 0;
-    while (i as usize) < MAX_NAME {
+    for i in 0..MAX_NAME as u32 {
         let k = at + i as usize;
-        good = good & is_field_byte(disc[k], disc[k + 1]);
-        i += 1;
+        good &= is_field_byte(disc[k], disc[k + 1]);
     }
     good
 }
@@ -51,27 +49,18 @@ fn run_at(disc: &[u8], i: usize) -> Run
     let at = i * ENTRY_SIZE + NAME_SIZE;
     let start = word_at(disc, at);
     let len = word_at(disc, at + 2);
-    Run {
-        start: start,
-        len: len,
-    }
+    Run { start, len }
 }
 
 fn is_good_entry(disc: &[u8], i: usize) -> bool
     requires { (data_start ≤ length disc.now) × (i < max_files) }
     ensures { result ≡ good_entry (length disc.now) (entry_at disc.now i) }
 {
-    if !is_good_field(disc, i * ENTRY_SIZE) {
-        return false;
-    }
     let run = run_at(disc, i);
-    if run.len < 1 {
-        return false;
-    }
-    if (run.start as usize) < DATA_START {
-        return false;
-    }
-    run_end(run) <= disc.len()
+    is_good_field(disc, i * ENTRY_SIZE)
+        && 1 <= run.len
+        && DATA_START <= usize::from(run.start)
+        && run.end() as usize <= disc.len()
 }
 
 // Whether the same name stands at both places, as three numbers of four bytes.
@@ -89,16 +78,14 @@ fn is_beside_earlier(disc: &[u8], i: usize) -> bool
     ensures { result ≡ all (λ e. beside e (entry_at disc.now i)) (tab (entry_at disc.now) i) }
 {
     let run = run_at(disc, i);
-    let mut j: usize = 0;
-    while j < i {
+    for j in 0..i {
         if same_name(disc, j * ENTRY_SIZE, disc, i * ENTRY_SIZE) {
             return false;
         }
         let earlier = run_at(disc, j);
-        if !is_apart(earlier.start as usize, earlier.len as usize, run) {
+        if !run.is_apart(usize::from(earlier.start), usize::from(earlier.len)) {
             return false;
         }
-        j += 1;
     }
     true
 }
@@ -111,15 +98,13 @@ pub fn is_good_disc(disc: &[u8]) -> bool
     if MAX_FILES < count {
         return false;
     }
-    let mut i: usize = 0;
-    while i < count {
+    for i in 0..count {
         if !is_good_entry(disc, i) {
             return false;
         }
         if !is_beside_earlier(disc, i) {
             return false;
         }
-        i += 1;
     }
     true
 }

@@ -6,7 +6,11 @@ pub mod good;
 pub mod layout;
 pub mod name;
 
+ghost use Rattle.std.specs.Prelude.{◌≡◌};
+ghost use Rattle.disc.specs.Directory.{run_of};
+
 use layout::NAME_SIZE;
+use place::Run;
 
 // Document 01: "Ten directory entries of 16 bytes from 0: name 12, start 2, length 2."
 #[derive(Clone, Copy)]
@@ -14,4 +18,16 @@ pub struct Entry {
     pub name: [u8; NAME_SIZE],
     pub start: u16,
     pub len: u16,
+}
+
+impl Entry {
+    // The bytes that its file takes.
+    pub fn run(&self) -> Run
+        ensures { result ≡ run_of self.now }
+    {
+        Run {
+            start: self.start,
+            len: self.len,
+        }
+    }
 }

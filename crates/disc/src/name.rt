@@ -9,30 +9,13 @@ use crate::layout::{MAX_NAME, NAME_SIZE};
 fn is_name_byte(b: u8) -> bool
     ensures { result ≡ is_name_byte b }
 {
-    if 33 <= b {
-        return b <= 126;
-    }
-    false
+    (33..=126).contains(&b)
 }
 
 pub fn is_good_name(name: &[u8]) -> bool
     ensures { result ≡ good_name name.now }
 {
-    if name.len() < 1 {
-        return false;
-    }
-    if MAX_NAME < name.len() {
-        return false;
-    }
-    let mut i = 0;
-    while i < name.len() {
-        let b = name[i];
-        if !is_name_byte(b) {
-            return false;
-        }
-        i += 1;
-    }
-    true
+    (1..=MAX_NAME).contains(&name.len()) && name.iter().all(|b| is_name_byte(*b))
 }
 
 // Document 01: "zero-filled".
@@ -50,14 +33,7 @@ pub fn text_length(bytes: &[u8]) -> usize
     ensures { (result ≤ length bytes.now)
         × (take result bytes.now ≡ trimmed bytes.now) }
 {
-    let mut n: usize = 0;
-    while n < bytes.len() {
-        if bytes[n] == 0 {
-            return n;
-        }
-        n += 1;
-    }
-    n
+    bytes.iter().position(|b| *b == 0).unwrap_or(bytes.len())
 }
 
 // Lays the bytes of field before its first zero over out from place at, and answers the place behind them.

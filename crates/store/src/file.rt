@@ -26,7 +26,7 @@ pub fn room_on(disc: &[u8]) -> usize
 {
     let count = disc::directory::file_count(disc);
     let runs = disc::directory::taken_runs(disc);
-    place::longest_run(runs, count, DATA_START, disc.len())
+    place::longest_run(&runs[..count], DATA_START, disc.len())
 }
 
 // Whether a new file of n bytes is admitted under this name, and where it goes.
@@ -48,7 +48,7 @@ pub fn admit(disc: &[u8], name: &[u8], n: usize) -> Result<usize, Refusal>
         return Err(Refusal::NameExists);
     }
     let runs = disc::directory::taken_runs(disc);
-    place::find_place(runs, count, DATA_START, disc.len(), n).ok_or(Refusal::NoRun)
+    place::find_place(&runs[..count], DATA_START, disc.len(), n).ok_or(Refusal::NoRun)
 }
 
 // Enters a file of n bytes at start; its data bytes are for the caller to write.

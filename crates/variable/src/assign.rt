@@ -68,7 +68,7 @@ fn place_for(
     if limit <= used {
         return Err(Unplaced::NoEntry);
     }
-    place::find_place(runs, count, low, high, n).ok_or(Unplaced::NoRun)
+    place::find_place(&runs[..count], low, high, n).ok_or(Unplaced::NoRun)
 }
 
 // Document 01's fault number of a placing, 0 where there is none.

@@ -14,19 +14,17 @@ use Rattle.disc.proofs.directory.taken_runs.Goals as goal
 
 pub loop-i-init : goal.loop-i-init
 unfolding tab
-loop-i-init c = (omega arith, c.no_runs-runs.ensures)
+loop-i-init c = c.no_runs-runs.ensures
 
 pub loop-i-preserved : goal.loop-i-preserved
 loop-i-preserved c =
     let d = c.args.disc.now in
-    let e : c.run_of-run.result ≡ run_at d c.loop-i.i = c.run_of-run.ensures ∙ ap run_of c.entry_at.ensures in (
-      omega arith,
-      ap₂ (λ (runs : List Run) (run : Run). set runs c.loop-i.i run) c.loop-i.invariant.1 e
-          ∙ filled_next (run_at d) c.loop-i.i (omega arith),
-    )
+    let e : c.run.result ≡ run_at d c.loop-i.i = c.run.ensures ∙ ap run_of c.entry_at.ensures in
+    ap₂ (λ (runs : List Run) (run : Run). set runs c.loop-i.i run) c.loop-i.invariant e
+    ∙ filled_next (run_at d) c.loop-i.i (omega arith)
 
 pub returns : goal.returns
 returns c =
     let d = c.args.disc.now in
     let q : c.loop-i.i ≡ file_count d = omega arith in
-    rw (← q) (c.loop-i.invariant.1 ∙ ap filled (sym (map-tab run_of (entry_at d) c.loop-i.i)))
+    rw (← q) (c.loop-i.invariant ∙ ap filled (sym (map-tab run_of (entry_at d) c.loop-i.i)))

@@ -1,5 +1,5 @@
 -- The loop: the array holds the runs of the first i entries, and nothing behind them.
-use Prim.Native.Nat.{ℕ, ◌≤◌, ◌-◌}
+use Prim.Native.Nat.{ℕ}
 use mathlib.Core.Path.{◌≡◌}
 use mathlib.Core.List.{List}
 use Rattle.buffer.specs.Lists.{tab}
@@ -13,7 +13,4 @@ abbrev pub run_at : List ℕ → ℕ → Run
 run_at disc k = run_of (entry_at disc k)
 
 abbrev pub invariant-loop-i : goal.invariant-loop-i
-invariant-loop-i l = (l.i ≤ l.count) × (l.runs ≡ filled (tab (run_at l.disc) l.i))
-
-abbrev pub decreases-loop-i : goal.decreases-loop-i
-decreases-loop-i l = l.count - l.i
+invariant-loop-i l = l.runs ≡ filled (tab (run_at l.disc) l.i)
