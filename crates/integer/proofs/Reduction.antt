@@ -1,11 +1,10 @@
 -- An exact result reduced to a width: the remainder toward zero, raised by the modulus, is not negative, and its residue is that of the
 -- result. A result wrapped on the way, as a factor, wraps alike in the end. Assumes nothing.
-use Rattle.std.proofs.Common.{◌≡◌, ℕ, zero, suc, ◌+◌, ◌-◌, ◌*◌, ◌/◌, ◌%◌, ◌^◌, ◌<◌, ◌≤◌, T, ℤ, pos, negsuc, ◌+ℤ◌, ◌*ℤ◌, neg_ℤ, nat_abs, sym}
-use Rattle.std.proofs.Common.{refl, ap, ◌∙◌, subst, mod-lt, mod-eq_of_lt, suc-mul, add-mul, arith, pow_pos, to_z-of_z, w8, w16, Fits, SFits}
+use Rattle.std.proofs.Common.{◌≡◌, ℕ, zero, suc, ◌+◌, ◌-◌, ◌*◌, ◌%◌, ◌^◌, ◌<◌, ◌≤◌, T, ℤ, pos, negsuc, ◌+ℤ◌, ◌*ℤ◌, neg_ℤ, nat_abs, sym}
+use Rattle.std.proofs.Common.{refl, ap, ◌∙◌, subst, mod-lt, arith, pow_pos, to_z-of_z, Fits, SFits}
 use Rattle.std.proofs.Common.{to_z, of_z}
 use mathlib.Core.Path.{subst⁻¹}
-use native.Mathlib.Nat.{add-mod_right, add-mul-mod_self_right, mod-mod, suc-mod}
-use lib.Arith.{mod-mul}
+use native.Mathlib.Nat.{add-mod_right, mod-mod, suc-mod}
 use lib.Signed.{mag_rem, non_neg, quot_z, rem_z}
 use mir.Syntax.{Width}
 use mir.Val.{bits, hbits}
