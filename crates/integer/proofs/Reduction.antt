@@ -1,10 +1,11 @@
 -- An exact result reduced to a width: the remainder toward zero, raised by the modulus, is not negative, and its residue is that of the
--- result. A result wrapped on the way, as a factor, wraps alike in the end. Assumes nothing.
-use Rattle.std.proofs.Common.{◌≡◌, ℕ, zero, suc, ◌+◌, ◌-◌, ◌*◌, ◌%◌, ◌^◌, ◌<◌, ◌≤◌, T, ℤ, pos, negsuc, ◌+ℤ◌, ◌*ℤ◌, neg_ℤ, nat_abs, sym}
-use Rattle.std.proofs.Common.{refl, ap, ◌∙◌, subst, mod-lt, arith, pow_pos, to_z-of_z, Fits, SFits}
+-- result. A result wrapped on the way, to a width no less, or as a factor, wraps alike in the end. Assumes nothing.
+use Rattle.std.proofs.Common.{◌≡◌, ℕ, zero, suc, ◌+◌, ◌-◌, ◌*◌, ◌/◌, ◌%◌, ◌^◌, ◌<◌, ◌≤◌, T, ℤ, pos, negsuc, ◌+ℤ◌, ◌*ℤ◌, neg_ℤ, nat_abs, sym}
+use Rattle.std.proofs.Common.{refl, ap, ◌∙◌, subst, mod-lt, mod-eq_of_lt, suc-mul, add-mul, arith, pow_pos, to_z-of_z, w8, w16, Fits, SFits}
 use Rattle.std.proofs.Common.{to_z, of_z}
 use mathlib.Core.Path.{subst⁻¹}
-use native.Mathlib.Nat.{add-mod_right, mod-mod, suc-mod}
+use native.Mathlib.Nat.{add-mod_right, add-mul-mod_self_right, mod-mod, suc-mod}
+use lib.Arith.{mod-mul}
 use lib.Signed.{mag_rem, non_neg, quot_z, rem_z}
 use mir.Syntax.{Width}
 use mir.Val.{bits, hbits}
@@ -79,9 +80,30 @@ module _ (w v : Width) (room : 2 ^ bits w + 2 ^ bits w ≤ 2 ^ hbits v) (z : ℤ
       ∙ ap (to_z w) (raised-residue modulus (pow_pos (bits w)) z))
 
 -- ---- wrapped on the way
+-- the residue by a multiple of m has the same residue by m
+module _ (k m : ℕ) (hk : 0 < k) (hm : 0 < m) where
+  complement : (q r : ℕ) → q < k → r < m → (k * m - suc (q * m + r)) % m ≡ m - suc r
+  complement q r p h =
+      let split : k * m ≡ (k - suc q) * m + suc q * m = sym (ap (λ (x : ℕ). x * m) (omega arith)) ∙ add-mul (k - suc q) (suc q) m in
+      let next : suc q * m ≡ q * m + m = suc-mul q m in
+      let whole : k * m - suc (q * m + r) ≡ m - suc r + (k - suc q) * m = omega arith in
+      ap (λ (x : ℕ). x % m) whole ∙ add-mul-mod_self_right (m - suc r) (k - suc q) m ∙ mod-eq_of_lt (omega arith)
+
+  residue-narrow : (z : ℤ) → residue (k * m) z % m ≡ residue m z
+  residue-narrow (pos n) =
+      ap (λ (x : ℕ). x % m) (mod-mul n hk hm ∙ omega arith) ∙ add-mul-mod_self_right (n % m) (n / m % k) m ∙ mod-mod n m
+  residue-narrow (negsuc n) =
+      ap (λ (x : ℕ). (k * m - suc x) % m) (mod-mul n hk hm) ∙ complement (n / m % k) (n % m) (mod-lt (n / m) hk) (mod-lt n hm)
+
 same-residue : (w : Width) (y z : ℤ) → residue (2 ^ bits w) y ≡ residue (2 ^ bits w) z → wrapped w y ≡ wrapped w z
 unfolding wrapped
 same-residue w y z e = ap (to_z w) e
+
+pub wrapped-narrow : (z : ℤ) → wrapped w8 (wrapped w16 z) ≡ wrapped w8 z
+wrapped-narrow z =
+    same-residue w8 (wrapped w16 z) z
+    (sym (residue-narrow 256 256 (omega arith) (omega arith) (wrapped w16 z)) ∙ ap (λ (x : ℕ). x % 256) (residue-wrapped w16 z)
+    ∙ residue-narrow 256 256 (omega arith) (omega arith) z)
 
 pub wrapped-factor : (w : Width) (y z : ℤ) → wrapped w (wrapped w y *ℤ z) ≡ wrapped w (y *ℤ z)
 wrapped-factor w y z =

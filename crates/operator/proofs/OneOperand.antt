@@ -1,6 +1,6 @@
 -- Negation, absolute value and whole root of CHAR and INT, and FLOATs converted to either: one law for both, over the width w, k the type.
 -- Assumes nothing.
-use Rattle.std.specs.Prelude.{Option, Some}
+use Rattle.std.specs.Prelude.{Option, Some, None}
 use mathlib.Core.Path.{◌≡◌, refl, sym, ◌∙◌, ap, subst, subst⁻¹}
 use mathlib.Core.Bool.{true, false}
 use Prim.Native.Nat.{ℕ, ◌<◌, ◌^◌}
@@ -53,27 +53,35 @@ module _ (w : Width) (k : ℤ → Number) (x : ℤ) (f : SFits w x) where
   pub root-negative : lt_z (to_z w (of_z w x)) (pos 0) ≡ true → Err OutOfRange ≡ whole_square_root k x
   root-negative h = root-of-negative k x (sign_read w x f h)
 
--- z is the number in 64 bits, and r the root of its size
-module _ (w : Width) (z : ℤ) (f : SFits w z) (fz : SFits w64 z) (h : lt_z (to_z w64 (of_z w64 z)) (pos 0) ≡ false) {r : ℕ}
+-- r is the root of a number that is not negative: it is no larger, and it is the answer
+module _ (k : ℤ → Number) (x : ℤ) (h : lt_z x (pos 0) ≡ false) {r : ℕ} (er : r ≡ whole_root (nat_abs x)) where
+  pub root-below : (w : Width) → SFits w x → r < 2 ^ hbits w
+  root-below w f =
+      subst⁻¹ (λ (m : ℕ). m < 2 ^ hbits w) er
+      (root_below (2 ^ hbits w) (root_is (nat_abs x)) (lt_of_lt_of_le size_below (le-mul_of_pos_right (2 ^ hbits w) (pow_pos (hbits w)))))
+    where
+      size_below : nat_abs x < 2 ^ hbits w
+      size_below = subst (λ (y : ℤ). mag y < 2 ^ hbits w) (size_same x h) f.sfits
+
+  pub root-reads : gives (k (pos r)) ≡ whole_square_root k x
+  root-reads = ap (λ (n : ℕ). gives (k (pos n))) er ∙ root-of-size k x h
+
+-- the same of z in 64 bits
+module _ (w : Width) (k : ℤ → Number) (z : ℤ) (f : SFits w z) (fz : SFits w64 z) (h : lt_z (to_z w64 (of_z w64 z)) (pos 0) ≡ false) {r : ℕ}
     (er : r ≡ whole_root (nat_abs (to_z w64 (of_z w64 z)))) where
-  root-is-of : r ≡ whole_root (nat_abs z)
-  root-is-of = er ∙ ap (λ (y : ℤ). whole_root (nat_abs y)) (to_z-of_z fz)
+  is-root : r ≡ whole_root (nat_abs z)
+  is-root = er ∙ ap (λ (y : ℤ). whole_root (nat_abs y)) (to_z-of_z fz)
 
   below : (v : Width) → SFits v z → r < 2 ^ hbits v
-  below v g =
-      subst⁻¹ (λ (m : ℕ). m < 2 ^ hbits v) root-is-of
-      (root_below (2 ^ hbits v) (root_is (nat_abs z)) (lt_of_lt_of_le size_below (le-mul_of_pos_right (2 ^ hbits v) (pow_pos (hbits v)))))
-    where
-      size_below : nat_abs z < 2 ^ hbits v
-      size_below = subst (λ (y : ℤ). mag y < 2 ^ hbits v) (size_same z (sign_read w64 z fz h)) g.sfits
+  below v g = root-below k z (sign_read w64 z fz h) is-root v g
 
   pub root-fits : SFits w64 (pos r)
   root-fits = record { sfits = below w64 fz }
 
-  pub root-reads : (k : ℤ → Number) {n : ℤ} {a : Number} → n ≡ wrapped w (to_z w64 r) → a ≡ k n → gives a ≡ whole_square_root k z
-  root-reads k en ea =
-      ap gives (ea ∙ ap k (en ∙ ap (wrapped w) (to_z_pos w64 (below w64 fz)) ∙ wrapped_same w (pos r) (record { sfits = below w f }) ∙ ap pos root-is-of))
-      ∙ root-of-size k z (sign_read w64 z fz h)
+  pub root-given : {n : ℤ} {a : Number} → n ≡ wrapped w (to_z w64 r) → a ≡ k n → gives a ≡ whole_square_root k z
+  root-given en ea =
+      ap gives (ea ∙ ap k (en ∙ ap (wrapped w) (to_z_pos w64 (below w64 fz)) ∙ wrapped_same w (pos r) (record { sfits = below w f })))
+      ∙ root-reads k z (sign_read w64 z fz h) is-root
 
 -- a FLOAT as a whole number from −max − 1 to max, in 32 bits and wrapped to w: it fits
 module _ (w : Width) {max : ℕ} (small : SFits w (pos max)) (r : Rounding) (x : Float) {o : Option ℤ} (eo : o ≡ whole_of r max x) where
@@ -83,6 +91,9 @@ module _ (w : Width) {max : ℕ} (small : SFits w (pos max)) (r : Rounding) (x :
       ap gives (ea ∙ ap k (en ∙ ap (wrapped w) (widened w32 w64 tt z f)
       ∙ wrapped_same w z (record { sfits = lt_of_le_of_lt (whole-mag r max x (sym ez ∙ eo)) small.sfits })))
       ∙ ap (value_or k) (sym ez ∙ eo)
+
+  pub beyond : o ≡ None → (k : ℤ → Number) → Err OutOfRange ≡ value_or k (whole_of r max x)
+  beyond e k = ap (value_or k) (sym e ∙ eo)
 
 -- the library's size of a FLOAT
 pub magnitude-is : (x : Float) → float_with_sign false x ≡ magnitude x
