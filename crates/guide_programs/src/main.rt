@@ -27,52 +27,58 @@
 // later.
 #![tactic(auto)]
 
-mod code;
 mod programs;
 mod show;
 
-use running::MOST_ROUNDS;
+use crate::show::{Show, Turns};
 use std::io;
 
 fn main(rt: HostRuntime) -> io::Result<()> {
-    show::stacks(&rt, b"A.1, two numbers", programs::numbers())?;
-    show::stacks(&rt, b"A.1, a string", programs::hello())?;
-    show::run(&rt, b"A.2", programs::printed(), MOST_ROUNDS)?;
-    show::run(&rt, b"A.3.2", programs::branch(), MOST_ROUNDS)?;
-    show::run(&rt, b"A.3.3, 33 rounds of it", programs::endless(), 33)?;
-    show::run(&rt, b"A.3.4", programs::counted(), MOST_ROUNDS)?;
-    show::run(&rt, b"A.4", programs::blink(), MOST_ROUNDS)?;
-    show::run(
-        &rt,
-        b"A.4 with prints for pins, 38 rounds of it",
-        programs::blink_printed(),
-        38,
-    )?;
-    show::run(&rt, b"A.5", programs::written(), MOST_ROUNDS)?;
-    show::run(&rt, b"A.6 as printed", programs::forked(), MOST_ROUNDS)?;
-    show::run(
-        &rt,
-        b"A.6 with its missing STRING",
-        programs::forked_string(),
-        MOST_ROUNDS,
-    )?;
-    show::run(&rt, b"Q-3, load lamps", programs::load_lamps(), MOST_ROUNDS)?;
-    show::run_beside(
-        &rt,
-        b"Q-9, A.3.4 with a share of 8 beside A.3.4, 8 rounds of it",
-        programs::counted(),
-        8,
-    )?;
-    show::run_beside(
-        &rt,
-        b"Q-9, A.3.4 with a share of 8 beside A.3.4",
-        programs::counted(),
-        MOST_ROUNDS,
-    )?;
-    show::run_shared(
-        &rt,
-        b"Q-9, A.4 with prints for pins and a share of 8, 13 rounds of it",
-        programs::blink_printed(),
-        13,
-    )
+    for (title, rows) in [
+        ("A.1, two numbers", programs::NUMBERS),
+        ("A.1, a string", programs::HELLO),
+    ] {
+        show::run(&rt, &Show::to_end(title, rows), |board| show::print_stack(&rt, board))?;
+    }
+    let forked = programs::forked();
+    let forked_string = programs::forked_string();
+    let shows = [
+        Show::to_end("A.2", programs::PRINTED),
+        Show::to_end("A.3.2", programs::BRANCH),
+        Show {
+            most: 33,
+            ..Show::to_end("A.3.3, 33 rounds of it", programs::ENDLESS)
+        },
+        Show::to_end("A.3.4", programs::COUNTED),
+        Show::to_end("A.4", programs::BLINK),
+        Show {
+            most: 38,
+            ..Show::to_end("A.4 with prints for pins, 38 rounds of it", programs::BLINK_PRINTED)
+        },
+        Show::to_end("A.5", programs::WRITTEN),
+        Show::to_end("A.6 as printed", &forked),
+        Show::to_end("A.6 with its missing STRING", &forked_string),
+        Show::to_end("Q-3, load lamps", programs::LOAD_LAMPS),
+        Show {
+            turns: Turns::MostBesideOne,
+            most: 8,
+            ..Show::to_end("Q-9, A.3.4 with a share of 8 beside A.3.4, 8 rounds of it", programs::COUNTED)
+        },
+        Show {
+            turns: Turns::MostBesideOne,
+            ..Show::to_end("Q-9, A.3.4 with a share of 8 beside A.3.4", programs::COUNTED)
+        },
+        Show {
+            turns: Turns::Most,
+            most: 13,
+            ..Show::to_end(
+                "Q-9, A.4 with prints for pins and a share of 8, 13 rounds of it",
+                programs::BLINK_PRINTED,
+            )
+        },
+    ];
+    for show in &shows {
+        show::run(&rt, show, |_| Ok(()))?;
+    }
+    Ok(())
 }

@@ -9,54 +9,38 @@ use std::io;
 const THIRD_START: usize = 2 * ENTRY_SIZE + NAME_SIZE;
 
 // "*store* takes up to 863 or 3,935"
-fn sizes(rt: &impl Print) -> io::Result<()> {
-    let mut full = [0u8; LONG_DISC];
-    discs::store(
-        rt,
-        b"store 3,935 bytes on an empty long disc",
-        &mut full,
-        &[1u8; 3935],
-    )?;
-    let mut empty = [0u8; LONG_DISC];
-    discs::refused_store(
-        rt,
-        b"store 3,936 bytes on an empty long disc",
-        &[0u8; LONG_DISC],
-        &mut empty,
-        &[1u8; 3936],
-    )
+fn sizes(rt: &(impl Print + AllocGlobal)) -> io::Result<()> {
+    discs::store(rt, "store 3,935 bytes on an empty long disc", LONG_DISC, 3935)?;
+    discs::store(rt, "store 3,936 bytes on an empty long disc", LONG_DISC, 3936)
 }
 
 // Stores these bytes beside files of 100, 100 and 100 bytes, the second erased. Their entry is the third.
 fn store_in_gap(disc: &mut [u8], data: &[u8]) {
-    let mut area = [0u8; AREA_LENGTH];
+    let mut area = [0; AREA_LENGTH];
     export::arduinos_format(disc, &mut area);
-    export::arduinos_store(disc, b"one", &[1u8; 100]);
-    export::arduinos_store(disc, b"two", &[2u8; 100]);
-    export::arduinos_store(disc, b"three", &[3u8; 100]);
+    for (name, byte) in [("one", 1), ("two", 2), ("three", 3)] {
+        export::arduinos_store(disc, name.as_bytes(), &[byte; 100]);
+    }
     export::arduinos_erase(disc, &area, b"two");
     export::arduinos_store(disc, b"new", data);
 }
 
-fn print_start(rt: &impl Print, label: &[u8], start: u16) -> io::Result<()> {
-    printing::line(rt, label, start as i32)
-}
-
 // Document 01, K12: "files of 100, 100, 100, the second erased: 100 bytes go to 261, 101 to 461"
-fn places(rt: &impl Print) -> io::Result<()> {
-    let mut disc = [0u8; LONG_DISC];
-    store_in_gap(&mut disc, &[4u8; 100]);
-    print_start(rt, b"start of 100 bytes", word_at(&disc, THIRD_START))?;
-    store_in_gap(&mut disc, &[4u8; 101]);
-    print_start(rt, b"start of 101 bytes", word_at(&disc, THIRD_START))
+fn places(rt: &(impl Print + AllocGlobal)) -> io::Result<()> {
+    let mut disc = [0; LONG_DISC];
+    for size in [100, 101] {
+        let data = vec![in rt.alloc(); 4; size]?;
+        store_in_gap(&mut disc, &data);
+        println!(rt; "start of {size} bytes: {}", word_at(&disc, THIRD_START))?;
+    }
+    Ok(())
 }
 
-pub fn cases(rt: &impl Print) -> io::Result<()> {
+pub fn cases(rt: &(impl Print + AllocGlobal)) -> io::Result<()> {
     sizes(rt)?;
-    printing::text(rt, b"and on a long disc:\n")?;
+    println!(rt; "and on a long disc:")?;
     places(rt)?;
-    let mut disc = [255u8; LONG_DISC];
-    variables::another(rt, &mut disc)?;
-    variables::again(rt, &mut disc)?;
+    let mut disc = [255; LONG_DISC];
+    variables::cases(rt, &mut disc)?;
     running::bench::bench(rt, &mut disc)
 }

@@ -5,6 +5,7 @@
 
 mod discs;
 mod long_discs;
+mod runs;
 mod shares;
 mod variables;
 
@@ -14,10 +15,8 @@ use std::io;
 fn main(rt: HostRuntime) -> io::Result<()> {
     discs::sizes(&rt)?;
     let mut disc = [0u8; SHORT_DISC];
-    variables::another(&rt, &mut disc)?;
-    variables::again(&rt, &mut disc)?;
-    shares::alone(&rt, &mut disc)?;
-    shares::beside(&rt, &mut disc)?;
+    variables::cases(&rt, &mut disc)?;
+    shares::cases(&rt, &mut disc)?;
     discs::wrong_lengths(&rt)?;
     discs::damaged(&rt)?;
     long_discs::cases(&rt)

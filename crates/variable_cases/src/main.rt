@@ -2,8 +2,7 @@
 #![tactic(auto)]
 
 mod cases;
-mod print;
-mod sets;
+mod memory;
 
 use std::io;
 
