@@ -38,7 +38,11 @@ fn main(rt: HostRuntime) -> io::Result<()> {
         ("A.1, two numbers", programs::NUMBERS),
         ("A.1, a string", programs::HELLO),
     ] {
-        show::run(&rt, &Show::to_end(title, rows), |board| show::print_stack(&rt, board))?;
+        show::run(
+            &rt,
+            &Show::to_end(title, rows),
+            |board| show::print_stack(&rt, board),
+        )?;
     }
     let forked = programs::forked();
     let forked_string = programs::forked_string();
@@ -53,7 +57,10 @@ fn main(rt: HostRuntime) -> io::Result<()> {
         Show::to_end("A.4", programs::BLINK),
         Show {
             most: 38,
-            ..Show::to_end("A.4 with prints for pins, 38 rounds of it", programs::BLINK_PRINTED)
+            ..Show::to_end(
+                "A.4 with prints for pins, 38 rounds of it",
+                programs::BLINK_PRINTED,
+            )
         },
         Show::to_end("A.5", programs::WRITTEN),
         Show::to_end("A.6 as printed", &forked),
@@ -62,11 +69,17 @@ fn main(rt: HostRuntime) -> io::Result<()> {
         Show {
             turns: Turns::MostBesideOne,
             most: 8,
-            ..Show::to_end("Q-9, A.3.4 with a share of 8 beside A.3.4, 8 rounds of it", programs::COUNTED)
+            ..Show::to_end(
+                "Q-9, A.3.4 with a share of 8 beside A.3.4, 8 rounds of it",
+                programs::COUNTED,
+            )
         },
         Show {
             turns: Turns::MostBesideOne,
-            ..Show::to_end("Q-9, A.3.4 with a share of 8 beside A.3.4", programs::COUNTED)
+            ..Show::to_end(
+                "Q-9, A.3.4 with a share of 8 beside A.3.4",
+                programs::COUNTED,
+            )
         },
         Show {
             turns: Turns::Most,

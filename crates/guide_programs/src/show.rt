@@ -2,7 +2,6 @@
 use disc::layout::SHORT_DISC;
 use machine::limits::{AREA_LENGTH, MAX_SHARE, RECORDS_AT};
 use running::board::{Board, MOST_ROUNDS};
-use std::alloc::{AllocError, Global};
 use std::io;
 
 // Milliseconds from one round to the next.
@@ -46,18 +45,17 @@ impl<'a> Show<'a> {
     }
 }
 
-fn start(alloc: Global, show: &Show, board: &mut Board) -> Result<(), AllocError> {
-    let code = show.rows.concat(alloc)?;
-    export::arduinos_format(board.disc, &mut board.area);
-    export::arduinos_store(board.disc, b"guide", &code);
-    export::arduinos_run(board.disc, &mut board.area, b"guide");
+// The operations up to the first round.
+fn start(show: &Show, code: &[u8], disc: &mut [u8], area: &mut [u8]) {
+    export::arduinos_format(disc, area);
+    export::arduinos_store(disc, b"guide", code);
+    export::arduinos_run(disc, area, b"guide");
     if show.turns != Turns::One {
-        export::arduinos_share(board.disc, &mut board.area, FIRST_ID, u32::from(MAX_SHARE));
+        export::arduinos_share(disc, area, FIRST_ID, u32::from(MAX_SHARE));
     }
     if show.turns == Turns::MostBesideOne {
-        export::arduinos_run(board.disc, &mut board.area, b"guide");
+        export::arduinos_run(disc, area, b"guide");
     }
-    Ok(())
 }
 
 // Runs a program, with what the caller asks for after each round.
@@ -69,12 +67,14 @@ pub fn run<F: FnMut(&Board) -> io::Result<()>>(
     requires { F.IsAlwaysCallable after }
 {
     println!(rt; "{}", show.title)?;
+    let code = show.rows.concat(rt.alloc())?;
     let mut disc = [0; SHORT_DISC];
+    let mut area = [0; AREA_LENGTH];
+    start(show, &code, &mut disc, &mut area);
     let mut board = Board {
         disc: &mut disc,
-        area: [0; AREA_LENGTH],
+        area,
     };
-    start(rt.alloc(), show, &mut board)?;
     let rounds = board.rounds(rt, STEP, show.most, after)?;
     board.print_end(rt, rounds)
 }

@@ -45,7 +45,11 @@ fn erase(
 pub fn wrong_lengths(rt: &(impl Print + AllocGlobal)) -> io::Result<()> {
     for length in [1025, 2048, 4095] {
         let mut disc = vec![in rt.alloc(); 0; length]?;
-        erase(rt, format_args!("erase on a disc of {length} bytes"), &mut disc)?;
+        erase(
+            rt,
+            format_args!("erase on a disc of {length} bytes"),
+            &mut disc,
+        )?;
     }
     Ok(())
 }

@@ -10,8 +10,18 @@ const THIRD_START: usize = 2 * ENTRY_SIZE + NAME_SIZE;
 
 // "*store* takes up to 863 or 3,935"
 fn sizes(rt: &(impl Print + AllocGlobal)) -> io::Result<()> {
-    discs::store(rt, "store 3,935 bytes on an empty long disc", LONG_DISC, 3935)?;
-    discs::store(rt, "store 3,936 bytes on an empty long disc", LONG_DISC, 3936)
+    discs::store(
+        rt,
+        "store 3,935 bytes on an empty long disc",
+        LONG_DISC,
+        3935,
+    )?;
+    discs::store(
+        rt,
+        "store 3,936 bytes on an empty long disc",
+        LONG_DISC,
+        3936,
+    )
 }
 
 // Stores these bytes beside files of 100, 100 and 100 bytes, the second erased. Their entry is the third.

@@ -15,18 +15,15 @@ pub fn cases(rt: &impl Print, disc: &mut [u8]) -> io::Result<()> {
         ("down with a share of 8", false),
         ("down with a share of 8, and down without", true),
     ] {
-        let mut board = Board {
-            disc,
-            area: [0; AREA_LENGTH],
-        };
-        export::arduinos_format(board.disc, &mut board.area);
-        export::arduinos_store(board.disc, b"down", &DOWN);
-        export::arduinos_run(board.disc, &mut board.area, b"down");
-        export::arduinos_share(board.disc, &mut board.area, FIRST_ID, u32::from(MAX_SHARE));
+        let mut area = [0; AREA_LENGTH];
+        export::arduinos_format(disc, &mut area);
+        export::arduinos_store(disc, b"down", &DOWN);
+        export::arduinos_run(disc, &mut area, b"down");
+        export::arduinos_share(disc, &mut area, FIRST_ID, u32::from(MAX_SHARE));
         if beside {
-            export::arduinos_run(board.disc, &mut board.area, b"down");
+            export::arduinos_run(disc, &mut area, b"down");
         }
-        run(rt, label, &mut board)?;
+        run(rt, label, &mut Board { disc, area })?;
     }
     Ok(())
 }

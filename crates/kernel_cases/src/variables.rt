@@ -27,14 +27,11 @@ pub fn cases(rt: &(impl Print + AllocGlobal), disc: &mut [u8]) -> io::Result<()>
         ("a program that sets one of its 25 variables again", 7),
     ] {
         let code = setting(rt.alloc(), last)?;
-        let mut board = Board {
-            disc,
-            area: [0; AREA_LENGTH],
-        };
-        export::arduinos_format(board.disc, &mut board.area);
-        export::arduinos_store(board.disc, b"sets", &code);
-        export::arduinos_run(board.disc, &mut board.area, b"sets");
-        run(rt, label, &mut board)?;
+        let mut area = [0; AREA_LENGTH];
+        export::arduinos_format(disc, &mut area);
+        export::arduinos_store(disc, b"sets", &code);
+        export::arduinos_run(disc, &mut area, b"sets");
+        run(rt, label, &mut Board { disc, area })?;
     }
     Ok(())
 }

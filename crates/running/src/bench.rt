@@ -1,5 +1,5 @@
 // Document 01's program bench: its program down stored, listed, run and gone, on a disc of either length.
-use crate::board::{Board, MOST_ROUNDS};
+use crate::board::{Board, MOST_ROUNDS, print_output};
 use machine::limits::AREA_LENGTH;
 use std::io;
 
@@ -24,15 +24,13 @@ pub const DOWN: [u8; 20] = [
 // The disc may hold any bytes before. Another number of rounds gets a line of its own, which the file stdout does not
 // have.
 pub fn bench(rt: &impl Print, disc: &mut [u8]) -> io::Result<()> {
-    let mut board = Board {
-        disc,
-        area: [255; AREA_LENGTH],
-    };
-    export::arduinos_format(board.disc, &mut board.area);
-    export::arduinos_store(board.disc, b"down", &DOWN);
-    board.print_files(rt)?;
-    export::arduinos_run(board.disc, &mut board.area, b"down");
-    board.print_list(rt)?;
+    let mut area = [255; AREA_LENGTH];
+    export::arduinos_format(disc, &mut area);
+    export::arduinos_store(disc, b"down", &DOWN);
+    print_output(rt, |out| export::arduinos_files(disc, out))?;
+    export::arduinos_run(disc, &mut area, b"down");
+    print_output(rt, |out| export::arduinos_list(disc, &area, out))?;
+    let mut board = Board { disc, area };
     let rounds = board.rounds(rt, 1, MOST_ROUNDS, |_| Ok(()))?;
     if rounds != ROUNDS {
         println!(rt; "rounds: {rounds}")?;

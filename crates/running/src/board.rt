@@ -1,4 +1,5 @@
 // A disc with the work area beside it, as the firmware holds them.
+ghost use Rattle.std.specs.Prelude.{◌≤◌, IfOk};
 
 use buffer::bytes::word_at;
 use machine::limits::{AREA_LENGTH, RECORD_SIZE, RECORDS_AT, ROUND_ROOM};
@@ -37,14 +38,6 @@ impl Board<'_> {
         )
     }
 
-    pub fn print_files(&self, rt: &impl Print) -> io::Result<()> {
-        print_output(rt, |out| export::arduinos_files(self.disc, out))
-    }
-
-    pub fn print_list(&self, rt: &impl Print) -> io::Result<()> {
-        print_output(rt, |out| export::arduinos_list(self.disc, &self.area, out))
-    }
-
     // Rounds until no process lives, and so many at most. The clock is 0 in the first and goes on by that step; after
     // each round comes what the caller asks for. Answers how many rounds they were.
     pub fn rounds<F: FnMut(&Board) -> io::Result<()>>(
@@ -55,6 +48,7 @@ impl Board<'_> {
         mut after: F,
     ) -> io::Result<u16>
         requires { F.IsAlwaysCallable after }
+        ensures { IfOk result (λ count. count ≤ most) }
     {
         let mut clock: u32 = 0;
         for count in 0..most {
@@ -81,7 +75,7 @@ impl Board<'_> {
 
 // What an operation writes into the output that it is lent, as many bytes as it returns; of a refused one a line with
 // the number.
-fn print_output<F: FnOnce(&mut [u8]) -> i32>(rt: &impl Print, operation: F) -> io::Result<()>
+pub fn print_output<F: FnOnce(&mut [u8]) -> i32>(rt: &impl Print, operation: F) -> io::Result<()>
     requires { F.IsAlwaysCallable operation }
 {
     let mut out = [0u8; ROUND_ROOM];

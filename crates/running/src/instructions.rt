@@ -1,4 +1,5 @@
-// Instructions by their place in the guide's appendix C, those that programs here are written with.
+// Instructions by their place in the guide's appendix C, those that programs here are written with. They are bytes
+// and no enum: a program is rows of bytes, in which operands stand between them.
 pub const CHAR: u8 = 1;
 
 pub const INT: u8 = 2;
