@@ -13,18 +13,8 @@ use std::io::Read;
 const WHOLES: [i32; 8] = [0, 1, -1, 32767, -32768, 16777217, 2147483647, -2147483648];
 
 // 32 bits in two's complement, and 2^32 for out of range.
-fn whole_code(w: Option<i32>) -> u64 {
-    match w {
-        Some(z) => u64::from(z.cast_unsigned()),
-        None => 0x1_0000_0000,
-    }
-}
-
-fn size_code(s: Option<u16>) -> u64 {
-    match s {
-        Some(n) => n as u64,
-        None => 0,
-    }
+fn whole_code(whole: Option<i32>) -> u64 {
+    whole.map_or(0x1_0000_0000, |z| u64::from(z.cast_unsigned()))
 }
 
 // The kind of a text, one more for a negative number's, and its hundredths.
@@ -60,13 +50,13 @@ fn print_line(rt: &impl Print, bytes: [u8; 4]) -> io::Result<()> {
         whole_code(to_whole(x, Rounding::HalfAway, 32767)),
         whole_code(to_whole(x, Rounding::Down, 32767)),
         whole_code(to_whole(x, Rounding::Up, 32767)),
-        size_code(to_size(x, 863)),
+        to_size(x, 863).unwrap_or(0),
         kind,
         hundredths,
         mask(x),
         u8::from(is_zero(x)),
         to_bits(sqrt(x)),
-        size_code(to_size(x, 3935))
+        to_size(x, 3935).unwrap_or(0)
     )
 }
 
