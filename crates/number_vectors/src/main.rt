@@ -15,9 +15,13 @@ use crate::operands::Grid;
 use operator::instruction::operator;
 use operator::operators::{Operator, Scaling};
 use std::io;
-use std::io::Read;
 
-fn write_scaling(rt: &impl Print, instruction: u8, o: Scaling, grid: &Grid) -> io::Result<()> {
+fn write_scaling(
+    rt: &(impl Print + AllocGlobal),
+    instruction: u8,
+    o: Scaling,
+    grid: &Grid,
+) -> io::Result<()> {
     match o {
         Scaling::Constrain => constrain::write_lines(rt, instruction, grid),
         Scaling::Map => map::write_lines(rt, instruction, grid),
@@ -25,7 +29,7 @@ fn write_scaling(rt: &impl Print, instruction: u8, o: Scaling, grid: &Grid) -> i
     }
 }
 
-fn write_operator(rt: &impl Print, instruction: u8, grid: &Grid) -> io::Result<()> {
+fn write_operator(rt: &(impl Print + AllocGlobal), instruction: u8, grid: &Grid) -> io::Result<()> {
     match operator(instruction) {
         Operator::OfOne(o) => unary::write_lines(rt, instruction, o, grid),
         Operator::OfTwo(o) => binary::write_lines(rt, instruction, o, grid),
@@ -34,7 +38,7 @@ fn write_operator(rt: &impl Print, instruction: u8, grid: &Grid) -> io::Result<(
     }
 }
 
-fn write_operators(rt: &impl Print, grid: &Grid) -> io::Result<()> {
+fn write_operators(rt: &(impl Print + AllocGlobal), grid: &Grid) -> io::Result<()> {
     for instruction in 0..=u8::MAX {
         write_operator(rt, instruction, grid)?;
     }
@@ -42,8 +46,7 @@ fn write_operators(rt: &impl Print, grid: &Grid) -> io::Result<()> {
 }
 
 fn main(rt: HostRuntime) -> io::Result<()> {
-    let mut grid = [0u8; 1000];
-    rt.reader().read_exact(&mut grid)?;
+    let grid = Grid::read(&mut rt.reader())?;
     write_operators(&rt, &grid)?;
     text::write_lines(&rt, &grid)?;
     types::write_lines(&rt)

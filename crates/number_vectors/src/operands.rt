@@ -1,61 +1,94 @@
 // Operands: every CHAR and every INT by its bits, and those of the grid that is read.
-ghost use Rattle.std.specs.Prelude.{◌<◌};
-
 use number::Number;
 use number::value::decode;
+use std::alloc::{AllocError, Global};
+use std::io::Read;
+use std::{fmt, io};
 
-pub const CHAR: u8 = 1;
-
-pub const INT: u8 = 2;
-
-pub const FLOAT: u8 = 4;
-
-// Operands of five bytes: a type and the value's bytes, as they lie on the stack. Type 0 is no operand.
-pub type Grid = [u8; 1000];
-
-pub const OPERANDS: usize = 200;
-
-// How many values a CHAR or an INT has.
-pub fn values(kind: u8) -> u32 {
-    if kind == CHAR { 256 } else { 65536 }
+// A type, with its byte on the stack.
+#[derive(Clone, Copy, PartialEq, Eq)]
+pub enum Kind {
+    Char = 1,
+    Int = 2,
+    Float = 4,
 }
 
-// The CHAR or INT of these bits.
-pub fn whole(kind: u8, bits: u32) -> Number {
-    let high = (bits / 256 % 256) as u8;
-    let low = (bits % 256) as u8;
-    if kind == CHAR {
-        decode(CHAR, low, 0, 0, 0)
-    } else {
-        decode(INT, high, low, 0, 0)
+impl Kind {
+    pub const ALL: [Kind; 3] = [Kind::Char, Kind::Int, Kind::Float];
+
+    // The types in their order, over and over.
+    pub fn by(n: u32) -> Self {
+        match n % 3 {
+            0 => Kind::Char,
+            1 => Kind::Int,
+            _ => Kind::Float,
+        }
     }
 }
 
-pub fn kind_at(grid: &Grid, i: usize) -> u8
-    requires { i < 200 }
-{
-    grid[i * 5]
+impl fmt::Display for Kind {
+    fn fmt<W: fmt::Write>(&self, f: &mut fmt::Formatter<W>) -> fmt::Result {
+        let byte = *self as u8;
+        write!(f, "{byte}")
+    }
 }
 
-pub fn operand_at(grid: &Grid, i: usize) -> Number
-    requires { i < 200 }
-{
-    let at = i * 5;
-    decode(
-        grid[at],
-        grid[at + 1],
-        grid[at + 2],
-        grid[at + 3],
-        grid[at + 4],
-    )
+// An operand of the grid: five bytes, a type and the value's bytes, as they lie on the stack. Type 0 is no operand.
+#[derive(Clone, Copy)]
+struct Operand {
+    kind: u8,
+    number: Number,
 }
 
-// The types in their order, over and over.
-pub fn kind_by(n: u32) -> u8 {
-    match n % 3 {
-        0 => CHAR,
-        1 => INT,
-        _ => FLOAT,
+impl From<[u8; 5]> for Operand {
+    fn from(bytes: [u8; 5]) -> Self {
+        let [kind, a, b, c, d] = bytes;
+        Operand {
+            kind,
+            number: decode(kind, a, b, c, d),
+        }
+    }
+}
+
+// It has 20 CHARs, then 27 INTs, then 146 FLOATs.
+#[derive(Drop)]
+pub struct Grid([Operand; 200]);
+
+impl Grid {
+    pub fn read(input: &mut impl Read) -> io::Result<Self> {
+        let mut operands = [Operand::from([0; 5]); 200];
+        for operand in &mut operands {
+            let mut bytes = [0; 5];
+            input.read_exact(&mut bytes)?;
+            *operand = Operand::from(bytes);
+        }
+        Ok(Grid(operands))
+    }
+
+    // The operands of a type.
+    pub fn of(&self, alloc: Global, kind: Kind) -> Result<Vec<Number>, AllocError> {
+        self.0
+            .iter()
+            .filter(|operand| operand.kind == kind as u8)
+            .map(|operand| operand.number)
+            .collect(alloc)
+    }
+
+    // The operand of this type for a number drawn: every other one is of the grid.
+    pub fn drawn(&self, kind: Kind, draw: u32) -> Number {
+        let n = draw / 2;
+        if draw % 2 == 0 {
+            let place = match kind {
+                Kind::Char => n % 20,
+                Kind::Int => 20 + n % 27,
+                Kind::Float => 47 + n % 146,
+            };
+            self.0[place as usize].number
+        } else if kind == Kind::Float {
+            moderate(n)
+        } else {
+            whole(kind, n)
+        }
     }
 }
 
@@ -65,28 +98,37 @@ fn moderate(n: u32) -> Number {
     let second = n / 8 % 256;
     let third = n / 2048 % 256;
     let fourth = n / 524288 % 256;
-    decode(FLOAT, high as u8, second as u8, third as u8, fourth as u8)
+    decode(
+        Kind::Float as u8,
+        high as u8,
+        second as u8,
+        third as u8,
+        fourth as u8,
+    )
 }
 
-// The grid has 20 CHARs, then 27 INTs, then 146 FLOATs.
-fn of_grid(grid: &Grid, kind: u8, n: u32) -> Number {
-    if kind == CHAR {
-        operand_at(grid, (n % 20) as usize)
-    } else if kind == INT {
-        operand_at(grid, (20 + n % 27) as usize)
+// The CHAR or INT of these bits.
+pub fn whole(kind: Kind, bits: u32) -> Number {
+    let high = (bits / 256 % 256) as u8;
+    let low = (bits % 256) as u8;
+    if kind == Kind::Char {
+        decode(Kind::Char as u8, low, 0, 0, 0)
     } else {
-        operand_at(grid, (47 + n % 146) as usize)
+        decode(Kind::Int as u8, high, low, 0, 0)
     }
 }
 
-// The operand of this type for a number drawn: every other one is of the grid.
-pub fn drawn(grid: &Grid, kind: u8, draw: u32) -> Number {
-    let n = draw / 2;
-    if draw % 2 == 0 {
-        of_grid(grid, kind, n)
-    } else if kind == FLOAT {
-        moderate(n)
+// Every CHAR or every INT, by its bits.
+pub fn wholes(alloc: Global, kind: Kind) -> Result<Vec<Number>, AllocError> {
+    let end = if kind == Kind::Char { 256 } else { 65536 };
+    (0..end).map(|bits| whole(kind, bits)).collect(alloc)
+}
+
+// Every CHAR, every INT, and the FLOATs of the grid.
+pub fn every(alloc: Global, grid: &Grid, kind: Kind) -> Result<Vec<Number>, AllocError> {
+    if kind == Kind::Float {
+        grid.of(alloc, kind)
     } else {
-        whole(kind, n)
+        wholes(alloc, kind)
     }
 }

@@ -1,71 +1,67 @@
 // A checksum over outcomes, with the number of faults.
+ghost use Rattle.std.specs.Iterator.{IsFinite};
+
 use number::Number;
 use number::value::encode;
 use operator::{ArithmeticError, Outcome};
-use std::io;
+use std::fmt;
 
 // The greatest prime below 2^32.
 const MODULUS: u64 = 4294967291;
 
-// How many outcomes are faults 7 and 8, beside the checksum of all.
-#[derive(Clone, Copy)]
-pub struct Tally {
-    pub sum: u32,
-    pub sevens: u32,
-    pub eights: u32,
-}
-
-pub fn empty() -> Tally {
-    Tally {
-        sum: 0,
-        sevens: 0,
-        eights: 0,
-    }
-}
-
 // The checksum with one byte more.
-pub fn checksum(sum: u32, byte: u8) -> u32 {
-    (((sum as u64) * 16777619 + (byte as u64)) % MODULUS) as u32
+fn checksum_byte(sum: u32, byte: u8) -> u32 {
+    ((u64::from(sum) * 16777619 + u64::from(byte)) % MODULUS) as u32
 }
 
-fn checksum_value(sum: u32, a: Number) -> u32 {
-    let encoded = encode(a);
-    let bytes = encoded.bytes;
-    let first = checksum(checksum(sum, encoded.kind), bytes[0]);
-    checksum(checksum(checksum(first, bytes[1]), bytes[2]), bytes[3])
+// The checksum with these bytes more.
+pub fn checksum(start: u32, bytes: &[u8]) -> u32 {
+    bytes
+        .iter()
+        .fold(start, |sum, byte| checksum_byte(sum, *byte))
 }
 
-pub fn count(t: Tally, outcome: Outcome) -> Tally {
-    match outcome {
-        Ok(a) => Tally {
-            sum: checksum_value(t.sum, a),
-            sevens: t.sevens,
-            eights: t.eights,
-        },
-        Err(ArithmeticError::DivisionByZero) => Tally {
-            sum: checksum(t.sum, 7),
-            sevens: t.sevens.wrapping_add(1),
-            eights: t.eights,
-        },
-        Err(ArithmeticError::OutOfRange) => Tally {
-            sum: checksum(t.sum, 8),
-            sevens: t.sevens,
-            eights: t.eights.wrapping_add(1),
-        },
+// How many outcomes are faults 7 and 8, beside the checksum of all.
+#[derive(Clone, Copy, Default)]
+pub struct Tally {
+    sum: u32,
+    sevens: u32,
+    eights: u32,
+}
+
+impl Tally {
+    fn count_value(&mut self, a: Number) {
+        let encoded = encode(a);
+        self.sum = checksum(self.sum, &[encoded.kind]);
+        self.sum = checksum(self.sum, &encoded.bytes);
+    }
+
+    pub fn count(&mut self, outcome: Outcome) {
+        match outcome {
+            Ok(a) => self.count_value(a),
+            Err(ArithmeticError::DivisionByZero) => {
+                self.sum = checksum(self.sum, &[7]);
+                self.sevens = self.sevens.wrapping_add(1);
+            }
+            Err(ArithmeticError::OutOfRange) => {
+                self.sum = checksum(self.sum, &[8]);
+                self.eights = self.eights.wrapping_add(1);
+            }
+        }
+    }
+
+    pub fn count_all<I: Iterator<Item = Outcome>>(&mut self, outcomes: I)
+        requires can { I.can_next outcomes }
+        requires ends { IsFinite (I.remaining outcomes) }
+    {
+        for outcome in outcomes {
+            self.count(outcome);
+        }
     }
 }
 
-pub fn write_field(rt: &impl Print, n: u32) -> io::Result<()> {
-    print!(rt; " {n}")
-}
-
-pub fn write_sum(rt: &impl Print, sum: u32) -> io::Result<()> {
-    print!(rt; " {sum:08x}")
-}
-
-pub fn write_tally(rt: &impl Print, t: Tally) -> io::Result<()> {
-    write_sum(rt, t.sum)?;
-    write_field(rt, t.sevens)?;
-    write_field(rt, t.eights)?;
-    println!(rt;)
+impl fmt::Display for Tally {
+    fn fmt<W: fmt::Write>(&self, f: &mut fmt::Formatter<W>) -> fmt::Result {
+        write!(f, "{:08x} {} {}", self.sum, self.sevens, self.eights)
+    }
 }

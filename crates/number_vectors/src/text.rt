@@ -1,68 +1,53 @@
 // What PRINT writes of numbers.
-use crate::operands::{CHAR, FLOAT, Grid, INT, OPERANDS, kind_at, operand_at, values, whole};
-use crate::tally::{checksum, write_sum};
+use crate::operands::{Grid, Kind, whole, wholes};
+use crate::tally::checksum;
 use number::Number;
 use number::text::{Text, write};
 use std::io;
 
-fn write_prefix(rt: &impl Print, bytes: &[u8], len: usize) -> io::Result<()> {
-    if len <= bytes.len() {
-        rt.write_all(&bytes[..len])?;
-    }
-    println!(rt;)
+fn bytes_of(text: &Text) -> &[u8] {
+    text.bytes.get(..text.len).unwrap_or(&[])
 }
 
 fn write_line(rt: &impl Print, a: Number) -> io::Result<()> {
-    let text = write(a);
-    let bytes = text.bytes;
-    write_prefix(rt, &bytes, text.len)
+    rt.write_all(bytes_of(&write(a)))?;
+    println!(rt;)
 }
 
 // 997 times -32 to 32, as bits of INT.
 fn write_multiples(rt: &impl Print) -> io::Result<()> {
     for k in 0..65 {
-        write_line(rt, whole(INT, 33632 + 997 * k))?;
+        write_line(rt, whole(Kind::Int, 33632 + 997 * k))?;
     }
     Ok(())
 }
 
-fn write_type(rt: &impl Print, kind: u8, grid: &Grid) -> io::Result<()> {
-    for i in 0..OPERANDS {
-        if kind_at(grid, i) == kind {
-            write_line(rt, operand_at(grid, i))?;
-        }
+fn write_texts(rt: &impl Print, numbers: &[Number]) -> io::Result<()> {
+    for a in numbers {
+        write_line(rt, *a)?;
     }
     Ok(())
 }
 
-fn checksum_prefix(start: u32, bytes: &[u8; 16], len: usize) -> u32 {
-    let mut sum = checksum(start, (len % 256) as u8);
-    for byte in bytes.iter().take(len) {
-        sum = checksum(sum, *byte);
+// A length, then so many bytes, for each text.
+fn checksum_of(numbers: &[Number]) -> u32 {
+    let mut sum = 0;
+    for a in numbers {
+        let text = write(*a);
+        let bytes = bytes_of(&text);
+        sum = checksum(sum, &[(bytes.len() % 256) as u8]);
+        sum = checksum(sum, bytes);
     }
     sum
 }
 
-fn checksum_text(sum: u32, text: Text) -> u32 {
-    let bytes = text.bytes;
-    checksum_prefix(sum, &bytes, text.len)
-}
-
-fn write_every(rt: &impl Print, kind: u8) -> io::Result<()> {
-    let end = values(kind);
-    let mut sum: u32 = 0;
-    for bits in 0..end {
-        sum = checksum_text(sum, write(whole(kind, bits)));
-    }
-    rt.print(kind)?;
-    write_sum(rt, sum)?;
-    println!(rt;)
-}
-
-pub fn write_lines(rt: &impl Print, grid: &Grid) -> io::Result<()> {
+pub fn write_lines(rt: &(impl Print + AllocGlobal), grid: &Grid) -> io::Result<()> {
     write_multiples(rt)?;
-    write_type(rt, INT, grid)?;
-    write_type(rt, FLOAT, grid)?;
-    write_every(rt, CHAR)?;
-    write_every(rt, INT)
+    write_texts(rt, &grid.of(rt.alloc(), Kind::Int)?)?;
+    write_texts(rt, &grid.of(rt.alloc(), Kind::Float)?)?;
+    for kind in [Kind::Char, Kind::Int] {
+        let sum = checksum_of(&wholes(rt.alloc(), kind)?);
+        println!(rt; "{kind} {sum:08x}")?;
+    }
+    Ok(())
 }
