@@ -16,7 +16,7 @@ fn sizes(rt: &(impl Print + AllocGlobal)) -> io::Result<()> {
         LONG_DISC,
         3935,
     )?;
-    discs::store(
+    discs::refused_store(
         rt,
         "store 3,936 bytes on an empty long disc",
         LONG_DISC,

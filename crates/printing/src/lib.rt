@@ -3,15 +3,18 @@
 
 use std::{fmt, io};
 
-// The line of a call that must leave a buffer as it was.
-pub fn kept_line(
-    rt: &impl Print,
+// The line of a call that must leave a buffer as it was. The call works on a copy.
+pub fn kept<F: FnOnce(&mut [u8]) -> i32>(
+    rt: &(impl Print + AllocGlobal),
     label: impl fmt::Display + Drop,
-    number: i32,
-    before: &[u8],
-    after: &[u8],
-) -> io::Result<()> {
-    let state = if before == after {
+    buffer: &[u8],
+    call: F,
+) -> io::Result<()>
+    requires { F.IsAlwaysCallable call }
+{
+    let mut after = buffer.to_vec(rt.alloc())?;
+    let number = call(&mut after);
+    let state = if buffer == after.as_slice() {
         "untouched"
     } else {
         "changed"
@@ -20,6 +23,7 @@ pub fn kept_line(
 }
 
 // A buffer that is printed as eight digits. They differ for buffers that differ in one byte or in their length.
+#[derive(Clone, Copy)]
 pub struct Checksum<'a>(pub &'a [u8]);
 
 impl fmt::Display for Checksum<'_> {

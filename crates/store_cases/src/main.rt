@@ -3,7 +3,6 @@
 
 mod cases;
 mod discs;
-mod print;
 
 use std::io;
 
@@ -16,7 +15,7 @@ fn main(rt: HostRuntime) -> io::Result<()> {
     cases::damaged_disc(&rt)?;
     cases::files_text(&rt)?;
     cases::retrieved(&rt)?;
-    cases::free_space(&rt)?;
+    cases::free_spaces(&rt)?;
     cases::uncounted_entries(&rt)?;
     cases::erased_entry(&rt)
 }

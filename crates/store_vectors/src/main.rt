@@ -2,95 +2,88 @@
 // tools/vectors/generate.py writes that file, and the file stdout that the gate compares with.
 #![tactic(auto)]
 
-ghost use Rattle.std.specs.Io.{ReadsAtMost};
-ghost use Rattle.std.specs.Prelude.{◌≤◌, length, IfOk};
-
+use disc_operation::operations::{files, free_space, retrieve, store};
+use std::alloc::Global;
 use std::fs::File;
 use std::io;
 use std::io::{BufReader, Read};
-use store::Answer;
+use vectors::{LONGEST, print_line, read_length, run_all};
 
-// No buffer of a vector is longer.
-const LONGEST: usize = 4096;
+const LONGEST_NAME: usize = 16;
 
-// Reads the next buffer of a vector, its length in two bytes and then its bytes, and answers the length. One that has
-// no room counts as empty.
-fn read_part(input: &mut impl Read, buf: &mut [u8]) -> io::Result<usize>
-    ensures { ReadsAtMost result buf.new }
-{
-    let mut size = [0u8; 2];
-    input.read_exact(&mut size)?;
-    let len = buffer::bytes::word(size[0], size[1]) as usize;
-    if buf.len() < len {
-        return Ok(0);
-    }
-    input.read_exact(&mut buf[..len])?;
-    Ok(len)
+#[derive(Clone, Copy)]
+enum Operation {
+    Store,
+    Retrieve,
+    Files,
+    FreeSpace,
 }
 
-// The operation of a vector, told by its first letter; free space has 'u', for unused.
-fn perform(operation: u8, disc: &mut [u8], name: &[u8], bytes: &[u8], out: &mut [u8]) -> Answer {
-    match operation {
-        b's' => disc_operation::operations::store(disc, name, bytes),
-        b'r' => disc_operation::operations::retrieve(disc, name, out),
-        b'f' => disc_operation::operations::files(disc, out),
-        _ => disc_operation::operations::free_space(disc),
-    }
-}
-
-// A vector's line: its letter, the number, checksums of disc and output after the call.
-fn run(
-    rt: &impl Print,
-    operation: u8,
-    disc: &mut [u8],
-    name: &[u8],
-    bytes: &[u8],
-    out: &mut [u8],
-) -> io::Result<()> {
-    let answer = perform(operation, disc, name, bytes, out);
-    printing::text(rt, &[operation, b' '])?;
-    printing::number(rt, store::answer::number(answer))?;
-    printing::checksum(rt, disc)?;
-    printing::checksum(rt, out)?;
-    println!(rt;)
-}
-
-// Runs one vector, and answers whether there was one.
-fn run_next(rt: &impl Print, input: &mut impl Read) -> io::Result<bool> {
-    let mut operation = [0u8; 1];
-    if input.read(&mut operation)? == 0 {
-        return Ok(false);
-    }
-    let mut disc = [0u8; LONGEST];
-    let disc_len = read_part(input, &mut disc)?;
-    let mut name = [0u8; 16];
-    let name_len = read_part(input, &mut name)?;
-    let mut bytes = [0u8; LONGEST];
-    let len = read_part(input, &mut bytes)?;
-    let mut out = [0u8; LONGEST];
-    let out_len = read_part(input, &mut out)?;
-    run(
-        rt,
-        operation[0],
-        &mut disc[..disc_len],
-        &name[..name_len],
-        &bytes[..len],
-        &mut out[..out_len],
-    )?;
-    Ok(true)
-}
-
-// A proved loop ends; this one at the latest after so many vectors.
-fn run_all(rt: &impl Print, input: &mut impl Read) -> io::Result<()> {
-    for _ in 0..100000 {
-        if !run_next(rt, input)? {
-            break;
+// Told by the letter of a vector. Free space has 'u', for unused, and each letter that is no other's.
+impl From<u8> for Operation {
+    fn from(letter: u8) -> Self {
+        match letter {
+            b's' => Operation::Store,
+            b'r' => Operation::Retrieve,
+            b'f' => Operation::Files,
+            _ => Operation::FreeSpace,
         }
     }
-    Ok(())
+}
+
+// What follows the letter of a vector: the buffers of the call.
+#[derive(Drop)]
+struct Buffers {
+    disc: Vec<u8>,
+    name: Vec<u8>,
+    bytes: Vec<u8>,
+    out: Vec<u8>,
+}
+
+impl Buffers {
+    fn read(alloc: Global, input: &mut impl Read) -> io::Result<Self> {
+        Ok(Buffers {
+            disc: read_buffer(alloc, input, LONGEST)?,
+            name: read_buffer(alloc, input, LONGEST_NAME)?,
+            bytes: read_buffer(alloc, input, LONGEST)?,
+            out: read_buffer(alloc, input, LONGEST)?,
+        })
+    }
+}
+
+// A buffer's length, then its bytes.
+fn read_buffer(alloc: Global, input: &mut impl Read, most: usize) -> io::Result<Vec<u8>> {
+    let length = read_length(input, most)?;
+    let mut bytes = vec![in alloc; 0; length]?;
+    input.read_exact(&mut bytes)?;
+    Ok(bytes)
+}
+
+fn run(rt: &impl Print, letter: u8, buffers: Buffers) -> io::Result<()> {
+    let Buffers {
+        mut disc,
+        name,
+        bytes,
+        mut out,
+    } = buffers;
+    let answer = match Operation::from(letter) {
+        Operation::Store => store(&mut disc, &name, &bytes),
+        Operation::Retrieve => retrieve(&disc, &name, &mut out),
+        Operation::Files => files(&disc, &mut out),
+        Operation::FreeSpace => free_space(&disc),
+    };
+    print_line(
+        rt,
+        letter,
+        disc_operation::numbers::number(answer),
+        &[&disc, &out],
+    )
 }
 
 fn main(rt: HostRuntime) -> io::Result<()> {
+    let alloc = rt.alloc();
     let file = File::open(&rt, "vectors")?;
-    run_all(&rt, &mut BufReader::new(rt.alloc(), file)?)
+    run_all(&mut BufReader::new(alloc, file)?, |input, letter| {
+        run(&rt, letter, Buffers::read(alloc, input)?)
+    })
 }
