@@ -12,6 +12,7 @@ use std::alloc::Global;
 use std::fs::File;
 use std::io;
 use std::io::{BufReader, Read};
+use store::answer::number;
 use vectors::{LONGEST, print_line, read_length, run_all};
 
 #[derive(Clone, Copy)]
@@ -132,8 +133,7 @@ fn perform(rt: &impl Print, letter: u8, arguments: Arguments) -> io::Result<()> 
         Operation::Turn => turn(&mut disc, &mut area, first, second, &mut out),
         Operation::Round => round(&mut disc, &mut area, second, &mut out),
     };
-    let number = operation::numbers::number(answer);
-    print_line(rt, letter, number, &[&disc, &area, &out])
+    print_line(rt, letter, number(answer), &[&disc, &area, &out])
 }
 
 fn main(rt: HostRuntime) -> io::Result<()> {

@@ -2,10 +2,10 @@
 use crate::discs::{Disc, EMPTY, with, with_files, with_gap, with_garbage, without};
 use disc::directory::entry_at;
 use disc::layout::{COUNT_AT, DATA_START, ENTRY_SIZE};
-use disc_operation::numbers::number;
 use disc_operation::operations::{files, free_space, retrieve, store};
 use printing::kept;
 use std::io;
+use store::answer::number;
 
 // An output before the call.
 const DOTS: [u8; 14] = [b'.'; 14];

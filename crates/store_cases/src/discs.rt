@@ -1,7 +1,6 @@
 // The discs that the cases start from.
 use disc::layout::SHORT_DISC;
 use disc_operation::operations::{check, store};
-use store::Checked;
 
 pub type Disc = [u8; SHORT_DISC];
 
@@ -9,7 +8,7 @@ pub const EMPTY: Disc = [0; SHORT_DISC];
 
 // Erases the file of that name, if the disc is good and has one. Whether it is in use, only the kernel knows.
 fn erase(disc: &mut [u8], name: &[u8]) {
-    if let Checked::Usable = check(disc)
+    if let Ok(()) = check(disc)
         && let Some(i) = disc::directory::find(disc, name)
     {
         store::file::erase_entry(disc, i);

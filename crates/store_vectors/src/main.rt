@@ -7,6 +7,7 @@ use std::alloc::Global;
 use std::fs::File;
 use std::io;
 use std::io::{BufReader, Read};
+use store::answer::number;
 use vectors::{LONGEST, print_line, read_length, run_all};
 
 const LONGEST_NAME: usize = 16;
@@ -72,12 +73,7 @@ fn run(rt: &impl Print, letter: u8, buffers: Buffers) -> io::Result<()> {
         Operation::Files => files(&disc, &mut out),
         Operation::FreeSpace => free_space(&disc),
     };
-    print_line(
-        rt,
-        letter,
-        disc_operation::numbers::number(answer),
-        &[&disc, &out],
-    )
+    print_line(rt, letter, number(answer), &[&disc, &out])
 }
 
 fn main(rt: HostRuntime) -> io::Result<()> {

@@ -1,7 +1,8 @@
 // Document 01's cases of variable memory.
 use crate::memory::{Memory, Set};
 use std::io;
-use variable::Placing;
+use variable::Unplaced;
+use variable::table::is_of;
 
 // A SET of process 1 on a copy of a memory, with its name on the line.
 #[derive(Clone, Copy)]
@@ -17,7 +18,7 @@ impl Case {
     }
 
     // Where the string goes or why it doesn't, and the memory then.
-    fn tried(&self, memory: &Memory) -> (Placing, Memory) {
+    fn tried(&self, memory: &Memory) -> (Result<usize, Unplaced>, Memory) {
         let mut after = *memory;
         let placing = after.set(Set {
             name: self.name,
@@ -32,9 +33,9 @@ impl Case {
         let (placing, _) = self.tried(memory);
         print!(rt; "{}", self.label)?;
         match placing {
-            Placing::Address(a) => println!(rt; " at {a}"),
-            Placing::NoEntry => println!(rt; " no entry"),
-            Placing::NoRun => println!(rt; " no run"),
+            Ok(a) => println!(rt; " at {a}"),
+            Err(Unplaced::NoEntry) => println!(rt; " no entry"),
+            Err(Unplaced::NoRun) => println!(rt; " no run"),
         }
     }
 
@@ -71,7 +72,7 @@ pub fn twenty_six(rt: &impl Print) -> io::Result<()> {
 // free.
 pub fn full_memory(rt: &impl Print) -> io::Result<()> {
     let mut full = Memory::of_several(8, 30);
-    full.set(Set {
+    let _ = full.set(Set {
         name: 8,
         owner: 1,
         size: 16,
@@ -87,7 +88,7 @@ pub fn full_memory(rt: &impl Print) -> io::Result<()> {
         ],
     )?;
     Case::new("fifth longer:", 4, 31).print_written(rt, &full)?;
-    let holed = full.freed(8);
+    let holed = full.freed(|v| is_of(v, 8, 1));
     print_places(
         rt,
         &holed,
@@ -99,7 +100,7 @@ pub fn full_memory(rt: &impl Print) -> io::Result<()> {
     )?;
     print_places(
         rt,
-        &holed.freed(1),
+        &holed.freed(|v| is_of(v, 1, 1)),
         &[
             Case::new("31 bytes, 30 and 16 free:", 9, 31),
             Case::new("fifth again, lower place free:", 4, 30),
@@ -117,12 +118,12 @@ pub fn ending(rt: &impl Print) -> io::Result<()> {
         (67, 2, 44),
         (68, 1, 55),
     ] {
-        memory.set(Set {
+        let _ = memory.set(Set {
             name,
             owner,
             size: 3,
             byte,
         });
     }
-    print!(rt; "{memory}{}", memory.ended(1))
+    print!(rt; "{memory}{}", memory.freed(|v| v.owner == 1))
 }

@@ -1,7 +1,7 @@
 // Variable memory, from an empty one on, with SETs of strings whose bytes are all alike, and freeing.
 use std::{fmt, io};
 use variable::table::{count_of, entry_at};
-use variable::{MAX_VARIABLES, Placing, VALUE_SIZE, VARIABLES_SIZE};
+use variable::{MAX_VARIABLES, Unplaced, VALUE_SIZE, VARIABLES_SIZE, Variable};
 
 const STRING: u8 = 3;
 
@@ -20,11 +20,12 @@ pub struct Memory([u8; VARIABLES_SIZE]);
 impl Memory {
     pub const EMPTY: Memory = Memory([0; VARIABLES_SIZE]);
 
-    // What a SET asks of its table and value is tested here, so that a case can be written without proof.
-    pub fn set(&mut self, set: Set) -> Placing {
+    // Where the string goes. What a SET asks of its table and value is tested here, so that a case can be written without
+    // proof.
+    pub fn set(&mut self, set: Set) -> Result<usize, Unplaced> {
         let bytes = [set.byte; VALUE_SIZE];
         if MAX_VARIABLES < count_of(&self.0) || set.size < 1 || bytes.len() < set.size {
-            return Placing::NoRun;
+            return Err(Unplaced::NoRun);
         }
         let value = &bytes[..set.size];
         variable::assign::assign(&mut self.0, set.name, STRING, set.owner, value)
@@ -34,7 +35,7 @@ impl Memory {
     pub fn of_several(n: u8, size: usize) -> Self {
         let mut memory = Memory::EMPTY;
         for name in 0..n {
-            memory.set(Set {
+            let _ = memory.set(Set {
                 name,
                 owner: 1,
                 size,
@@ -44,21 +45,13 @@ impl Memory {
         memory
     }
 
-    fn free(&mut self, every: bool, name: u8, owner: u16) {
+    // Without the variables that are gone.
+    pub fn freed<F: Fn(Variable) -> bool>(mut self, gone: F) -> Self
+        requires { F.IsAlwaysCallable gone }
+    {
         if count_of(&self.0) <= MAX_VARIABLES {
-            variable::free::free(&mut self.0, every, name, owner);
+            variable::free::free(&mut self.0, gone);
         }
-    }
-
-    // Without this variable of process 1.
-    pub fn freed(mut self, name: u8) -> Self {
-        self.free(false, name, 1);
-        self
-    }
-
-    // Without all variables of a process.
-    pub fn ended(mut self, owner: u16) -> Self {
-        self.free(true, 0, owner);
         self
     }
 }
