@@ -36,7 +36,7 @@ fn mask(x: f32) -> u8 {
     bits
 }
 
-// A line for a pattern, the whole numbers that it becomes each for a type's greatest, the sizes of a new file for a disc
+// A line for a pattern. The whole numbers that it becomes are for a type's greatest, the sizes of a new file for a disc
 // of either length.
 fn print_line(rt: &impl Print, bytes: [u8; 4]) -> io::Result<()> {
     let [a, b, c, d] = bytes;

@@ -7,8 +7,8 @@ use operator::operators::{Operator, Scaling};
 use scaling::power::power_of;
 use std::io;
 
-// As bits of INT: 0 to 15; then -1, 16, 127, -128, 32767, -32768, and 271 and -241, whose low byte is 15. A CHAR has the
-// low byte.
+// As bits of INT: 0 to 15; then -1, 16, 127, -128, 32767, -32768, and 271 and -241, whose low byte is 15. A CHAR has
+// the low byte.
 const EXPONENTS: [u32; 24] = [
     0, 1, 2, 3, 4, 5, 6, 7, 8, 9, 10, 11, 12, 13, 14, 15, 65535, 16, 127, 65408, 32767, 32768, 271,
     65295,

@@ -20,8 +20,8 @@ pub struct Memory([u8; VARIABLES_SIZE]);
 impl Memory {
     pub const EMPTY: Memory = Memory([0; VARIABLES_SIZE]);
 
-    // Where the string goes. What a SET asks of its table and value is tested here, so that a case can be written without
-    // proof.
+    // Where the string goes. What a SET asks of its table and value is tested here, so that a case can be written
+    // without proof.
     pub fn set(&mut self, set: Set) -> Result<usize, Unplaced> {
         let bytes = [set.byte; VALUE_SIZE];
         if MAX_VARIABLES < count_of(&self.0) || set.size < 1 || bytes.len() < set.size {
