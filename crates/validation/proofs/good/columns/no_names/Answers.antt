@@ -2,7 +2,7 @@
 use mathlib.Core.Path.{refl}
 use native.Mathlib.Omega.{arith}
 use Rattle.buffer.specs.Lists.{tab}
-use Rattle.area.proofs.Tables.{filled-all, filled_next}
+use Rattle.validation.proofs.Filled.{filled-all, filled_next}
 use Rattle.validation.proofs.good.columns.no_names.Goals as goal
 
 pub loop-i-init : goal.loop-i-init

@@ -1,7 +1,7 @@
 -- The loop: the first i of them.
 use Prim.Native.Nat.{ℕ, ◌+◌, ◌-◌}
 use Rattle.validation.specs.Columns.{places}
-use Rattle.area.proofs.Tables.{Filled}
+use Rattle.validation.proofs.Filled.{Filled}
 use Rattle.validation.proofs.good.columns.no_names.Given as goal
 
 abbrev pub no_name : ℕ → ℕ

@@ -6,7 +6,7 @@ use native.Mathlib.Omega.{arith}
 use Rattle.buffer.specs.Lists.{tab}
 use Rattle.machine.specs.Area.{process_of}
 use Rattle.validation.specs.Columns.{slot_id}
-use Rattle.area.proofs.Tables.{filled-all, filled_next}
+use Rattle.validation.proofs.Filled.{filled-all, filled_next}
 use Rattle.validation.proofs.good.ids.live_ids.Goals as goal
 
 pub loop-i-init : goal.loop-i-init

@@ -4,7 +4,7 @@ use mathlib.Core.List.{List}
 use Rattle.machine.specs.Limits.{slot_count}
 use Rattle.area.specs.Parts.{process_in}
 use Rattle.validation.specs.Columns.{slot_id}
-use Rattle.area.proofs.Tables.{Filled}
+use Rattle.validation.proofs.Filled.{Filled}
 use Rattle.validation.proofs.good.ids.live_ids.Given as goal
 
 abbrev pub id_in : List ℕ → ℕ → ℕ
