@@ -83,6 +83,7 @@ pub fn enter_while(frame: &Frame<'_>) -> Result<Step, Fault>
 }
 
 // ENDWHILE takes one raw byte: only fault 5.
+#[tactic(auto, unfolding(machine::specs::Effect::settle))]
 pub fn end_while(frame: &Frame<'_>) -> Result<Step, Fault>
     ensures { Performs frame.now ends_while result }
 {
@@ -113,6 +114,7 @@ pub fn mark_loop(frame: &Frame<'_>) -> Result<Step, Fault>
 }
 
 // ENDLOOP. Document 01: "3 jump outside 0 to the code length, or ENDLOOP with no loop"
+#[tactic(auto, unfolding(machine::specs::Effect::settle))]
 pub fn loop_back(frame: &Frame<'_>) -> Result<Step, Fault>
     ensures { Performs frame.now loops_back result }
 {

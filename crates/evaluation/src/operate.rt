@@ -37,6 +37,7 @@ fn next_operand(
 }
 
 // The answer goes onto what lies below the operand that came off last, the one pushed first.
+#[tactic(auto, unfolding(machine::specs::Effect::operates))]
 fn operate_one(frame: &Frame<'_>, operator: Unary) -> Result<Step, Fault>
     ensures { Performs frame.now (evaluates (Operator.OfOne operator)) result }
 {
@@ -45,6 +46,7 @@ fn operate_one(frame: &Frame<'_>, operator: Unary) -> Result<Step, Fault>
     frame.push_outcome(x.below, answer, frame.at + 1)
 }
 
+#[tactic(auto, unfolding(machine::specs::Effect::operates))]
 fn operate_two(frame: &Frame<'_>, operator: Binary) -> Result<Step, Fault>
     ensures { Performs frame.now (evaluates (Operator.OfTwo operator)) result }
 {
@@ -55,6 +57,7 @@ fn operate_two(frame: &Frame<'_>, operator: Binary) -> Result<Step, Fault>
 }
 
 // CONSTRAIN of x, a, b.
+#[tactic(auto, unfolding(machine::specs::Effect::operates))]
 fn constrain(frame: &Frame<'_>) -> Result<Step, Fault>
     ensures { Performs frame.now (evaluates (Operator.Scale Scaling.Constrain)) result }
 {
@@ -67,6 +70,7 @@ fn constrain(frame: &Frame<'_>) -> Result<Step, Fault>
 }
 
 // MAP of a, b, c, d, e.
+#[tactic(auto, unfolding(machine::specs::Effect::operates))]
 fn map(frame: &Frame<'_>) -> Result<Step, Fault>
     ensures { Performs frame.now (evaluates (Operator.Scale Scaling.Map)) result }
 {
@@ -81,6 +85,7 @@ fn map(frame: &Frame<'_>) -> Result<Step, Fault>
 }
 
 // POW of x, y.
+#[tactic(auto, unfolding(machine::specs::Effect::operates))]
 fn power(frame: &Frame<'_>) -> Result<Step, Fault>
     ensures { Performs frame.now (evaluates (Operator.Scale Scaling.Power)) result }
 {
@@ -101,6 +106,7 @@ fn scale(frame: &Frame<'_>, operator: Scaling) -> Result<Step, Fault>
     }
 }
 
+#[tactic(auto, unfolding(machine::specs::Effect::operates))]
 pub fn operate(frame: &Frame<'_>, operator: Operator) -> Result<Step, Fault>
     ensures { Performs frame.now (evaluates operator) result }
 {

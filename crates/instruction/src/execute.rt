@@ -55,6 +55,7 @@ fn perform(
 }
 
 // The step of the process `owner` at its place in the code. Document 01: "1 no such instruction; 2 code ended"
+#[tactic(auto, unfolding(machine::specs::Exec::exec))]
 pub fn execute(
     code: &[u8],
     stack: &[u8],

@@ -104,6 +104,7 @@ fn print_value(frame: &Frame<'_>, kind: u8, bytes: &[u8], ends: bool, kept: usiz
 }
 
 // PRINT, and PRINTLN with a newline.
+#[tactic(auto, unfolding(machine::specs::Effect::settle))]
 pub fn print(frame: &Frame<'_>, ends: bool) -> Result<Step, Fault>
     ensures { Performs frame.now (λ code stack loopstart at. prints code stack loopstart at ends) result }
 {

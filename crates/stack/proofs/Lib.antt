@@ -1,4 +1,4 @@
 -- popping, from what the code answers
 pub mod Popping
--- steps and what they mean
+-- what a push leaves
 pub mod Steps

@@ -1,7 +1,7 @@
 -- Popping, from what the code answers: the value or the number on top, or the fault.
 use Prim.Native.Nat.{ℕ, ◌+◌, ◌-◌, ◌≤◌}
 use mathlib.Core.Path.{◌≡◌, refl, sym, ap, ◌∙◌, subst, subst⁻¹}
-use mathlib.Core.Bool.{Bool, true, false, cond, ◌||◌}
+use mathlib.Core.Bool.{true, ◌||◌}
 use mathlib.Core.List.{List, [], ◌∷◌}
 use mathlib.Core.Logic.{⊎_elim}
 use native.Mathlib.Omega.{arith}
@@ -13,29 +13,16 @@ use Rattle.buffer.specs.Buffer.{part}
 use Rattle.buffer.proofs.Bools.{true-not-false}
 use Rattle.buffer.proofs.Disjunctions.{or_cases}
 use Rattle.buffer.proofs.Parts.{part_length}
-use Rattle.operator.specs.Instruction.{arithmetic_types, binary_types, conversion_types, includes, scaling_types, types_of, unary_types}
+use Rattle.operator.specs.Instruction.{includes}
 use Rattle.number.specs.declared.Number.{Number}
 use Rattle.operator.specs.declared.instruction.Types.{Types}
 use Rattle.operator.specs.declared.instruction.Types.TheVariants.{AnyNumber, CharOrInt, IntOrFloat, CharOrFloat, AnyString, AnyValue}
 use Rattle.operator.specs.declared.instruction.Types.TheVariants.{Nothing}
-use Rattle.operator.specs.declared.operators.Arithmetic.{Arithmetic}
-use Rattle.operator.specs.declared.operators.Arithmetic.TheVariants.{Plus, Minus, Times, DividedBy, Modulus}
-use Rattle.operator.specs.declared.operators.Binary.{Binary}
-use Rattle.operator.specs.declared.operators.Binary.TheVariants.{Arithmetic as Calculates, Comparison, Logical, Bitwise, Extremum}
-use Rattle.operator.specs.declared.operators.Conversion.{Conversion}
-use Rattle.operator.specs.declared.operators.Conversion.TheVariants.{ToChar, ToInt, ToFloat, Round, Floor, Ceil}
-use Rattle.operator.specs.declared.operators.Operator.{Operator}
-use Rattle.operator.specs.declared.operators.Operator.TheVariants.{OfOne, OfTwo, Scale, NotAnOperator}
-use Rattle.operator.specs.declared.operators.Scaling.{Scaling}
-use Rattle.operator.specs.declared.operators.Scaling.TheVariants.{Constrain, Map, Power}
-use Rattle.operator.specs.declared.operators.Unary.{Unary}
-use Rattle.operator.specs.declared.operators.Unary.TheVariants.{Increment, Decrement, UnaryMinus, LogicalNot, BitwiseNot, Convert}
-use Rattle.operator.specs.declared.operators.Unary.TheVariants.{Abs, Sq, Sqrt}
 use Rattle.disc.specs.Name.{trimmed}
-use Rattle.machine.specs.Effect.{Effect, faults, with_number}
+use Rattle.machine.specs.Effect.{Effect, with_number}
 use Rattle.machine.specs.Stack.{Item, Popped, popped, cannot, pop, string_kind}
 use Rattle.machine.proofs.Instructions.Popping.{Pops, TakenOff, number-kinds, pop-pops}
-use Rattle.stack.specs.Tops.{is_numeric, no_number, number_above, numbered}
+use Rattle.stack.specs.Tops.{is_numeric, number_above, numbered}
 use Rattle.stack.specs.declared.TopValue.{TopValue}
 
 -- ---- values
@@ -76,24 +63,16 @@ string-text stack kind at len t =
     )
 
 -- ---- numbers
--- an instruction goes on with the number popped, or has its fault
+-- an instruction goes on with the number popped
 goes : (p : Popped) {a : Number} {rest : List ℕ} → number_above a rest ≡ numbered p → (next : Number → List ℕ → Effect)
     → with_number p next ≡ next a rest
 goes (popped item rest) e next = cc
 goes (cannot fault) e next = cc
 
-stops : (p : Popped) {n : ℕ} → no_number n ≡ numbered p → (next : Number → List ℕ → Effect) → with_number p next ≡ faults n
-stops (popped item rest) e next = cc
-stops (cannot fault) e next = cc
-
 module _ (types : Types) (stack : List ℕ) where
   pub number-goes : {a : Number} {rest : List ℕ} → number_above a rest ≡ numbered (pop types stack)
       → (next : Number → List ℕ → Effect) → with_number (pop types stack) next ≡ next a rest
   number-goes = goes (pop types stack)
-
-  pub number-faults : {n : ℕ} → no_number n ≡ numbered (pop types stack)
-      → (next : Number → List ℕ → Effect) → with_number (pop types stack) next ≡ faults n
-  number-faults = stops (pop types stack)
 
 -- ---- sets of types of numbers
 is_number : (kind n : ℕ) → includes AnyNumber n ≡ true → eqb kind n ≡ true → includes AnyNumber kind ≡ true
@@ -123,52 +102,3 @@ value-small stack kind at len t n =
     let z = sym t.size ∙ t.off.number n in
     ⊎_elim (λ e. absurd (n (eqb-true kind string_kind e))) (λ h. omega (arith, number_small kind h))
     (or_cases (eqb kind string_kind) (includes AnyNumber kind) t.off.taken)
-
--- an operator takes numbers alone
-conversion-numeric : (o : Conversion) → is_numeric (conversion_types o) ≡ true
-conversion-numeric ToChar = refl
-conversion-numeric ToInt = refl
-conversion-numeric ToFloat = refl
-conversion-numeric Round = refl
-conversion-numeric Floor = refl
-conversion-numeric Ceil = refl
-
-unary-numeric : (o : Unary) → is_numeric (unary_types o) ≡ true
-unary-numeric Increment = refl
-unary-numeric Decrement = refl
-unary-numeric UnaryMinus = refl
-unary-numeric LogicalNot = refl
-unary-numeric BitwiseNot = refl
-unary-numeric (Convert o) = conversion-numeric o
-unary-numeric Abs = refl
-unary-numeric Sq = refl
-unary-numeric Sqrt = refl
-
-arithmetic-numeric : (o : Arithmetic) → is_numeric (arithmetic_types o) ≡ true
-arithmetic-numeric Plus = refl
-arithmetic-numeric Minus = refl
-arithmetic-numeric Times = refl
-arithmetic-numeric DividedBy = refl
-arithmetic-numeric Modulus = refl
-
-binary-numeric : (o : Binary) → is_numeric (binary_types o) ≡ true
-binary-numeric (Calculates o) = arithmetic-numeric o
-binary-numeric (Comparison o) = refl
-binary-numeric (Logical o) = refl
-binary-numeric (Bitwise o) = refl
-binary-numeric (Extremum o) = refl
-
-scaling-numeric : (o : Scaling) (place : ℕ) → is_numeric (scaling_types o place) ≡ true
-scaling-numeric Constrain place = refl
-scaling-numeric Map place = refl
-scaling-numeric Power place = go (eqb place 0)
-  where
-    go : (b : Bool) → is_numeric (cond b AnyNumber CharOrInt) ≡ true
-    go true = refl
-    go false = refl
-
-pub operand-numeric : (o : Operator) (place : ℕ) → is_numeric (types_of o place) ≡ true
-operand-numeric (OfOne o) place = unary-numeric o
-operand-numeric (OfTwo o) place = binary-numeric o
-operand-numeric (Scale o) place = scaling-numeric o place
-operand-numeric NotAnOperator place = refl

@@ -76,6 +76,7 @@ impl Frame<'_> {
 
     // On to a place with the first `kept` bytes of the stack and these above them.
     // Document 01, tried last: "4 stack above 32; 3 jump outside 0 to the code length"
+    #[tactic(auto, unfolding(machine::specs::Effect::settle))]
     pub fn push_bytes(
         &self,
         kept: usize,
@@ -112,6 +113,7 @@ impl Frame<'_> {
     }
 
     // A value onto the stack: its bytes, a string's length, its type.
+    #[tactic(auto, unfolding(machine::specs::Effect::settle))]
     pub fn push_item(&self, kept: usize, kind: u8, bytes: &[u8], to: usize) -> Result<Step, Fault>
         requires { kept ≤ length self.now.stack.now }
         ensures { Means self.now.stack.now result (lands self.now to

@@ -11,6 +11,7 @@ use machine::fault::Fault;
 use number::Number;
 use operator::instruction::{Types, takes};
 
+#[tactic(auto, unfolding(machine::specs::Stack::pop_string))]
 fn string_on_top(stack: &[u8]) -> Result<TopValue, Fault>
     ensures { (value_on stack.now result
         ≡ pop_string stack.now (length stack.now))
@@ -36,6 +37,7 @@ fn string_on_top(stack: &[u8]) -> Result<TopValue, Fault>
     })
 }
 
+#[tactic(auto, unfolding(machine::specs::Stack::pop_number))]
 fn number_on_top(stack: &[u8], kind: u8) -> Result<TopValue, Fault>
     ensures { (value_on stack.now result
         ≡ pop_number stack.now (length stack.now) kind)
@@ -55,6 +57,7 @@ fn number_on_top(stack: &[u8], kind: u8) -> Result<TopValue, Fault>
 
 // Document 01: "popping from the top, for each value 5 nothing there, 6 a type not taken here, 5 too few bytes below
 // it, 6 malformed string"
+#[tactic(auto, unfolding(machine::specs::Stack::pop))]
 pub fn top_value(stack: &[u8], types: Types) -> Result<TopValue, Fault>
     ensures { (value_on stack.now result ≡ pop types stack.now)
         × (value_end result ≤ length stack.now) }
@@ -74,6 +77,7 @@ pub fn top_value(stack: &[u8], types: Types) -> Result<TopValue, Fault>
 }
 
 // The number of these bytes, which may be fewer than four: read one by one, since a copy of so few costs more.
+#[tactic(auto, unfolding(number::specs::Value::number_of))]
 pub fn number_of(kind: u8, bytes: &[u8]) -> Number
     requires { length bytes.now ≤ 4 }
     ensures { result ≡ number_of kind bytes.now }

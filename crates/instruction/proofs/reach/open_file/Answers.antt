@@ -5,8 +5,7 @@ use Rattle.buffer.specs.Buffer.{part}
 use Rattle.buffer.proofs.Parts.{part-of-take}
 use Rattle.operator.specs.declared.instruction.Types.TheVariants.{AnyString}
 use Rattle.disc.specs.Name.{trimmed}
-use Rattle.stack.proofs.Popping.{OnTop, number-faults, number-goes, string-text, value-on-top}
-use Rattle.stack.proofs.Steps.{fault_passed}
+use Rattle.stack.proofs.Popping.{OnTop, number-goes, string-text, value-on-top}
 use Rattle.instruction.proofs.reach.open_file.Goals as goal
 
 -- a string on top of the first n bytes of the stack
@@ -30,30 +29,10 @@ name_below stack n kind place len fits top =
       below = take-take place n stack (omega arith);
     }
 
-pub returns-in_err-size : goal.returns-in_err-size
-returns-in_err-size c = rw (number-faults _ _ c.in_err-size.ensures.0 _) (fault_passed _ _ _ c.from_residual.ensures.1)
-
-pub slice_bounds-top_value-end : goal.slice_bounds-top_value-end
-slice_bounds-top_value-end c = sym (length-take-le c.in_ok-size.size.below c.args.frame.now.stack.now c.in_ok-size.ensures.1)
-
-pub returns-in_err-name : goal.returns-in_err-name
-returns-in_err-name c =
-    rw (number-goes _ _ c.in_ok-size.ensures.0 _, sym c.in_err-name.ensures.0)
-    (fault_passed _ _ _ c.from_residual-in_err-name.ensures.1)
-
 pub overflow_sub-name : goal.overflow_sub-name
 overflow_sub-name c =
     let st = take c.in_ok-size.size.below c.args.frame.now.stack.now in
     (string-text st _ _ _ (value-on-top AnyString st c.in_ok-name.name c.in_ok-name.ensures)).0
-
-pub act_on-requires : goal.act_on-requires
-act_on-requires c =
-    let st = c.args.frame.now.stack.now in
-    let below = c.in_ok-size.size.below in
-    let inside : below ≤ length st = c.in_ok-size.ensures.1 in
-    let string = value-on-top AnyString (take below st) c.in_ok-name.name c.in_ok-name.ensures in
-    let name = name_below st below _ _ _ inside string in
-    (omega (arith, name.inside, name.low), omega arith)
 
 pub returns : goal.returns
 returns c =

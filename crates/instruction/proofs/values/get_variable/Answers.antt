@@ -1,7 +1,7 @@
 -- The table's variable of that name and owner is the process's own of that name; its bytes are copied as they lie.
 use Rattle.std.proofs.Common.{ℕ, ◌+◌, ◌≤◌, ◌≡◌, [], length, get_or, sym, ap, ◌∙◌, arith, Some}
 use lib.Seq.{take-length}
-use borrow.Author.Tests.{le-leb, lt-leb}
+use borrow.Author.Tests.{le-leb}
 use Rattle.variable.specs.Table.{Cell, cell_of, find, no_variable}
 use Rattle.variable.specs.declared.Variable.{Variable}
 use Rattle.variable.specs.declared.Variables.{Variables}
@@ -17,11 +17,6 @@ no_cell = record { name = 0; kind = 0; bytes = [] }
 own : (v : Variables) (name id i : ℕ) → Held v i → find v name id ≡ Some i
     → Own v name id no_cell (cell_of v.memory (get_or v.entries i no_variable))
 own v name id i held e = rw held.same at (find-own v name id no_cell i e)
-
-pub returns-then-frame-to : goal.returns-then-frame-to
-returns-then-frame-to c =
-    let f = c.args.frame.now in
-    rw (lt-leb (f.at + 1 + 1) (length f.code.now) (omega arith))
 
 pub variable_at-e-requires : goal.variable_at-e-requires
 variable_at-e-requires c =

@@ -1,7 +1,7 @@
 -- The text is measured up to its zero, and pushed with it.
-use Rattle.std.proofs.Common.{ℕ, ◌+◌, ◌-◌, ◌≤◌, ◌<◌, ◌≡◌, List, [], ◌∷◌, ◌++◌, length, take, drop, sym, ap, ◌∙◌, arith, length-drop}
+use Rattle.std.proofs.Common.{ℕ, ◌+◌, ◌-◌, ◌≤◌, ◌≡◌, List, [], ◌∷◌, ◌++◌, length, take, drop, sym, ap, ◌∙◌, arith, length-drop}
 use lib.Seq.{length-take-le, take_all, take-length}
-use borrow.Author.Tests.{le-leb, lt-leb}
+use borrow.Author.Tests.{le-leb}
 use Rattle.buffer.specs.Buffer.{part}
 use Rattle.buffer.proofs.Parts.{part-to}
 use Rattle.disc.specs.Name.{trimmed}
@@ -27,13 +27,6 @@ module _ (code : List ℕ) (from n : ℕ) (known : TextOf code from n) where
       let m = measured in
       ap (λ (n : ℕ). take (n + 1) (drop from code)) (sym m)
       ∙ text-with-zero (drop from code) (omega (arith, length-drop from code))
-
-pub returns-then-frame-to : goal.returns-then-frame-to
-returns-then-frame-to c =
-    let f = c.args.frame.now in
-    let text = measured f.code.now (f.at + 1) c.text_length.result c.text_length.ensures in
-    let h : length f.code.now < f.at + 1 + (length (trimmed (drop (f.at + 1) f.code.now)) + 1) = omega (arith, text) in
-    rw (lt-leb _ _ h)
 
 pub returns : goal.returns
 returns c =

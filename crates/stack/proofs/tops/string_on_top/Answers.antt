@@ -1,7 +1,7 @@
 -- The length byte is read, then the text is measured: its zero must be the last of the bytes.
 use Rattle.std.proofs.Common.{ℕ, ◌+◌, ◌-◌, ◌≤◌, ◌≡◌, List, length, take, arith, sym, ap, ◌∙◌}
 use lib.Seq.{length-take-le}
-use borrow.Author.Tests.{le-leb, lt-leb}
+use borrow.Author.Tests.{le-leb}
 use Rattle.buffer.specs.Buffer.{part}
 use Rattle.buffer.proofs.Parts.{part_length}
 use Rattle.disc.specs.Name.{trimmed}
@@ -31,15 +31,6 @@ measured stack n t fits known =
       size = part_length stack (length stack - 2 - n) n (omega arith);
       text = sym (ap length told.1) ∙ length-take-le t (string stack n) told.0;
     }
-
-pub returns-then-n-lt2 : goal.returns-then-n-lt2
-unfolding pop_string
-returns-then-n-lt2 c = (rw (lt-leb 2 (length c.args.stack.now) (omega arith)), omega arith)
-
-pub returns-then-n-len : goal.returns-then-n-len
-unfolding pop_string
-returns-then-n-len c =
-    (rw (le-leb 2 (length c.args.stack.now) (omega arith), ← c.from-len.ensures, lt-leb _ _ c.if-n-len.true), omega arith)
 
 pub returns-then-text_length-len : goal.returns-then-text_length-len
 unfolding pop_string
