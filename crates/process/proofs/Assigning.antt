@@ -8,7 +8,6 @@ use Rattle.variable.specs.Limits.{max_variables}
 use Rattle.variable.specs.declared.Assigned.{Assigned}
 use Rattle.variable.specs.Assign.{Placing}
 use Rattle.std.specs.Prelude.{Ok, Err}
-use Rattle.variable.specs.declared.Unplaced.TheVariants.{NoEntry, NoRun}
 use Rattle.variable.specs.declared.Variables.{Variables}
 use Rattle.variable.proofs.Reading.{value_made}
 use Rattle.variable.proofs.Setting.{NotPlaced, assigned-refused, assigned-shaped}

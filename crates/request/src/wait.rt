@@ -30,13 +30,7 @@ fn is_awaited(area: &[u8], id: Number) -> bool
     requires { length area.now ≡ area_length }
     ensures { result ≡ any (is_awaited_by id) (kernel_of area.now).processes }
 {
-    let mut awaited = false;
-    let mut slot: usize = 0;
-    while slot < SLOT_COUNT {
-        awaited = awaited | is_awaited_in(process_at(area, slot), id);
-        slot += 1;
-    }
-    awaited
+    (0..SLOT_COUNT).any(|slot| is_awaited_in(process_at(area, slot), id))
 }
 
 // Document 01: "WAITUNTILDONE stays while a live process has that ID."

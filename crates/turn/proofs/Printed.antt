@@ -8,7 +8,6 @@ use Rattle.buffer.specs.Buffer.{overwrite}
 use Rattle.variable.specs.Assign.{assigned, value_of}
 use Rattle.variable.specs.Assign.{Placing}
 use Rattle.std.specs.Prelude.{Ok, Err}
-use Rattle.variable.specs.declared.Unplaced.TheVariants.{NoEntry, NoRun}
 use Rattle.variable.specs.declared.Variables.{Variables}
 use Rattle.machine.specs.Beyond.{Answered, answered, breaks, carries_on}
 use Rattle.machine.specs.Area.{kernel_bytes}

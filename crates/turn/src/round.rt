@@ -63,11 +63,9 @@ fn take_share(disc: &mut [u8], area: &mut [u8], slot: usize, clock: u32, out: &m
         out.old }
 {
     let due = turns_due(area, slot);
-    let mut printed: usize = 0;
-    let mut taken: u8 = 0;
-    while taken < due {
+    let mut printed = 0;
+    for _taken in 0..due {
         printed += turn_if_running(disc, area, slot, clock, &mut out[printed..]);
-        taken += 1;
     }
     printed
 }
@@ -80,11 +78,9 @@ pub fn take_turns(disc: &mut [u8], area: &mut [u8], clock: u32, out: &mut [u8]) 
         ≡ turn_left_by (round_of (kernel_of area.old) clock disc.old) out.old)
         × (result ≤ round_room) }
 {
-    let mut printed: usize = 0;
-    let mut slot: usize = 0;
-    while slot < SLOT_COUNT {
+    let mut printed = 0;
+    for slot in 0..SLOT_COUNT {
         printed += take_share(disc, area, slot, clock, &mut out[printed..]);
-        slot += 1;
     }
     printed
 }

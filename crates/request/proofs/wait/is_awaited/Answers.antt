@@ -1,20 +1,24 @@
--- The processes of the slots are read one after the other.
-use mathlib.Core.Path.{ap, ◌∙◌}
-use native.Mathlib.Omega.{arith}
+-- Each slot of the ten is asked, up to the first that is awaited.
+use Rattle.std.proofs.Common.{◌∙◌, ap, refl, rules, tests}
+use Rattle.std.proofs.lemmas.Iterator.{YieldsList-from_range}
+use Rattle.std.proofs.lemmas.Iterator.Search.{any_from_yields_List}
+use Rattle.area.specs.Parts.{process_in}
 use Rattle.area.proofs.Reading.{process-read}
-use Rattle.buffer.proofs.Equivalence.{asked-all, asked-next, asked-none}
+use Rattle.buffer.specs.Lists.{any}
+use Rattle.buffer.proofs.Lists.{tab-same}
+use Rattle.buffer.proofs.Tables.{any-range}
 use Rattle.machine.specs.Area.{kernel_of}
+use Rattle.machine.specs.Limits.{slot_count}
+use Rattle.machine.specs.State.{process_at}
 use Rattle.request.specs.Answers.{is_awaited_by}
 use Rattle.request.proofs.wait.is_awaited.Goals as goal
 
-pub loop-slot-init : goal.loop-slot-init
-loop-slot-init c = asked-none _ _ _
-
-pub loop-slot-preserved : goal.loop-slot-preserved
-loop-slot-preserved c =
-    let read = c.process_at.ensures ∙ process-read c.args.area.now c.loop-slot.slot (omega arith) in
-    asked-next _ _ _ c.loop-slot.invariant (omega arith) (c.is_awaited_in-awaited.ensures ∙ ap (is_awaited_by c.args.id) read)
-
 pub returns : goal.returns
 unfolding kernel_of
-returns c = asked-all _ _ _ c.loop-slot.invariant (omega arith)
+returns c =
+    let area = c.args.area.now in
+    let at = process_at (kernel_of area) in
+    any_from_yields_List (λ k. is_awaited_by c.args.id (at k)) _ _ c.any.result c.any.ensures.ran
+    (YieldsList-from_range 0 slot_count slot_count refl refl) (λ x b q k. search (rules, tests))
+    ∙ any-range (is_awaited_by c.args.id) at slot_count
+    ∙ ap (any (is_awaited_by c.args.id)) (tab-same at (process_in area) slot_count (λ i h. process-read area i h))

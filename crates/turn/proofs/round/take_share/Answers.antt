@@ -41,7 +41,7 @@ overflow_add-printed c =
     let h = c.loop-taken-test.true in
     let few = due-few a.slot a.clock a.disc.now a.area.now c.requires.0 in
     let g = c.loop-taken.invariant in
-    let here = get_or-replicate n c.loop-taken.taken a.slot 0 h in
+    let here = get_or-replicate n c.loop-taken._taken a.slot 0 h in
     let short = next-short g turn-steady a.slot (listed a.slot n h) here _ _ _ _ _ c.turn_if_running-printed.ensures in
     omega (arith, g.little, few, c.turns_due-due.ensures)
 
@@ -50,7 +50,7 @@ loop-taken-preserved c =
     let a = c.args in
     let n = c.turns_due-due.result in
     let h = c.loop-taken-test.true in
-    let here = get_or-replicate n c.loop-taken.taken a.slot 0 h in
+    let here = get_or-replicate n c.loop-taken._taken a.slot 0 h in
     let done = c.turn_if_running-printed in
     going_on c.loop-taken.invariant turn-steady a.slot (listed a.slot n h) here done.result _ _ _ done.ensures
 

@@ -1,5 +1,4 @@
 -- The loop: the turns taken so far, and those that are left of the share.
-use Prim.Native.Nat.{◌-◌}
 use lib.ListN.{replicate}
 use Rattle.machine.specs.Area.{kernel_of}
 use Rattle.machine.specs.Limits.{turn_room}
@@ -10,7 +9,4 @@ use Rattle.turn.proofs.round.take_share.Given as goal
 abbrev pub invariant-loop-taken : goal.invariant-loop-taken
 invariant-loop-taken l =
     Going turn_if_running turn_room (replicate l.due l.slot) (kernel_of l.initial.area) l.clock l.initial.disc l.initial.out
-    l.taken l.printed l.disc l.area l.out
-
-abbrev pub decreases-loop-taken : goal.decreases-loop-taken
-decreases-loop-taken l = l.due - l.taken
+    l._taken l.printed l.disc l.area l.out
