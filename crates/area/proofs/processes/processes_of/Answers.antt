@@ -6,7 +6,7 @@ use Rattle.machine.specs.Limits.{slot_count}
 use Rattle.machine.specs.State.{process_at}
 use Rattle.area.specs.Parts.{process_in}
 use Rattle.area.proofs.Reading.{process-read}
-use Rattle.area.proofs.Tables.{made-all}
+use Rattle.area.proofs.Made.{made-all}
 use Rattle.area.proofs.processes.processes_of.Goals as goal
 
 pub returns : goal.returns
