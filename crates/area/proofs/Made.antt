@@ -21,7 +21,8 @@ module _ {F B : Type 0} (g : Mut F (ℕ × Unit {0}) B) (made : ℕ → B) (f : 
   made-at ys i (suc n) (q, y, e, c, rest) k a b d =
       let s = says i y q c in
       ⊎_elim (λ (h : i ≡ k). subst (λ (j : ℕ). get_or ys j d ≡ made j) h (e.1 d ∙ s.1))
-      (λ (h : i < k). made-at ys (i + 1) n (subst (λ (p : F). IsFromFnResultFrom g p ys (i + 1) n) s.0 rest) k (omega arith) (omega arith) d)
+      (λ (h : i < k). made-at ys (i + 1) n (subst (λ (p : F). IsFromFnResultFrom g p ys (i + 1) n) s.0 rest) k (omega arith) (omega arith)
+      d)
       (eq-or-lt_of_le a)
 
   pub made-all : (ys : List B) (n : ℕ) → IsFromFnResult g f ys n → ys ≡ tab made n

@@ -56,9 +56,11 @@ module _ (q : ℕ) (small : q ≤ 65536) where
   pub negated_fits : SFits w32 (pos 0 -ℤ to_z w32 q)
   negated_fits = subst⁻¹ (SFits w32) negated (record { sfits = subst⁻¹ (λ (n : ℕ). n < 2147483648) (mag-negative q) (omega arith) })
 
-  pub is_negative : (s : Bool) (max : ℕ) → s ≡ true → q ≤ max + 1 → Some (to_z w32 (of_z w32 (pos 0 -ℤ to_z w32 q))) ≡ within max (signed s q)
+  pub is_negative : (s : Bool) (max : ℕ) → s ≡ true → q ≤ max + 1 → Some (to_z w32 (of_z w32 (pos 0 -ℤ to_z w32 q)))
+      ≡ within max (signed s q)
   is_negative s max e h =
-      ap Some (to_z-of_z negated_fits ∙ negated) ∙ is_within max (signed true q) (subst⁻¹ (λ (n : ℕ). n ≤ max) (mag-negative q) (omega arith))
+      ap Some (to_z-of_z negated_fits ∙ negated) ∙ is_within max (signed true q) (subst⁻¹ (λ (n : ℕ). n ≤ max) (mag-negative q) (omega
+      arith))
       ∙ ap (λ (b : Bool). within max (signed b q)) (sym e)
 
   pub is_positive : (s : Bool) (max : ℕ) → s ≡ false → q ≤ max → Some (to_z w32 q) ≡ within max (signed s q)

@@ -76,7 +76,8 @@ module _ {x : Float} {s : Bool} {t k : ℕ} (d : IsFinite x s t k) where
   at_least : 158 ≤ k → 4294967296 * 2 ^ 149 ≤ t * 2 ^ k
   at_least h = mul-le-mul {n₁ = 8388608} {m₁ = 2 ^ 158} (d.full (omega arith)) (pow_mono h)
 
-  pub whole-finite : (r : Rounding) (max : ℕ) {q : ℕ} {o : Option ℤ} → q ≡ whole_size r s (t * 2 ^ k) (2 ^ 149) → o ≡ within max (signed s q)
+  pub whole-finite : (r : Rounding) (max : ℕ) {q : ℕ} {o : Option ℤ} → q ≡ whole_size r s (t * 2 ^ k) (2 ^ 149)
+      → o ≡ within max (signed s q)
       → o ≡ whole_of r max x
   whole-finite r max e h = h ∙ ap (λ (n : ℕ). within max (signed s n)) e
       ∙ whole-of-value s (t * 2 ^ k) (2 ^ 149) (pow_pos 149) r max x d.value

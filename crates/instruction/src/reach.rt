@@ -38,7 +38,8 @@ fn fork_process(frame: &Frame<'_>) -> Result<Step, Fault>
 }
 
 fn wait(frame: &Frame<'_>) -> Result<Step, Fault>
-    ensures { Performs frame.now (λ code stack loopstart at. reaches code stack loopstart at Reach.WaitUntilDone) result }
+    ensures { Performs frame.now
+        (λ code stack loopstart at. reaches code stack loopstart at Reach.WaitUntilDone) result }
 {
     let id = top_number(frame.stack, Types::AnyNumber)?;
     Ok(frame.act_on(Action::Await(id.number), id.below, 0, frame.at + 1))

@@ -63,7 +63,8 @@ module _ (w : Width) (a : ℤ) (fa : SFits w a) where
 
   -- by −1 too: the size of a quotient is no more than the dividend's
   module _ (b : ℤ) (fb : SFits w b) where
-    pub quotient-reads : {r : ℤ} → r ≡ int_wrapping_div w (to_z w (of_z w a)) (to_z w (of_z w b)) → to_z w (of_z w r) ≡ wrapped w (quot_z a b)
+    pub quotient-reads : {r : ℤ} → r ≡ int_wrapping_div w (to_z w (of_z w a)) (to_z w (of_z w b))
+        → to_z w (of_z w r) ≡ wrapped w (quot_z a b)
     quotient-reads e =
         reads-wrapped w (quot_z a b)
         (e ∙ on-operands b fb (int_wrapping_div w)

@@ -1,6 +1,7 @@
 -- `residue m` carries sums, differences and products of whole numbers to those of the residues, for every m above 0; so the
 -- wrapping operations on the bits give the exact result, wrapped, at every width. Assumes nothing.
-use Rattle.std.proofs.Common.{◌≡◌, ℕ, zero, suc, ◌+◌, ◌-◌, ◌*◌, ◌/◌, ◌%◌, ◌^◌, ◌<◌, ℤ, pos, negsuc, ◌+ℤ◌, ◌-ℤ◌, ◌*ℤ◌, sym, ap, ap₂, ◌∙◌, ⊎_elim, nat_abs}
+use Rattle.std.proofs.Common.{◌≡◌, ℕ, zero, suc, ◌+◌, ◌-◌, ◌*◌, ◌/◌, ◌%◌, ◌^◌, ◌<◌, ℤ, pos, negsuc, ◌+ℤ◌, ◌-ℤ◌, ◌*ℤ◌, sym, ap, ap₂, ◌∙◌}
+use Rattle.std.proofs.Common.{⊎_elim, nat_abs}
 use Rattle.std.proofs.Common.{lt_of_le_of_lt, le_of_lt, mod-lt, mod-eq_of_lt, suc-mul, add-mul, eq-or-lt_of_le, mul-le-mul_left}
 use Rattle.std.proofs.Common.{mul-lt-mul_of_pos_right, mul_right_comm, arith, pow_pos, pow-add, to_z-of_z, Fits, SFits, to_z, of_z}
 use mathlib.Core.Path.{subst⁻¹}
@@ -173,4 +174,5 @@ module _ (w : Width) (a b : ℤ) (fa : SFits w a) (fb : SFits w b) where
 
   pub subtract-wraps : to_z w ((of_z w a + (2 ^ bits w - of_z w b)) % 2 ^ bits w) ≡ wrapped w (a -ℤ b)
   unfolding wrapped
-  subtract-wraps = ap (to_z w) (on-bits (λ (m n : ℕ). (m + (2 ^ bits w - n)) % 2 ^ bits w) ∙ sym (residue-difference (2 ^ bits w) (pow_pos (bits w)) a b))
+  subtract-wraps = ap (to_z w) (on-bits (λ (m n : ℕ). (m + (2 ^ bits w - n)) % 2 ^ bits w)
+      ∙ sym (residue-difference (2 ^ bits w) (pow_pos (bits w)) a b))

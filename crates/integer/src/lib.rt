@@ -27,8 +27,8 @@ pub trait Whole: Copy {
 
     ghost natural: { Self.Bits → ℕ };
 
-    // The number whose two's complement is `bits`: the top bit counts −128 or −32,768, the others as they stand. Document
-    // 02, Q-5: the sign comes by arithmetic alone, here, in `bits` and in the three functions below.
+    // The number whose two's complement is `bits`: the top bit counts −128 or −32,768, the others as they stand.
+    // Document 02, Q-5: the sign comes by arithmetic alone, here, in `bits` and in the three functions below.
     fn from_bits(bits: Self::Bits) -> Self
         ensures { value result ≡ to_z width (natural bits) };
 

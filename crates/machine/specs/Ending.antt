@@ -26,7 +26,8 @@ pub data Ends (k : Kernel) (slot clock : ℕ) (disc : List ℕ) (n : ℕ) : Type
   stopped : effect_at k slot clock disc ≡ stops → n ≡ 0 → Ends k slot clock disc n
   faulted : effect_at k slot clock disc ≡ faults n → 1 ≤ n → n ≤ 9 → Ends k slot clock disc n
   unplaced : (name kind : ℕ) (bytes : List ℕ) (l : Local) → effect_at k slot clock disc ≡ assigns name kind bytes l
-      → ((placed k slot name kind bytes).placing ≡ Err NoEntry) ⊎ ((placed k slot name kind bytes).placing ≡ Err NoRun) → n ≡ 10
+      → ((placed k slot name kind bytes).placing ≡ Err NoEntry) ⊎ ((placed k slot name kind bytes).placing ≡ Err NoRun)
+      → n ≡ 10
       → Ends k slot clock disc n
   broken : (r : Request) → effect_at k slot clock disc ≡ asks r → answered k slot disc r ≡ breaks n
       → Ends k slot clock disc n

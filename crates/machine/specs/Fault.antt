@@ -8,8 +8,8 @@ use Rattle.machine.specs.declared.fault.Fault.TheVariants.{NoVariable, NoPlace, 
 -- Document 01: "1 no such instruction; 2 code ended; 3 jump outside 0 to the code length, or ENDLOOP with no loop; 4
 -- stack above 32; 5 nothing there, too few bytes below it; 6 a type not taken here, malformed string; 7 whole divisor
 -- zero; 8 conversion of NaN or to a whole outside the type's range, negative whole root, or c + b above 251 on a value
--- not zero; 9 no such variable; 10 no variable entry or run; 11 no open file; 12 past the file's end; 13 OPEN's new file
--- refused"
+-- not zero; 9 no such variable; 10 no variable entry or run; 11 no open file; 12 past the file's end; 13 OPEN's new
+-- file refused"
 abbrev pub fault_number : Fault → ℕ
 fault_number NoInstruction = 1
 fault_number CodeEnded = 2

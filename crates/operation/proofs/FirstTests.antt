@@ -53,7 +53,8 @@ module _ (disc area : List ℕ) where
     where
       go : (a : Bool) → is_disc_length (length disc) && is_area_length (length area) ≡ a → (b : Bool) → good_disc disc ≡ b
           → (c : Bool) → good_area disc area ≡ c
-          → ◌≡◌ {A = Result (Unit {0}) Refusal} (Ok u) (unless a (Err WrongLength) (unless b (Err BadDisc) (unless c (Err BadArea) (Ok tt))))
+          → ◌≡◌ {A = Result (Unit {0}) Refusal} (Ok u) (unless a (Err WrongLength) (unless b (Err BadDisc) (unless c (Err BadArea) (Ok
+          tt))))
           → Passes disc area
       go false p b q c r h = absurd (let z : ◌≡◌ {A = ℕ} 0 1 = cc in omega arith)
       go true p false q c r h = absurd (let z : ◌≡◌ {A = ℕ} 0 1 = cc in omega arith)

@@ -44,7 +44,8 @@ module _ (types : Types) (stack : List ℕ) (v : TopValue) where
       let e = sym known.0 in
       let i : v.at + v.len ≤ length stack = known.1 in
       let z = part_length stack v.at v.len i in
-      let o : TakenOff types stack (item_at stack v.kind v.at v.len) (take v.at stack) = subst (Pops types stack) e (pop-pops types stack) in
+      let o : TakenOff types stack (item_at stack v.kind v.at v.len) (take v.at stack) =
+      subst (Pops types stack) e (pop-pops types stack) in
       let b = length-take-le v.at stack (omega arith) in
       record { pops = e; size = z; inside = omega (arith, o.lay); off = o }
 

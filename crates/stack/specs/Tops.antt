@@ -1,11 +1,12 @@
 -- What the code's answers to popping stand for.
-use Rattle.std.specs.Prelude.{ℕ, ◌+◌, Bool, true, false, List, take, Result, Ok, Err}
+use Rattle.std.specs.Prelude.{ℕ, ◌+◌, Bool, true, false, List, take, pos, Result, Ok, Err}
 use Rattle.buffer.specs.Buffer.{part}
-use Rattle.machine.specs.Effect.{number}
+use Rattle.machine.specs.Effect.{Effect, faults, number}
 use Rattle.machine.specs.Fault.{fault_number}
-use Rattle.machine.specs.Stack.{Popped, popped, cannot}
+use Rattle.machine.specs.Stack.{Popped, popped, cannot, pop}
 use Rattle.machine.specs.declared.fault.Fault.{Fault}
 use Rattle.number.specs.declared.Number.{Number}
+use Rattle.number.specs.declared.Number.TheVariants.{Char}
 use Rattle.operator.specs.declared.instruction.Types.{Types}
 use Rattle.operator.specs.declared.instruction.Types.TheVariants.{AnyNumber, CharOrInt, IntOrFloat, CharOrFloat}
 use Rattle.operator.specs.declared.instruction.Types.TheVariants.{AnyString, AnyValue, Nothing}
@@ -43,6 +44,21 @@ numbered (cannot fault) = no_number fault
 abbrev pub number_on : List ℕ → Result TopNumber Fault → Numbered
 number_on stack (Ok top) = number_above top.number (take top.below stack)
 number_on stack (Err fault) = no_number (fault_number fault)
+
+-- the number popped next, from what lies below one popped before; a fault met before stays
+abbrev pub next_numbered : Types → Numbered → Numbered
+next_numbered types (number_above a rest) = numbered (pop types rest)
+next_numbered types (no_number fault) = no_number fault
+
+-- the number, of which 0 is never used where there is none
+abbrev pub number_in : Result TopNumber Fault → Number
+number_in (Ok top) = top.number
+number_in (Err fault) = Char (pos 0)
+
+-- an instruction goes on with the number, or faults
+abbrev pub with_numbered : Numbered → (Number → List ℕ → Effect) → Effect
+with_numbered (number_above a rest) next = next a rest
+with_numbered (no_number fault) next = faults fault
 
 -- how many bytes lie below it
 abbrev pub bytes_below : Result TopNumber Fault → ℕ

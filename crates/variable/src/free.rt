@@ -52,8 +52,8 @@ fn blank(variables: &mut [u8], from: usize, end: usize)
     }
 }
 
-// Frees the variables that are gone. Document 01: "Ending (STOP, kill, fault) frees the process's variables."; "SET first
-// frees the old variable".
+// Frees the variables that are gone. Document 01: "Ending (STOP, kill, fault) frees the process's variables."; "SET
+// first frees the old variable".
 pub fn free<F: Fn(Variable) -> bool>(variables: &mut [u8], gone: F)
     requires { (length variables.old ≡ variables_size)
         × ((variables_of variables.old).count ≤ max_variables) × F.IsAlwaysCallable gone }

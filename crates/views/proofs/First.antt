@@ -150,7 +150,8 @@ index-alike p q d [] [] e h = refl
 index-alike p q d [] (y ∷ m) e h = absurd (omega arith)
 index-alike p q d (x ∷ l) [] e h = absurd (omega arith)
 index-alike p q d (x ∷ l) (y ∷ m) e h =
-    ap₂ (λ (a : Bool) (f : Option ℕ). here_or a f) (h 0 (omega arith)) (index-alike p q d l m (omega arith) (λ i k. h (suc i) (omega arith)))
+    ap₂ (λ (a : Bool) (f : Option ℕ). here_or a f) (h 0 (omega arith)) (index-alike p q d l m (omega arith) (λ i k. h (suc i) (omega
+    arith)))
 
 pub shown-name : (disc : List ℕ) (i : ℕ) (d : Shown) → i < file_count disc
     → (get_or (map (shown disc) (files disc)) i d).name ≡ (entry_at disc i).name

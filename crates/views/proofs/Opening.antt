@@ -188,7 +188,8 @@ module _ (k₁ k₂ : Kernel) (d₁ d₂ : List ℕ) (g₁ : GoodState k₁ d₁
             ∙ (λ z. with_file (base z) (record { start = same_count k₁ k₂ d₁ d₂ g₁ g₂ same z; len = n; offset = 0 }))
             ∙ sym (open-shows after₂ (with_local p₂ l) (run_from t n) (file_count d₂) live₂ some place₂)
 
-    created-by : (name : List ℕ) (n : ℕ) (l : Local) (a b : Result ℕ Refusal) → admission d₁ name n ≡ a → admission d₂ name n ≡ b → BothAdmit a b
+    created-by : (name : List ℕ) (n : ℕ) (l : Local) (a b : Result ℕ Refusal) → admission d₁ name n ≡ a → admission d₂ name n ≡ b
+        → BothAdmit a b
         → SameAnswered (created_at k₁ slot d₁ a name n l) (created_at k₂ slot d₂ b name n l)
     created-by name n l _ _ e f (both-denied r) = both-break refl
     created-by name n l _ _ e f (both-start s t) = new-start name n s t e f l
@@ -214,7 +215,8 @@ module _ (k₁ k₂ : Kernel) (d₁ d₂ : List ℕ) (g₁ : GoodState k₁ d₁
     unfolding answered
     opens-same name size l =
         subst
-        (λ (f : Option ℕ). (open_lacks (lookup d₁ name) (new_file_size d₁ size) d₁ name || open_lacks f (new_file_size d₂ size) d₂ name ≡ true)
+        (λ (f : Option ℕ). (open_lacks (lookup d₁ name) (new_file_size d₁ size) d₁ name || open_lacks f (new_file_size d₂ size) d₂ name
+        ≡ true)
         ⊎ SameAnswered (opened_at k₁ slot d₁ (lookup d₁ name) name size l) (opened_at k₂ slot d₂ f name size l))
         (same-lookup k₁ k₂ d₁ d₂ g₁ g₂ same name)
         (go (lookup d₁ name) refl)

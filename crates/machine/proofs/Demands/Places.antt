@@ -46,7 +46,8 @@ placing-lacking : (runs : List Run) (low high used limit n : ℕ) → placing_fa
 unfolding placing
 placing-lacking runs low high used limit n = go (ltb used limit) refl (place runs low high n) refl
   where
-    go : (free : Bool) → ltb used limit ≡ free → (f : Option ℕ) → place runs low high n ≡ f → placing_fault (if_entry free (ok_or f NoFreeRun)) ≡ 10
+    go : (free : Bool) → ltb used limit ≡ free → (f : Option ℕ) → place runs low high n ≡ f
+        → placing_fault (if_entry free (ok_or f NoFreeRun)) ≡ 10
         → (limit ≤ used) ⊎ NoneFits runs low high n
     go false p f q h = inl (ltb-false used limit p)
     go true p None q h = inr (no-place-none-fits runs low high n q)

@@ -82,7 +82,8 @@ module _ {k : Kernel} {disc : List ℕ} (good : GoodState k disc) (slot clock : 
       → Leaves (answering k slot disc (opened_at k slot disc (lookup disc name) name size l))
   opening name size l room = found (lookup disc name)
     where
-      judged : (n : ℕ) (a : Result ℕ Refusal) → admission disc name n ≡ a → Leaves (answering k slot disc (created_at k slot disc a name n l))
+      judged : (n : ℕ) (a : Result ℕ Refusal) → admission disc name n ≡ a → Leaves (answering k slot disc (created_at k slot disc a name n
+          l))
       judged n (Err r) q e = same_count e
       judged n (Ok s) q e =
           subst⁻¹ (λ (r : Process). Fresh p.id r (stored disc name (zeros n) s))

@@ -75,7 +75,12 @@ command-own {k} {disc} good c id j h = go (slot_of k id) refl
   where
     go : (f : Option ℕ) → slot_of k id ≡ f → (slot : ℕ) × (slot_of k id ≡ Some slot) × Own slot k disc j
     go None e = absurd (command-nowhere k j c id e h)
-    go (Some slot) e = (slot, e, command-at good slot (slot_at k id slot e).1 c j (subst (λ (f : Option ℕ). command_at f c k ≡ becomes j) e h))
+    go (Some slot) e = (
+      slot,
+      e,
+      command-at good slot (slot_at k id slot e).1 c j (subst (λ (f : Option ℕ). command_at f c k
+          ≡ becomes j) e h),
+    )
 
 -- ---- share
 -- the slot that the ID has, and the state with its new share

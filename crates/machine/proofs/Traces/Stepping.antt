@@ -204,7 +204,8 @@ module _ (i : ℕ) (prog : List ℕ) (s : Storage) (out : List ℕ) (q : Single)
         → is_running (process_at k slot) ≡ true
         → turn_disturbs i x.slot slot clock e ≡ false
     supposed x h r =
-        subst (λ (f : Option ℕ). turn_disturbs_at i f slot clock e ≡ false) (place_of x) (and-false-right (is_done_by a.number) _ (done r) h)
+        subst (λ (f : Option ℕ). turn_disturbs_at i f slot clock e ≡ false) (place_of x) (and-false-right (is_done_by a.number) _ (done r)
+        h)
 
     own-step : (x : Follows i prog k s.disc q) → x.slot ≡ slot → is_done_by a.number
         && turn_disturbs_at i (place_in s i) slot clock e ≡ false → Keeps i prog q e (Some (tick clock))

@@ -37,7 +37,8 @@ returns-then-not-is_apart c =
     let a = c.args in
     sym (all-tab-stop (entry_at a.disc.now) (λ e. beside e (entry_at a.disc.now a.i)) c.loop-j.j a.i (omega arith)
     (rw (
-      sym (rw (c.from.ensures, c.from-in-loop-j.ensures) at c.is_apart.ensures ∙ ap₂ apart c.run_at-earlier.ensures c.run_at-run.ensures) ∙ c.if-not-is_apart.true,
+      sym (rw (c.from.ensures, c.from-in-loop-j.ensures) at c.is_apart.ensures ∙ ap₂ apart c.run_at-earlier.ensures c.run_at-run.ensures)
+          ∙ c.if-not-is_apart.true,
       and-false,
     )))
 
@@ -49,7 +50,8 @@ loop-j-preserved c =
       all-tab-next (entry_at a.disc.now) (λ e. beside e (entry_at a.disc.now a.i)) c.loop-j.j c.loop-j.invariant.1
           (rw (
             same_names a.disc.now c.loop-j.j a.i _ _ c.same_name.ensures c.if-same_name.false,
-            sym (rw (c.from.ensures, c.from-in-loop-j.ensures) at c.is_apart.ensures ∙ ap₂ apart c.run_at-earlier.ensures c.run_at-run.ensures) ∙ c.if-not-is_apart.false,
+            sym (rw (c.from.ensures, c.from-in-loop-j.ensures) at c.is_apart.ensures
+                ∙ ap₂ apart c.run_at-earlier.ensures c.run_at-run.ensures) ∙ c.if-not-is_apart.false,
           )),
     )
 

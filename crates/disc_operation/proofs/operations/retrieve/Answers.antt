@@ -75,7 +75,8 @@ pub returns-then-out-len : goal.returns-then-out-len
 returns-then-out-len c =
     let a = c.args in
     file-short c.entry_at-entry.result a.disc.now a.out.now c.if-out-len.true
-    ∙ chosen a.disc.now a.name.now (sym c.in_ok-check.ensures) (sym c.find.ensures ∙ c.in_ok-i.ensures.ok_part) a.out.now c.entry_at-entry.ensures
+    ∙ chosen a.disc.now a.name.now (sym c.in_ok-check.ensures) (sym c.find.ensures
+    ∙ c.in_ok-i.ensures.ok_part) a.out.now c.entry_at-entry.ensures
 
 pub slice_bounds-read_at-end-2 : goal.slice_bounds-read_at-end-2
 slice_bounds-read_at-end-2 c = sym (length-take-le c.entry_at-entry.result.len c.args.out.now c.if-out-len.false)
@@ -84,7 +85,8 @@ pub read_at-requires : goal.read_at-requires
 read_at-requires c =
     let a = c.args in (
       omega (arith, length-take-le c.entry_at-entry.result.len a.out.now c.if-out-len.false),
-      held-inside (file a.disc.now a.name.now (sym c.in_ok-check.ensures) (sym c.find.ensures ∙ c.in_ok-i.ensures.ok_part) c.entry_at-entry.ensures),
+      held-inside (file a.disc.now a.name.now (sym c.in_ok-check.ensures) (sym c.find.ensures
+          ∙ c.in_ok-i.ensures.ok_part) c.entry_at-entry.ensures),
     )
 
 pub returns : goal.returns

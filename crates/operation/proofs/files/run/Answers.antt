@@ -20,7 +20,11 @@ returns-in_err-check c out =
     rw (p.1, p.2) (first-refused _ _ c.in_err-check.ensures out _)
 
 pub find_start-requires : goal.find_start-requires
-find_start-requires c = (disc-readable (first-passed c.args.disc.now c.args.area.now c.in_ok-check.ensures), area-size (first-passed c.args.disc.now c.args.area.now c.in_ok-check.ensures))
+find_start-requires c = (
+  disc-readable (first-passed c.args.disc.now c.args.area.now c.in_ok-check.ensures),
+  area-size (first-passed
+      c.args.disc.now c.args.area.now c.in_ok-check.ensures),
+)
 
 pub next_id-next-requires : goal.next_id-next-requires
 next_id-next-requires c = area-size (first-passed c.args.disc.now c.args.area.now c.in_ok-check.ensures)
@@ -31,7 +35,12 @@ entry_at-requires c =
     (r.low, omega (arith, c.in-Starts.ensures.1.file-low, r.few))
 
 pub start-requires : goal.start-requires
-start-requires c = (area-size (first-passed c.args.disc.now c.args.area.now c.in_ok-check.ensures), c.in-Starts.ensures.1.slot-low, omega (arith, next_low (first-passed c.args.disc.now c.args.area.now c.in_ok-check.ensures)))
+start-requires c = (
+  area-size (first-passed c.args.disc.now c.args.area.now c.in_ok-check.ensures),
+  c.in-Starts.ensures.1.slot-low,
+  omega
+      (arith, next_low (first-passed c.args.disc.now c.args.area.now c.in_ok-check.ensures)),
+)
 
 pub returns-in-Starts : goal.returns-in-Starts
 unfolding answer

@@ -1,0 +1,2 @@
+-- operands popped one below another
+pub mod Operands
