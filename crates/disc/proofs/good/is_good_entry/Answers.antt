@@ -15,6 +15,11 @@ use Rattle.disc.proofs.Goodness.{good-entry-is}
 use Rattle.disc.proofs.InPlace.{name-in-place}
 use Rattle.disc.proofs.good.is_good_entry.Goals as goal
 
+pub returns-then-not-is_good_field : goal.returns-then-not-is_good_field
+unfolding good_entry
+returns-then-not-is_good_field c =
+    rw (sym (c.is_good_field.ensures ∙ ap good_field (name-in-place c.args.disc.now c.args.i)) ∙ c.if-not-is_good_field.true)
+
 pub returns-then-from-ge-DATA_START : goal.returns-then-from-ge-DATA_START
 unfolding good_entry
 returns-then-from-ge-DATA_START c =
