@@ -15,22 +15,16 @@ pub enum Pair {
 pub fn promote(a: Number, b: Number) -> Pair
     ensures { result ≡ promoted a b }
 {
-    match a {
-        Number::Char(x) => match b {
-            Number::Char(y) => Pair::Chars(x, y),
-            Number::Int(y) => Pair::Ints(x as i16, y),
-            Number::Float(y) => Pair::Floats(x as f32, y),
-        },
-        Number::Int(x) => match b {
-            Number::Char(y) => Pair::Ints(x, y as i16),
-            Number::Int(y) => Pair::Ints(x, y),
-            Number::Float(y) => Pair::Floats(x as f32, y),
-        },
-        Number::Float(x) => match b {
-            Number::Char(y) => Pair::Floats(x, y as f32),
-            Number::Int(y) => Pair::Floats(x, y as f32),
-            Number::Float(y) => Pair::Floats(x, y),
-        },
+    match (a, b) {
+        (Number::Char(x), Number::Char(y)) => Pair::Chars(x, y),
+        (Number::Char(x), Number::Int(y)) => Pair::Ints(x as i16, y),
+        (Number::Char(x), Number::Float(y)) => Pair::Floats(x as f32, y),
+        (Number::Int(x), Number::Char(y)) => Pair::Ints(x, y as i16),
+        (Number::Int(x), Number::Int(y)) => Pair::Ints(x, y),
+        (Number::Int(x), Number::Float(y)) => Pair::Floats(x as f32, y),
+        (Number::Float(x), Number::Char(y)) => Pair::Floats(x, y as f32),
+        (Number::Float(x), Number::Int(y)) => Pair::Floats(x, y as f32),
+        (Number::Float(x), Number::Float(y)) => Pair::Floats(x, y),
     }
 }
 

@@ -1,5 +1,5 @@
 // MAP of a, b, c, d, e: (a − b) × (e − d) / (c − b) + d.
-ghost use Rattle.std.specs.Prelude.{◌≡◌, ◌-ℤ◌, nat_abs, pos, ◌<◌, ◌^◌};
+ghost use Rattle.std.specs.Prelude.{◌≡◌, ◌≢◌, ◌-ℤ◌, nat_abs, pos, ◌<◌, ◌^◌};
 ghost use Rattle.std.specs.Float.{binary32};
 ghost use Rattle.std.specs.Float.Ieee.{sub};
 ghost use Rattle.scaling.specs.Map.{wider, widest, exact, real, map_exact, map_whole, map_real};
@@ -21,22 +21,12 @@ pub enum Kind {
 fn wider_of(kind: Kind, a: Number) -> Kind
     ensures { result ≡ wider kind a }
 {
-    match a {
-        Number::Char(_) => kind,
-        Number::Int(_) => match kind {
-            Kind::Chars => Kind::Ints,
-            Kind::Ints => Kind::Ints,
-            Kind::Floats => Kind::Floats,
-        },
-        Number::Float(_) => Kind::Floats,
+    match (kind, a) {
+        (_, Number::Char(_)) => kind,
+        (Kind::Chars, Number::Int(_)) => Kind::Ints,
+        (_, Number::Int(_)) => kind,
+        (_, Number::Float(_)) => Kind::Floats,
     }
-}
-
-fn widest_of(a: Number, b: Number, c: Number, d: Number, e: Number) -> Kind
-    ensures { result ≡ widest a b c d e }
-{
-    let of_two = wider_of(wider_of(Kind::Chars, a), b);
-    wider_of(wider_of(wider_of(of_two, c), d), e)
 }
 
 // A whole number as it is.
@@ -67,47 +57,67 @@ fn difference(a: Number, b: Number) -> i64
     exact_of(a) as i64 - exact_of(b) as i64
 }
 
-// Document 02, Q-3: "on whole numbers exact, the quotient cut toward zero". The product has up to 34 bits.
-fn map_exact(a: Number, b: Number, c: Number, d: Number, e: Number) -> i64
-    requires { exact c -ℤ exact b ≡ pos 0 → ⊥ }
-    ensures { result ≡ map_exact (exact a) (exact b) (exact c) (exact d) (exact e) }
-{
-    let product = difference(a, b) * difference(e, d);
-    product / difference(c, b) + exact_of(d) as i64
-}
-
-// "the result reduced to the widest type; there equal b and c give fault 7": CHAR, and INT.
-fn map_whole<T: WholeNumber>(a: Number, b: Number, c: Number, d: Number, e: Number) -> Outcome
-    ensures { result ≡ map_whole T.width T.number (exact a) (exact b) (exact c) (exact d) (exact e) }
-{
-    if difference(c, b) == 0 {
-        return Err(ArithmeticError::DivisionByZero);
-    }
-    Ok(T::reduce(map_exact(a, b, c, d, e)).number())
-}
-
 fn real_difference(a: Number, b: Number) -> f32
     ensures { result ≡ sub binary32 (real a) (real b) }
 {
     real_of(a) - real_of(b)
 }
 
-// "With a FLOAT all five become FLOAT and each operation rounds once, as written."
-#[tactic(auto, unfolding(crate::specs::Map::map_real))]
-fn map_real(a: Number, b: Number, c: Number, d: Number, e: Number) -> f32
-    ensures { result ≡ map_real (real a) (real b) (real c) (real d) (real e) }
-{
-    let product = real_difference(a, b) * real_difference(e, d);
-    product / real_difference(c, b) + real_of(d)
+// The five operands, in the order in which they were pushed.
+#[derive(Clone, Copy)]
+struct Operands {
+    a: Number,
+    b: Number,
+    c: Number,
+    d: Number,
+    e: Number,
 }
 
-fn map_as(kind: Kind, a: Number, b: Number, c: Number, d: Number, e: Number) -> Outcome
-    ensures { result ≡ mapped_as kind a b c d e }
-{
-    match kind {
-        Kind::Chars => map_whole::<i8>(a, b, c, d, e),
-        Kind::Ints => map_whole::<i16>(a, b, c, d, e),
-        Kind::Floats => Ok(Number::Float(map_real(a, b, c, d, e))),
+impl Operands {
+    fn widest(self) -> Kind
+        ensures { result ≡ widest self.a self.b self.c self.d self.e }
+    {
+        let of_two = wider_of(wider_of(Kind::Chars, self.a), self.b);
+        wider_of(wider_of(wider_of(of_two, self.c), self.d), self.e)
+    }
+
+    // Document 02, Q-3: "on whole numbers exact, the quotient cut toward zero". The product has up to 34 bits.
+    fn map_exact(self) -> i64
+        requires { exact self.c -ℤ exact self.b ≢ pos 0 }
+        ensures { result ≡ map_exact (exact self.a) (exact self.b) (exact self.c) (exact self.d) (exact self.e) }
+    {
+        let product = difference(self.a, self.b) * difference(self.e, self.d);
+        product / difference(self.c, self.b) + exact_of(self.d) as i64
+    }
+
+    // "the result reduced to the widest type; there equal b and c give fault 7": CHAR, and INT.
+    fn map_whole<T: WholeNumber>(self) -> Outcome
+        ensures { result ≡ map_whole T.width T.number
+            (exact self.a) (exact self.b) (exact self.c) (exact self.d) (exact self.e) }
+    {
+        if difference(self.c, self.b) == 0 {
+            return Err(ArithmeticError::DivisionByZero);
+        }
+        Ok(T::reduce(self.map_exact()).number())
+    }
+
+    // "With a FLOAT all five become FLOAT and each operation rounds once, as written."
+    #[tactic(auto, unfolding(crate::specs::Map::map_real))]
+    fn map_real(self) -> f32
+        ensures { result ≡ map_real (real self.a) (real self.b) (real self.c) (real self.d) (real self.e) }
+    {
+        let product = real_difference(self.a, self.b) * real_difference(self.e, self.d);
+        product / real_difference(self.c, self.b) + real_of(self.d)
+    }
+
+    fn map_as(self, kind: Kind) -> Outcome
+        ensures { result ≡ mapped_as kind self.a self.b self.c self.d self.e }
+    {
+        match kind {
+            Kind::Chars => self.map_whole::<i8>(),
+            Kind::Ints => self.map_whole::<i16>(),
+            Kind::Floats => Ok(Number::Float(self.map_real())),
+        }
     }
 }
 
@@ -115,5 +125,6 @@ fn map_as(kind: Kind, a: Number, b: Number, c: Number, d: Number, e: Number) -> 
 pub fn map(a: Number, b: Number, c: Number, d: Number, e: Number) -> Outcome
     ensures { result ≡ mapped a b c d e }
 {
-    map_as(widest_of(a, b, c, d, e), a, b, c, d, e)
+    let operands = Operands { a, b, c, d, e };
+    operands.map_as(operands.widest())
 }

@@ -4,7 +4,7 @@ use lib.IntN.{ℤ, ◌*ℤ◌, ◌+ℤ◌}
 use lib.Signed.{quot_z}
 use Rattle.scaling.specs.Map.{map_exact}
 use Rattle.scaling.proofs.Mapping.{adds, divides, reads-exact}
-use Rattle.scaling.proofs.map.map_exact.Goals as goal
+use Rattle.scaling.proofs.map.Operands.map_exact.Goals as goal
 
 pub nonzero_div-result : goal.nonzero_div-result
 nonzero_div-result c =

@@ -1,5 +1,5 @@
 -- One number after another.
-use Rattle.scaling.proofs.map.widest_of.Goals as goal
+use Rattle.scaling.proofs.map.Operands.widest.Goals as goal
 
 pub returns : goal.returns
 returns c =
