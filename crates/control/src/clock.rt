@@ -14,11 +14,11 @@ use stack::{Action, Step};
 pub fn delay(frame: &Frame<'_>, clock: u32) -> Result<Step, Fault>
     ensures { Performs frame.now (λ code stack loopstart at. delays code stack loopstart at clock) result }
 {
-    let x = top_number(frame.stack, Types::CharOrInt)?;
+    let x = top_number(frame.process.stack, Types::CharOrInt)?;
     if is_ahead(x.number, clock) {
-        return Ok(frame.act(Action::Push, frame.at));
+        return Ok(frame.process.act(Action::Push, frame.at));
     }
-    frame.go(x.below, frame.at + 1)
+    frame.process.go(x.below, frame.at + 1)
 }
 
 // MILLIS: an INT, high byte first.
@@ -26,5 +26,5 @@ pub fn push_clock(frame: &Frame<'_>, clock: u32) -> Result<Step, Fault>
     ensures { Performs frame.now (λ code stack loopstart at. push_clock code stack loopstart at clock) result }
 {
     let bytes = [(clock % 65536 / 256) as u8, (clock % 256) as u8];
-    frame.push_item(frame.stack.len(), 2, &bytes, frame.at + 1)
+    frame.process.push_item(frame.process.stack.len(), 2, &bytes, frame.at + 1)
 }

@@ -9,7 +9,7 @@ use machine::fault::Fault;
 use number::value::is_zero;
 use operator::instruction::Types;
 use stack::Step;
-use stack::frame::Frame;
+use stack::frame::{Frame, Running};
 use stack::tops::top_number;
 
 // Document 01: "loop 2 (hex FFFF: none)"
@@ -24,22 +24,22 @@ pub fn jump_if(frame: &Frame<'_>, zero: bool) -> Result<Step, Fault>
 {
     let from = frame.at + 1;
     let to = from + 1;
-    if frame.code.len() < to {
+    if frame.process.code.len() < to {
         return Err(Fault::CodeEnded);
     }
-    let x = top_number(frame.stack, Types::AnyNumber)?;
+    let x = top_number(frame.process.stack, Types::AnyNumber)?;
     if is_zero(x.number) == zero {
-        return frame.jump(to + usize::from(frame.code[from]));
+        return frame.process.jump(to + usize::from(frame.process.code[from]));
     }
-    frame.jump(to)
+    frame.process.jump(to)
 }
 
 // ENDIF
 pub fn drop_number(frame: &Frame<'_>) -> Result<Step, Fault>
     ensures { Performs frame.now drops result }
 {
-    let x = top_number(frame.stack, Types::AnyNumber)?;
-    frame.go(x.below, frame.at + 1)
+    let x = top_number(frame.process.stack, Types::AnyNumber)?;
+    frame.process.go(x.below, frame.at + 1)
 }
 
 // Document 01: "zero skips b + 1; otherwise the raw byte c + b + 4 is pushed."
@@ -51,20 +51,20 @@ fn choose_while(
     b: u8,
     to: usize,
 ) -> Result<Step, Fault>
-    requires { (kept ≤ length frame.now.stack.now) × (to ≤ length frame.now.code.now) }
-    ensures { Means frame.now.stack.now result (cond zero
-        (lands frame.now (to + (b + 1)) (take kept frame.now.stack.now))
+    requires { (kept ≤ length frame.now.process.stack.now) × (to ≤ length frame.now.process.code.now) }
+    ensures { Means frame.now.process.stack.now result (cond zero
+        (lands frame.now.process (to + (b + 1)) (take kept frame.now.process.stack.now))
         (unless_faults (leb (c + b) 251) 8
-        (lands frame.now to (take kept frame.now.stack.now ++ ((c + b + 4) ∷ []))))) }
+        (lands frame.now.process to (take kept frame.now.process.stack.now ++ ((c + b + 4) ∷ []))))) }
 {
     if zero {
-        return frame.go(kept, to + (usize::from(b) + 1));
+        return frame.process.go(kept, to + (usize::from(b) + 1));
     }
     let distance = usize::from(c) + usize::from(b);
     if MAX_DISTANCE < distance {
         return Err(Fault::OutOfRange);
     }
-    frame.push_bytes(kept, &[(distance + 4) as u8], b"", to)
+    frame.process.push_bytes(kept, &[(distance + 4) as u8], b"", to)
 }
 
 // Document 01: "WHILE c b pops"
@@ -73,12 +73,12 @@ pub fn enter_while(frame: &Frame<'_>) -> Result<Step, Fault>
 {
     let from = frame.at + 1;
     let to = from + 2;
-    if frame.code.len() < to {
+    if frame.process.code.len() < to {
         return Err(Fault::CodeEnded);
     }
-    let x = top_number(frame.stack, Types::AnyNumber)?;
-    let c = frame.code[from];
-    let b = frame.code[from + 1];
+    let x = top_number(frame.process.stack, Types::AnyNumber)?;
+    let c = frame.process.code[from];
+    let b = frame.process.code[from + 1];
     choose_while(frame, x.below, is_zero(x.number), c, b, to)
 }
 
@@ -87,16 +87,16 @@ pub fn enter_while(frame: &Frame<'_>) -> Result<Step, Fault>
 pub fn end_while(frame: &Frame<'_>) -> Result<Step, Fault>
     ensures { Performs frame.now ends_while result }
 {
-    let n = frame.stack.len();
+    let n = frame.process.stack.len();
     if n < 1 {
         return Err(Fault::NothingThere);
     }
-    let distance = usize::from(frame.stack[n - 1]);
+    let distance = usize::from(frame.process.stack[n - 1]);
     let from = frame.at + 1;
     if from < distance {
         return Err(Fault::OutsideCode);
     }
-    frame.go(n - 1, from - distance)
+    frame.process.go(n - 1, from - distance)
 }
 
 // LOOP, whatever loop was marked before.
@@ -104,10 +104,9 @@ pub fn mark_loop(frame: &Frame<'_>) -> Result<Step, Fault>
     ensures { Performs frame.now marks_loop result }
 {
     let from = frame.at + 1;
-    let marked = Frame {
-        code: frame.code,
-        stack: frame.stack,
-        at: frame.at,
+    let marked = Running {
+        code: frame.process.code,
+        stack: frame.process.stack,
         loopstart: from as u16,
     };
     marked.jump(from)
@@ -118,8 +117,8 @@ pub fn mark_loop(frame: &Frame<'_>) -> Result<Step, Fault>
 pub fn loop_back(frame: &Frame<'_>) -> Result<Step, Fault>
     ensures { Performs frame.now loops_back result }
 {
-    if frame.loopstart == NO_LOOP {
+    if frame.process.loopstart == NO_LOOP {
         return Err(Fault::OutsideCode);
     }
-    frame.jump(usize::from(frame.loopstart))
+    frame.process.jump(usize::from(frame.process.loopstart))
 }

@@ -41,19 +41,19 @@ fn next_operand(
 fn operate_one(frame: &Frame<'_>, operator: Unary) -> Result<Step, Fault>
     ensures { Performs frame.now (evaluates (Operator.OfOne operator)) result }
 {
-    let x = top_operand(frame.stack, Operator::OfOne(operator), 0)?;
+    let x = top_operand(frame.process.stack, Operator::OfOne(operator), 0)?;
     let answer = operator::unary::apply(operator, x.number);
-    frame.push_outcome(x.below, answer, frame.at + 1)
+    frame.process.push_outcome(x.below, answer, frame.at + 1)
 }
 
 #[tactic(auto, unfolding(machine::specs::Effect::operates))]
 fn operate_two(frame: &Frame<'_>, operator: Binary) -> Result<Step, Fault>
     ensures { Performs frame.now (evaluates (Operator.OfTwo operator)) result }
 {
-    let y = top_operand(frame.stack, Operator::OfTwo(operator), 1)?;
-    let x = next_operand(frame.stack, y.below, Operator::OfTwo(operator), 0)?;
+    let y = top_operand(frame.process.stack, Operator::OfTwo(operator), 1)?;
+    let x = next_operand(frame.process.stack, y.below, Operator::OfTwo(operator), 0)?;
     let answer = operator::binary::apply(operator, x.number, y.number);
-    frame.push_outcome(x.below, answer, frame.at + 1)
+    frame.process.push_outcome(x.below, answer, frame.at + 1)
 }
 
 // CONSTRAIN of x, a, b.
@@ -62,11 +62,11 @@ fn constrain(frame: &Frame<'_>) -> Result<Step, Fault>
     ensures { Performs frame.now (evaluates (Operator.Scale Scaling.Constrain)) result }
 {
     let operator = Operator::Scale(Scaling::Constrain);
-    let b = top_operand(frame.stack, operator, 2)?;
-    let a = next_operand(frame.stack, b.below, operator, 1)?;
-    let x = next_operand(frame.stack, a.below, operator, 0)?;
+    let b = top_operand(frame.process.stack, operator, 2)?;
+    let a = next_operand(frame.process.stack, b.below, operator, 1)?;
+    let x = next_operand(frame.process.stack, a.below, operator, 0)?;
     let answer = scaling::constrain::constrain(x.number, a.number, b.number);
-    frame.push_number(x.below, answer, frame.at + 1)
+    frame.process.push_number(x.below, answer, frame.at + 1)
 }
 
 // MAP of a, b, c, d, e.
@@ -75,13 +75,13 @@ fn map(frame: &Frame<'_>) -> Result<Step, Fault>
     ensures { Performs frame.now (evaluates (Operator.Scale Scaling.Map)) result }
 {
     let operator = Operator::Scale(Scaling::Map);
-    let e = top_operand(frame.stack, operator, 4)?;
-    let d = next_operand(frame.stack, e.below, operator, 3)?;
-    let c = next_operand(frame.stack, d.below, operator, 2)?;
-    let b = next_operand(frame.stack, c.below, operator, 1)?;
-    let a = next_operand(frame.stack, b.below, operator, 0)?;
+    let e = top_operand(frame.process.stack, operator, 4)?;
+    let d = next_operand(frame.process.stack, e.below, operator, 3)?;
+    let c = next_operand(frame.process.stack, d.below, operator, 2)?;
+    let b = next_operand(frame.process.stack, c.below, operator, 1)?;
+    let a = next_operand(frame.process.stack, b.below, operator, 0)?;
     let answer = scaling::map::map(a.number, b.number, c.number, d.number, e.number);
-    frame.push_outcome(a.below, answer, frame.at + 1)
+    frame.process.push_outcome(a.below, answer, frame.at + 1)
 }
 
 // POW of x, y.
@@ -90,10 +90,10 @@ fn power(frame: &Frame<'_>) -> Result<Step, Fault>
     ensures { Performs frame.now (evaluates (Operator.Scale Scaling.Power)) result }
 {
     let operator = Operator::Scale(Scaling::Power);
-    let y = top_operand(frame.stack, operator, 1)?;
-    let x = next_operand(frame.stack, y.below, operator, 0)?;
+    let y = top_operand(frame.process.stack, operator, 1)?;
+    let x = next_operand(frame.process.stack, y.below, operator, 0)?;
     let answer = scaling::power::power_of(x.number, y.number);
-    frame.push_outcome(x.below, answer, frame.at + 1)
+    frame.process.push_outcome(x.below, answer, frame.at + 1)
 }
 
 fn scale(frame: &Frame<'_>, operator: Scaling) -> Result<Step, Fault>

@@ -17,7 +17,7 @@ use control::flow::{drop_number, end_while, enter_while, jump_if, loop_back, mar
 use evaluation::operate::operate;
 use machine::fault::Fault;
 use machine::instruction::Instruction;
-use stack::frame::Frame;
+use stack::frame::{Frame, Running};
 use stack::{Action, Step};
 
 // Only GET looks at the work area.
@@ -73,11 +73,11 @@ pub fn execute(
     if code.len() <= at {
         return Err(Fault::CodeEnded);
     }
-    let frame = Frame {
+    let process = Running {
         code,
         stack,
-        at,
         loopstart,
     };
+    let frame = Frame { process, at };
     perform(&frame, clock, area, owner, instruction(code[at]))
 }

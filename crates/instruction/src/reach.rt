@@ -13,9 +13,9 @@ use stack::{Action, Step};
 fn open_file(frame: &Frame<'_>) -> Result<Step, Fault>
     ensures { Performs frame.now (λ code stack loopstart at. reaches code stack loopstart at Reach.OpenFile) result }
 {
-    let size = top_number(frame.stack, Types::AnyNumber)?;
-    let name = top_value(&frame.stack[..size.below], Types::AnyString)?;
-    Ok(frame.act_on(
+    let size = top_number(frame.process.stack, Types::AnyNumber)?;
+    let name = top_value(&frame.process.stack[..size.below], Types::AnyString)?;
+    Ok(frame.process.act_on(
         Action::Open(size.number),
         name.at,
         name.len - 1,
@@ -26,23 +26,23 @@ fn open_file(frame: &Frame<'_>) -> Result<Step, Fault>
 fn write_file(frame: &Frame<'_>) -> Result<Step, Fault>
     ensures { Performs frame.now (λ code stack loopstart at. reaches code stack loopstart at Reach.WriteFile) result }
 {
-    let x = top_value(frame.stack, Types::AnyValue)?;
-    Ok(frame.act_on(Action::Write, x.at, x.len, frame.at + 1))
+    let x = top_value(frame.process.stack, Types::AnyValue)?;
+    Ok(frame.process.act_on(Action::Write, x.at, x.len, frame.at + 1))
 }
 
 fn fork_process(frame: &Frame<'_>) -> Result<Step, Fault>
     ensures { Performs frame.now (λ code stack loopstart at. reaches code stack loopstart at Reach.Fork) result }
 {
-    let name = top_value(frame.stack, Types::AnyString)?;
-    Ok(frame.act_on(Action::Fork, name.at, name.len - 1, frame.at + 1))
+    let name = top_value(frame.process.stack, Types::AnyString)?;
+    Ok(frame.process.act_on(Action::Fork, name.at, name.len - 1, frame.at + 1))
 }
 
 fn wait(frame: &Frame<'_>) -> Result<Step, Fault>
     ensures { Performs frame.now
         (λ code stack loopstart at. reaches code stack loopstart at Reach.WaitUntilDone) result }
 {
-    let id = top_number(frame.stack, Types::AnyNumber)?;
-    Ok(frame.act_on(Action::Await(id.number), id.below, 0, frame.at + 1))
+    let id = top_number(frame.process.stack, Types::AnyNumber)?;
+    Ok(frame.process.act_on(Action::Await(id.number), id.below, 0, frame.at + 1))
 }
 
 // CLOSE and the READs take nothing off the stack.
@@ -51,10 +51,10 @@ pub fn reach(frame: &Frame<'_>, r: Reach) -> Result<Step, Fault>
 {
     match r {
         Reach::OpenFile => open_file(frame),
-        Reach::CloseFile => Ok(frame.act(Action::Close, frame.at + 1)),
+        Reach::CloseFile => Ok(frame.process.act(Action::Close, frame.at + 1)),
         Reach::WriteFile => write_file(frame),
-        Reach::ReadNumber(kind) => Ok(frame.act(Action::Read(kind), frame.at + 1)),
-        Reach::ReadString => Ok(frame.act(Action::ReadString, frame.at + 1)),
+        Reach::ReadNumber(kind) => Ok(frame.process.act(Action::Read(kind), frame.at + 1)),
+        Reach::ReadString => Ok(frame.process.act(Action::ReadString, frame.at + 1)),
         Reach::Fork => fork_process(frame),
         Reach::WaitUntilDone => wait(frame),
     }

@@ -24,10 +24,10 @@ pub fn push_literal(frame: &Frame<'_>, kind: u8) -> Result<Step, Fault>
 {
     let from = frame.at + 1;
     let to = from + usize::from(kind);
-    if frame.code.len() < to {
+    if frame.process.code.len() < to {
         return Err(Fault::CodeEnded);
     }
-    frame.push_bytes(frame.stack.len(), &frame.code[from..to], &[kind], to)
+    frame.process.push_bytes(frame.process.stack.len(), &frame.process.code[from..to], &[kind], to)
 }
 
 // STRING: up to its zero inside the code.
@@ -35,11 +35,11 @@ pub fn push_text(frame: &Frame<'_>) -> Result<Step, Fault>
     ensures { Performs frame.now push_text result }
 {
     let from = frame.at + 1;
-    let to = from + (text_length(&frame.code[from..]) + 1);
-    if frame.code.len() < to {
+    let to = from + (text_length(&frame.process.code[from..]) + 1);
+    if frame.process.code.len() < to {
         return Err(Fault::CodeEnded);
     }
-    frame.push_item(frame.stack.len(), STRING_KIND, &frame.code[from..to], to)
+    frame.process.push_item(frame.process.stack.len(), STRING_KIND, &frame.process.code[from..to], to)
 }
 
 pub fn set_variable(frame: &Frame<'_>) -> Result<Step, Fault>
@@ -47,11 +47,11 @@ pub fn set_variable(frame: &Frame<'_>) -> Result<Step, Fault>
 {
     let from = frame.at + 1;
     let to = from + 1;
-    if frame.code.len() < to {
+    if frame.process.code.len() < to {
         return Err(Fault::CodeEnded);
     }
-    let x = top_value(frame.stack, Types::AnyValue)?;
-    Ok(frame.act_on(Action::Assign(frame.code[from], x.kind), x.at, x.len, to))
+    let x = top_value(frame.process.stack, Types::AnyValue)?;
+    Ok(frame.process.act_on(Action::Assign(frame.process.code[from], x.kind), x.at, x.len, to))
 }
 
 pub fn get_variable(frame: &Frame<'_>, area: &[u8], owner: u16) -> Result<Step, Fault>
@@ -61,15 +61,15 @@ pub fn get_variable(frame: &Frame<'_>, area: &[u8], owner: u16) -> Result<Step, 
 {
     let from = frame.at + 1;
     let to = from + 1;
-    if frame.code.len() < to {
+    if frame.process.code.len() < to {
         return Err(Fault::CodeEnded);
     }
-    match find_in(area, frame.code[from], owner) {
+    match find_in(area, frame.process.code[from], owner) {
         Some(i) => {
             let e = variable_at(area, i);
             let start = e.address as usize;
             let end = start + e.size as usize;
-            frame.push_item(frame.stack.len(), e.kind, &area[start..end], to)
+            frame.process.push_item(frame.process.stack.len(), e.kind, &area[start..end], to)
         }
         None => Err(Fault::NoVariable),
     }
@@ -77,20 +77,20 @@ pub fn get_variable(frame: &Frame<'_>, area: &[u8], owner: u16) -> Result<Step, 
 
 fn print_text(frame: &Frame<'_>, text: &[u8], ends: bool, kept: usize) -> Step
     requires { (length text.now < stack_size) × (kept ≤ stack_size) }
-    ensures { (result ≡ step_of Action.Print kept (text.now ++ newline ends) (frame.now.at + 1) frame.now.loopstart)
+    ensures { (result ≡ step_of Action.Print kept (text.now ++ newline ends) (frame.now.at + 1) frame.now.process.loopstart)
         × (result.len ≤ stack_size) }
 {
     if ends {
-        return frame.step(Action::Print, kept, text, b"\n", frame.at + 1);
+        return frame.process.step(Action::Print, kept, text, b"\n", frame.at + 1);
     }
-    frame.step(Action::Print, kept, text, b"", frame.at + 1)
+    frame.process.step(Action::Print, kept, text, b"", frame.at + 1)
 }
 
 // Document 01: "PRINT: CHAR one byte; INT decimal; STRING without its zero; FLOAT to the nearest hundredth"
 fn print_value(frame: &Frame<'_>, kind: u8, bytes: &[u8], ends: bool, kept: usize) -> Step
     requires { Printable kind bytes.now × (kept ≤ stack_size) }
     ensures { (result ≡ step_of Action.Print kept
-        (printed (record { kind = kind; bytes = bytes.now }) ++ newline ends) (frame.now.at + 1) frame.now.loopstart)
+        (printed (record { kind = kind; bytes = bytes.now }) ++ newline ends) (frame.now.at + 1) frame.now.process.loopstart)
         × (result.len ≤ stack_size) }
 {
     if kind == STRING_KIND {
@@ -108,7 +108,7 @@ fn print_value(frame: &Frame<'_>, kind: u8, bytes: &[u8], ends: bool, kept: usiz
 pub fn print(frame: &Frame<'_>, ends: bool) -> Result<Step, Fault>
     ensures { Performs frame.now (λ code stack loopstart at. prints code stack loopstart at ends) result }
 {
-    let x = top_value(frame.stack, Types::AnyValue)?;
+    let x = top_value(frame.process.stack, Types::AnyValue)?;
     let end = x.at + x.len;
-    Ok(print_value(frame, x.kind, &frame.stack[x.at..end], ends, x.at))
+    Ok(print_value(frame, x.kind, &frame.process.stack[x.at..end], ends, x.at))
 }

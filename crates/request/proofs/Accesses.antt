@@ -1,4 +1,5 @@
 -- WRITE and the READs: which accesses an open file grants, and what is answered to each.
+use Rattle.std.specs.Prelude.{Result, Ok, Err}
 use Prim.Native.Nat.{ℕ, ◌+◌, ◌≤◌, ◌<◌}
 use mathlib.Core.Path.{◌≡◌, refl, sym, ap, ◌∙◌}
 use mathlib.Core.Bool.{Bool, true, false, cond}
@@ -13,6 +14,9 @@ use Rattle.machine.specs.Area.{kernel_of}
 use Rattle.machine.specs.Beyond.{Answered, advanced, answered, breaks, continues, file_run, inside as inside_file, own_file, pushed}
 use Rattle.machine.specs.Beyond.{received, unless_breaks, with_open_file}
 use Rattle.machine.specs.Effect.{reads, reads_string, writes}
+use Rattle.machine.specs.Fault.{fault_number}
+use Rattle.machine.specs.declared.fault.Fault.{Fault}
+use Rattle.machine.specs.declared.fault.Fault.TheVariants.{NoOpenFile, PastEnd}
 use Rattle.machine.specs.Limits.{stack_size}
 use Rattle.machine.specs.Stack.{push, push_string, string_kind}
 use Rattle.machine.specs.State.{Local}
@@ -30,46 +34,46 @@ use Rattle.disc.proofs.Names.{text-with-zero, trimmed-short}
 use Rattle.store.specs.File.{read_at, written_at}
 use Rattle.store.proofs.Contents.{contents-length, contents-short}
 use Rattle.request.specs.Answers.{Ahead, Lies, access_to, text_read}
-use Rattle.request.specs.declared.Access.{Access}
-use Rattle.request.specs.declared.Access.TheVariants.{Inside, NoFile, PastEnd}
 use Rattle.request.proofs.Answering.{about-length}
 
 -- ---- the access
 module _ (f : OpenFile) (n : ℕ) where
-  pub no-file : f.len ≡ 0 → access_to f n ≡ NoFile
+  pub no-file : f.len ≡ 0 → access_to f n ≡ Err NoOpenFile
   unfolding access_to
   no-file h = rw (eq-eqb f.len 0 h)
 
-  pub inside : (f.len ≡ 0 → ⊥) → f.offset + n ≤ f.len → access_to f n ≡ Inside
+  pub inside : (f.len ≡ 0 → ⊥) → f.offset + n ≤ f.len → access_to f n ≡ Ok tt
   unfolding access_to
   inside h g = rw (ne_eqb f.len 0 h, le-leb (f.offset + n) f.len g)
 
-  pub past_end : (f.len ≡ 0 → ⊥) → f.len < f.offset + n → access_to f n ≡ PastEnd
+  pub past_end : (f.len ≡ 0 → ⊥) → f.len < f.offset + n → access_to f n ≡ Err PastEnd
   unfolding access_to
   past_end h g = rw (ne_eqb f.len 0 h, lt-leb (f.offset + n) f.len g)
 
-  pub ahead : {disc : List ℕ} → Lies disc f → access_to f n ≡ Inside → Ahead disc f n
+  pub ahead : {disc : List ℕ} → Lies disc f → access_to f n ≡ Ok tt → Ahead disc f n
   unfolding access_to
   ahead {disc} l e = go (eqb f.len 0) refl (leb (f.offset + n) f.len) refl e
     where
-      go : (a : Bool) → eqb f.len 0 ≡ a → (b : Bool) → leb (f.offset + n) f.len ≡ b → cond a NoFile (cond b Inside PastEnd) ≡ Inside
+      go : (a : Bool) → eqb f.len 0 ≡ a → (b : Bool) → leb (f.offset + n) f.len ≡ b → cond a (Err NoOpenFile) (cond b (Ok (tt {0})) (Err PastEnd)) ≡ Ok (tt {0})
           → Ahead disc f n
       go true p b q e = absurd (let z : ◌≡◌ {A = ℕ} 0 1 = cc in omega arith)
       go false p false q e = absurd (let z : ◌≡◌ {A = ℕ} 0 1 = cc in omega arith)
       go false p true q e = record { within = leb-true _ _ q; inside = l.inside (eqb-false _ _ p) }
 
 -- ---- the answer to an access: the fault, or the rest
+abbrev pub Access : Type 0
+Access = Result (Unit {0}) Fault
+
 abbrev pub granted : Access → Answered → Answered
-granted Inside rest = rest
-granted NoFile rest = breaks 11
-granted PastEnd rest = breaks 12
+granted (Ok done) rest = rest
+granted (Err fault) rest = breaks (fault_number fault)
 
 granted-by : (f : OpenFile) (n : ℕ) (rest : Answered)
     → cond (eqb f.len 0) (breaks 11) (unless_breaks (leb (f.offset + n) f.len) 12 rest) ≡ granted (access_to f n) rest
 unfolding access_to
 granted-by f n rest = go (eqb f.len 0) (leb (f.offset + n) f.len)
   where
-    go : (a b : Bool) → cond a (breaks 11) (unless_breaks b 12 rest) ≡ granted (cond a NoFile (cond b Inside PastEnd)) rest
+    go : (a b : Bool) → cond a (breaks 11) (unless_breaks b 12 rest) ≡ granted (cond a (Err NoOpenFile) (cond b (Ok (tt {0})) (Err PastEnd))) rest
     go true b = refl
     go false true = refl
     go false false = refl

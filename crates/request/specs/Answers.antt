@@ -1,7 +1,9 @@
 -- Requests in code: what disc and area are after an answer, and what the code needs of an open file.
-use Rattle.std.specs.Prelude.{ℕ, ◌+◌, ◌≤◌, ◌≡◌, Bool, cond, ◌&&◌, List, [], ◌∷◌, ◌++◌, eqb, leb, pos, length, take}
+use Rattle.std.specs.Prelude.{ℕ, ◌+◌, ◌≤◌, ◌≡◌, Bool, cond, ◌&&◌, List, [], ◌∷◌, ◌++◌, eqb, leb, pos, length, take, Result, Ok, Err}
 use Rattle.machine.specs.Area.{kernel_of}
 use Rattle.machine.specs.Beyond.{Answered, file_run}
+use Rattle.machine.specs.declared.fault.Fault.{Fault}
+use Rattle.machine.specs.declared.fault.Fault.TheVariants.{NoOpenFile, PastEnd}
 use Rattle.machine.specs.Stack.{string_kind}
 use Rattle.machine.specs.State.{is_live}
 use Rattle.machine.specs.Turn.{answering}
@@ -13,8 +15,6 @@ use Rattle.place.specs.declared.Run.{Run}
 use Rattle.process.specs.Stepping.{Left, left_by, stack_of}
 use Rattle.stack.specs.declared.Step.{Step}
 use Rattle.store.specs.File.{read_at}
-use Rattle.request.specs.declared.Access.{Access}
-use Rattle.request.specs.declared.Access.TheVariants.{Inside, NoFile, PastEnd}
 
 -- disc and area after an answer to the process in that slot
 abbrev pub after : (disc area : List ℕ) → ℕ → Answered → Left
@@ -35,8 +35,8 @@ pub record Ahead (disc : List ℕ) (f : OpenFile) (n : ℕ) : Type 0 where
   pub inside : f.start + f.len ≤ length disc
 
 -- Document 01: "11 no open file; 12 past the file's end"
-unfoldable pub access_to : OpenFile → ℕ → Access
-access_to f n = cond (eqb f.len 0) NoFile (cond (leb (f.offset + n) f.len) Inside PastEnd)
+unfoldable pub access_to : OpenFile → ℕ → Result (Unit {0}) Fault
+access_to f n = cond (eqb f.len 0) (Err NoOpenFile) (cond (leb (f.offset + n) f.len) (Ok tt) (Err PastEnd))
 
 -- the stack with a string of n bytes read onto it
 abbrev pub text_read : List ℕ → Process → Step → ℕ → List ℕ

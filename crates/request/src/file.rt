@@ -8,7 +8,6 @@ ghost use Rattle.request.specs.Answers.{Ahead, Lies, access_to, after, text_read
 ghost use Rattle.stack.specs.Steps.{about, keeping};
 ghost use Rattle.store.specs.File.{read_at};
 
-use crate::Access;
 use machine::fault::Fault;
 use machine::limits::STACK_SIZE;
 use machine::{OpenFile, Process};
@@ -17,17 +16,18 @@ use process::advance::go_on;
 use process::ending::finish;
 use stack::{STRING_KIND, Step};
 
-fn access(file: OpenFile, n: usize) -> Access
+// Whether n bytes can be written or read at the offset. Document 01: "11 no open file; 12 past the file's end"
+fn access(file: OpenFile, n: usize) -> Result<(), Fault>
     requires { n ≤ 65536 }
     ensures { result ≡ access_to file n }
 {
     if file.len == 0 {
-        return Access::NoFile;
+        return Err(Fault::NoOpenFile);
     }
     if file.offset as usize + n <= file.len as usize {
-        return Access::Inside;
+        return Ok(());
     }
-    Access::PastEnd
+    Err(Fault::PastEnd)
 }
 
 // The bytes of the file that is open.
@@ -62,7 +62,7 @@ pub fn write_file(disc: &mut [u8], area: &mut [u8], slot: usize, p: Process, d: 
     let file = p.file;
     let n = d.len as usize;
     match access(file, n) {
-        Access::Inside => {
+        Ok(()) => {
             let bytes = d.bytes;
             store::file::write_at(disc, file_run(file), file.offset as usize, &bytes[..n]);
             go_on(
@@ -76,8 +76,7 @@ pub fn write_file(disc: &mut [u8], area: &mut [u8], slot: usize, p: Process, d: 
                 advanced(file, n),
             );
         }
-        Access::NoFile => finish(area, slot, Some(Fault::NoOpenFile)),
-        Access::PastEnd => finish(area, slot, Some(Fault::PastEnd)),
+        Err(fault) => finish(area, slot, Some(fault)),
     }
 }
 
@@ -126,12 +125,11 @@ pub fn read_number(disc: &[u8], area: &mut [u8], slot: usize, p: Process, d: Ste
     let file = p.file;
     let n = kind as usize;
     match access(file, n) {
-        Access::Inside => {
+        Ok(()) => {
             let tail = [kind];
             push_read(disc, area, slot, file, d, n, &tail);
         }
-        Access::NoFile => finish(area, slot, Some(Fault::NoOpenFile)),
-        Access::PastEnd => finish(area, slot, Some(Fault::PastEnd)),
+        Err(fault) => finish(area, slot, Some(fault)),
     }
 }
 

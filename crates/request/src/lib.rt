@@ -7,14 +7,6 @@ pub mod open;
 pub mod start;
 pub mod wait;
 
-// Whether so many bytes can be written or read at the offset of an open file.
-#[derive(Clone, Copy)]
-pub enum Access {
-    Inside,
-    NoFile,
-    PastEnd,
-}
-
 // Where a program is started, slot and place in the directory; or why it is not.
 #[derive(Clone, Copy)]
 pub enum Starting {

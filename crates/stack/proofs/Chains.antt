@@ -34,6 +34,11 @@ module _ (stack : List ℕ) (types : Types) where
       goes_on (pop types (take t.below stack)) (next t.number) ∙ ap (λ (n : Numbered). with_numbered n (next t.number)) (sym e)
   popped-next (Err fault) r e next = ap (λ (n : Numbered). with_numbered n (next (number_in (Err fault)))) (sym e)
 
+  -- a number that is there
+  pub number-goes : {a : Number} {rest : List ℕ} → number_above a rest ≡ numbered (pop types stack)
+      → (next : Number → List ℕ → Effect) → with_number (pop types stack) next ≡ next a rest
+  number-goes e next = goes_on (pop types stack) next ∙ ap (λ (n : Numbered). with_numbered n next) (sym e)
+
 -- what is done with the last number may go by what was popped
 pub by_number : (stack : List ℕ) (t : Result TopNumber Fault) (next : Number → List ℕ → Effect)
     → with_numbered (number_on stack t) next ≡ with_numbered (number_on stack t) (λ a rest. next (number_in t) rest)

@@ -64,17 +64,6 @@ string-text stack kind at len t =
     )
 
 -- ---- numbers
--- an instruction goes on with the number popped
-goes : (p : Popped) {a : Number} {rest : List ℕ} → number_above a rest ≡ numbered p → (next : Number → List ℕ → Effect)
-    → with_number p next ≡ next a rest
-goes (popped item rest) e next = cc
-goes (cannot fault) e next = cc
-
-module _ (types : Types) (stack : List ℕ) where
-  pub number-goes : {a : Number} {rest : List ℕ} → number_above a rest ≡ numbered (pop types stack)
-      → (next : Number → List ℕ → Effect) → with_number (pop types stack) next ≡ next a rest
-  number-goes = goes (pop types stack)
-
 -- ---- sets of types of numbers
 is_number : (kind n : ℕ) → includes AnyNumber n ≡ true → eqb kind n ≡ true → includes AnyNumber kind ≡ true
 is_number kind n h e = subst⁻¹ (λ (k : ℕ). includes AnyNumber k ≡ true) (eqb-true kind n e) h

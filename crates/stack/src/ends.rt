@@ -2,7 +2,7 @@
 ghost use Rattle.std.specs.Prelude.{◌≡◌};
 ghost use Rattle.stack.specs.Steps.{last_step};
 
-use crate::frame::Frame;
+use crate::frame::Running;
 use crate::{Action, STRING_KIND, Step};
 use machine::fault::Fault;
 use machine::limits::STACK_SIZE;
@@ -25,7 +25,7 @@ impl Step {
     }
 }
 
-impl Frame<'_> {
+impl Running<'_> {
     ghost use Rattle.std.specs.Prelude.{[], ◌++◌, ◌≡◌, ◌+◌, ◌≤◌, length, take};
     ghost use Rattle.buffer.specs.Buffer.{part};
     ghost use Rattle.machine.specs.Effect.{with_outcome};

@@ -1,12 +1,20 @@
 // Where a process meets an instruction.
+ghost use Rattle.std.specs.Prelude.{◌+◌, ◌≤◌, length};
 ghost use Rattle.stack.specs.Ready.{Ready};
 
-// Its program, its stack below SP, the place of the instruction's byte, and where its loop begins.
+// A process as an instruction finds it: its program, its stack below SP, and where its loop begins.
 #[derive(Clone, Copy)]
-pub struct Frame<'a> {
+pub struct Running<'a> {
     pub code: &'a [u8],
     pub stack: &'a [u8],
-    pub at: usize,
     pub loopstart: u16,
-    pub ghost ready: { Ready code.now stack.now at },
+    pub ghost ready: { Ready code.now stack.now },
+}
+
+// The process, and the place of the instruction's byte in its program.
+#[derive(Clone, Copy)]
+pub struct Frame<'a> {
+    pub process: Running<'a>,
+    pub at: usize,
+    pub ghost inside: { at + 1 ≤ length process.code.now },
 }

@@ -1,6 +1,6 @@
 -- Five operands come off, e first.
 use Rattle.machine.specs.Effect.{operates}
-use Rattle.stack.proofs.Popping.{number-goes}
+use Rattle.stack.proofs.Chains.{number-goes}
 use Rattle.evaluation.proofs.operate.map.Goals as goal
 
 pub returns : goal.returns

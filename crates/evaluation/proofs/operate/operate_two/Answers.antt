@@ -1,6 +1,6 @@
 -- The second operand comes off first: the other's type is judged only then.
 use Rattle.machine.specs.Effect.{operates}
-use Rattle.stack.proofs.Popping.{number-goes}
+use Rattle.stack.proofs.Chains.{number-goes}
 use Rattle.evaluation.proofs.operate.operate_two.Goals as goal
 
 pub returns : goal.returns

@@ -5,7 +5,8 @@ use Rattle.buffer.specs.Buffer.{part}
 use Rattle.buffer.proofs.Parts.{part-of-take}
 use Rattle.operator.specs.declared.instruction.Types.TheVariants.{AnyString}
 use Rattle.disc.specs.Name.{trimmed}
-use Rattle.stack.proofs.Popping.{OnTop, number-goes, string-text, value-on-top}
+use Rattle.stack.proofs.Chains.{number-goes}
+use Rattle.stack.proofs.Popping.{OnTop, string-text, value-on-top}
 use Rattle.instruction.proofs.reach.open_file.Goals as goal
 
 -- a string on top of the first n bytes of the stack
@@ -31,12 +32,12 @@ name_below stack n kind place len fits top =
 
 pub overflow_sub-name : goal.overflow_sub-name
 overflow_sub-name c =
-    let st = take c.in_ok-size.size.below c.args.frame.now.stack.now in
+    let st = take c.in_ok-size.size.below c.args.frame.now.process.stack.now in
     (string-text st _ _ _ (value-on-top AnyString st c.in_ok-name.name c.in_ok-name.ensures)).0
 
 pub returns : goal.returns
 returns c =
-    let st = c.args.frame.now.stack.now in
+    let st = c.args.frame.now.process.stack.now in
     let below = c.in_ok-size.size.below in
     let string = value-on-top AnyString (take below st) c.in_ok-name.name c.in_ok-name.ensures in
     let name = name_below st below _ _ _ c.in_ok-size.ensures.1 string in

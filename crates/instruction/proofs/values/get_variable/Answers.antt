@@ -22,7 +22,7 @@ pub variable_at-e-requires : goal.variable_at-e-requires
 variable_at-e-requires c =
     let a = c.args in
     let table = (kernel_of a.area.now).variables in
-    let name = get_or a.frame.now.code.now (a.frame.now.at + 1) 0 in
+    let name = get_or a.frame.now.process.code.now (a.frame.now.at + 1) 0 in
     let held = found-held table name a.owner c.in-Some.i c.requires.1 (sym c.find_in.ensures ∙ c.in-Some.is) in
     (c.requires.0, held.low)
 
@@ -33,20 +33,20 @@ returns-in-Some c =
     let i = c.in-Some.i in
     let e = c.variable_at-e in
     let table = (kernel_of a.area.now).variables in
-    let name = get_or f.code.now (f.at + 1) 0 in
-    let fits : f.at + 1 + 1 ≤ length f.code.now = omega arith in
+    let name = get_or f.process.code.now (f.at + 1) 0 in
+    let fits : f.at + 1 + 1 ≤ length f.process.code.now = omega arith in
     let lookup = sym c.find_in.ensures ∙ c.in-Some.is in
     let held = found-held table name a.owner i c.requires.1 lookup in
     let o = own table name a.owner i held lookup in
     let kind = ap (λ (d : Variable). d.kind) e.ensures in
     let bytes = held_bytes a.area.now i e.result held e.ensures in
-    rw (le-leb _ _ fits, o.found, o.is, ← kind, ← bytes) (rw (take-length f.stack.now) at c.push_item.ensures)
+    rw (le-leb _ _ fits, o.found, o.is, ← kind, ← bytes) (rw (take-length f.process.stack.now) at c.push_item.ensures)
 
 pub returns-in-None : goal.returns-in-None
 returns-in-None c =
     let a = c.args in
     let f = a.frame.now in
     let table = (kernel_of a.area.now).variables in
-    let name = get_or f.code.now (f.at + 1) 0 in
-    let fits : f.at + 1 + 1 ≤ length f.code.now = omega arith in
+    let name = get_or f.process.code.now (f.at + 1) 0 in
+    let fits : f.at + 1 + 1 ≤ length f.process.code.now = omega arith in
     rw (le-leb _ _ fits, find-own-none table name a.owner no_cell (sym c.find_in.ensures ∙ c.in-None.is))

@@ -7,7 +7,7 @@ use Rattle.instruction.proofs.values.print.Goals as goal
 
 pub print_value-requires : goal.print_value-requires
 print_value-requires c =
-    let st = c.args.frame.now.stack.now in
+    let st = c.args.frame.now.process.stack.now in
     let v = c.in_ok-x.x in
     let top = value-on-top AnyValue st v c.in_ok-x.ensures in
     let size = top.size in

@@ -32,8 +32,8 @@ pub returns : goal.returns
 returns c =
     let f = c.args.frame.now in
     let n = c.text_length.result in
-    let text = measured f.code.now (f.at + 1) n c.text_length.ensures in
-    let h : f.at + 1 + (n + 1) ≤ length f.code.now = omega arith in
-    let with-zero = pushed f.code.now (f.at + 1) n c.text_length.ensures h in
+    let text = measured f.process.code.now (f.at + 1) n c.text_length.ensures in
+    let h : f.at + 1 + (n + 1) ≤ length f.process.code.now = omega arith in
+    let with-zero = pushed f.process.code.now (f.at + 1) n c.text_length.ensures h in
     rw (text, le-leb _ _ h)
-    (rw (take-length f.stack.now, part-to f.code.now (f.at + 1) (n + 1), with-zero) at c.push_item.ensures)
+    (rw (take-length f.process.stack.now, part-to f.process.code.now (f.at + 1) (n + 1), with-zero) at c.push_item.ensures)

@@ -20,31 +20,26 @@ write_at-requires c =
     let a = c.args in
     let size : length a.d.bytes ≡ stack_size = search rules in
     let n = about-length c.requires.0 size in
-    let h = ahead a.p.file a.d.len c.requires.1 (sym c.in-Inside.ensures) in
+    let h = ahead a.p.file a.d.len c.requires.1 (sym c.in-Ok.ensures) in
     rw c.file_run.ensures (omega (arith, h.within), h.inside)
 
 pub advanced-requires : goal.advanced-requires
-advanced-requires c = (ahead c.args.p.file c.args.d.len c.requires.1 (sym c.in-Inside.ensures)).within
+advanced-requires c = (ahead c.args.p.file c.args.d.len c.requires.1 (sym c.in-Ok.ensures)).within
 
 pub go_on-requires : goal.go_on-requires
 go_on-requires c = may-keep c.requires.0
 
-pub returns-in-Inside : goal.returns-in-Inside
-returns-in-Inside c =
+pub returns-in-Ok : goal.returns-in-Ok
+returns-in-Ok c =
     let a = c.args in
     let disc = a.disc.now in
     let size : length a.d.bytes ≡ stack_size = search rules in
     let e = c.write_at.ensures ∙ ap (λ (r : Run). written_at disc r a.p.file.offset (about a.d)) c.file_run.ensures in
     ap (λ (l : List ℕ). left l c.go_on.new.area) e
-    ∙ goes_on c.requires.0 disc (write_granted c.requires.0 disc size (sym c.in-Inside.ensures))
+    ∙ goes_on c.requires.0 disc (write_granted c.requires.0 disc size (sym c.in-Ok.ensures))
     (own-keeping c.requires.0) c.advanced.ensures c.go_on.ensures
 
-pub returns-in-NoFile : goal.returns-in-NoFile
-returns-in-NoFile c =
+pub returns-in-Err : goal.returns-in-Err
+returns-in-Err c =
     let size : length c.args.d.bytes ≡ stack_size = search rules in
-    breaks-off c.requires.0 _ (write_granted c.requires.0 _ size (sym c.in-NoFile.ensures)) c.finish.ensures
-
-pub returns-in-PastEnd : goal.returns-in-PastEnd
-returns-in-PastEnd c =
-    let size : length c.args.d.bytes ≡ stack_size = search rules in
-    breaks-off c.requires.0 _ (write_granted c.requires.0 _ size (sym c.in-PastEnd.ensures)) c.finish-in-PastEnd.ensures
+    breaks-off c.requires.0 _ (write_granted c.requires.0 _ size (sym c.in-Err.ensures)) c.finish.ensures

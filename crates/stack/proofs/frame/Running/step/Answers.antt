@@ -5,7 +5,7 @@ use native.Mathlib.Nat.{zero-add}
 use Rattle.buffer.specs.Buffer.{overwrite}
 use Rattle.buffer.proofs.Buffer.{overwrite-joined, overwrite-zeros}
 use Rattle.machine.specs.Limits.{stack_size}
-use Rattle.stack.proofs.frame.Frame.step.Goals as goal
+use Rattle.stack.proofs.frame.Running.step.Goals as goal
 
 -- two parts laid over the zeros of a whole stack
 laid : (head tail : List ℕ) → length head + length tail ≤ stack_size → {first second : List ℕ}

@@ -6,7 +6,7 @@ use Rattle.number.specs.Value.{encoded}
 use Rattle.number.specs.declared.Number.{Number}
 use Rattle.number.specs.declared.value.Encoded.{Encoded}
 use Rattle.stack.proofs.Steps.{encoded-inside, number_pushed}
-use Rattle.stack.proofs.frame.Frame.push_number.Goals as goal
+use Rattle.stack.proofs.frame.Running.push_number.Goals as goal
 
 -- as many bytes as the type says are there
 inside : (a : Number) (e : Encoded) → e ≡ encoded a → e.kind ≤ length e.bytes
