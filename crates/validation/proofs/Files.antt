@@ -1,7 +1,11 @@
 -- Files found by their start and length as one number.
+use Rattle.std.specs.Prelude.{None, Option, Some, is_some}
 use Prim.Native.Nat.{ℕ, ◌+◌, ◌*◌, ◌≤◌, ◌<◌}
+use Rattle.std.specs.List.{position, position_or_len}
+use Rattle.std.proofs.lemmas.List.Quantifiers.{position-Some}
+use Rattle.std.proofs.lemmas.List.Sums.{fails_before_first}
 use mathlib.Core.Path.{◌≡◌, refl, sym, ap, ◌∙◌, subst}
-use mathlib.Core.Bool.{Bool, true, false, ◌&&◌, and-false}
+use mathlib.Core.Bool.{Bool, true, false, cond, ◌&&◌, and-false}
 use mathlib.Core.List.{List}
 use native.Mathlib.Omega.{arith}
 use lib.Dec.{eqb, leb, ltb}
@@ -44,6 +48,25 @@ module _ {A : Type 0} (p : A → Bool) (f : ℕ → A) (n : ℕ) where
 
   pub any-tab-none : ((i : ℕ) → i < n → p (f i) ≡ false) → any p (tab f n) ≡ false
   any-tab-none h = not-true-is-false (any p (tab f n)) (λ t. let s = any-tab-is t in true-not-false s.holds (h s.place s.inside))
+
+-- ---- what a search among the runs found
+module _ (runs : List ℕ) (run : ℕ) (long : length runs ≡ max_files) where
+  abbrev same_run : ℕ → Bool
+  same_run n = eqb n run
+
+  none-before : (t : Bool) → ltb (position_or_len same_run runs) (length runs) ≡ t
+      → cond t (Some (position_or_len same_run runs)) None ≡ None → length runs ≤ position_or_len same_run runs
+  none-before true e h = absurd (let z : ◌≡◌ {A = ℕ} 0 1 = cc in omega arith)
+  none-before false e h = ltb-false _ _ e
+
+  pub file-of : {f : Option ℕ} → f ≡ position same_run runs → FileOf runs run f
+  file-of e =
+      record {
+        found = λ i h. let s = position-Some same_run runs i 0 (sym e ∙ h) in (omega (arith, s.0), eqb-true _ _ s.1);
+        missed = λ h i k q.
+            true-not-false (eq-eqb _ _ q)
+            (fails_before_first same_run runs i 0 (omega (arith, none-before _ refl (sym e ∙ h))));
+      }
 
 -- ---- the column of runs
 module _ (disc runs : List ℕ) (listed : Listed disc runs) where
@@ -105,43 +128,44 @@ module _ (disc runs : List ℕ) (listed : Listed disc runs) (bd : Bytes disc) (b
           ∙ start j q) (good i h).some (good j k).some
           (beside_at disc listed.sound i j h k (eqb-false i j t)).clear)
 
-  module _ (file : ℕ) (sought : FileOf runs (four_at bytes at) file) where
-    found_inside : (four_at bytes at ≡ 0 → ⊥) → file < max_files → file < file_count disc
-    found_inside n h = go (ltb file (file_count disc)) refl
+  module _ (found : Option ℕ) (sought : FileOf runs (four_at bytes at) found) where
+    found_inside : (four_at bytes at ≡ 0 → ⊥) → (file : ℕ) → found ≡ Some file → file < file_count disc
+    found_inside n file h = go (ltb file (file_count disc)) refl
       where
         go : (t : Bool) → ltb file (file_count disc) ≡ t → file < file_count disc
         go true t = ltb-true _ _ t
-        go false t = absurd (n (sym (sought.found h) ∙ run-behind disc runs listed file (ltb-false _ _ t) h))
+        go false t =
+            let s = sought.found file h in absurd (n (sym s.1 ∙ run-behind disc runs listed file (ltb-false _ _ t) s.0))
 
-    found-run : (h : file < max_files) → file < file_count disc → of_run bytes at (entry_at disc file) ≡ true
-    found-run h k = sym (number-of-run file k) ∙ eq-eqb _ _ (sym (sought.found h) ∙ run_at disc runs listed file k)
+    found-run : (file : ℕ) → found ≡ Some file → file < file_count disc → of_run bytes at (entry_at disc file) ≡ true
+    found-run file h k = sym (number-of-run file k) ∙ eq-eqb _ _ (sym (sought.found file h).1 ∙ run_at disc runs listed file k)
 
-    missed-run : max_files ≤ file → (i : ℕ) → i < file_count disc → of_run bytes at (entry_at disc i) ≡ false
+    missed-run : found ≡ None → (i : ℕ) → i < file_count disc → of_run bytes at (entry_at disc i) ≡ false
     missed-run h i k =
         sym (number-of-run i k)
         ∙ ne_eqb _ _ (λ e. sought.missed h i (omega (arith, listed.readable.few)) (run_at disc runs listed i k ∙ sym e))
 
     -- ---- a further test of the file of that run
     module _ (q : Entry → Bool) where
-      pub missed-any : max_files ≤ file → any (λ e. q e && of_run bytes at e) (files disc) ≡ false
+      pub missed-any : found ≡ None → any (λ e. q e && of_run bytes at e) (files disc) ≡ false
       missed-any h =
           any-tab-none (λ e. q e && of_run bytes at e) (entry_at disc) (file_count disc)
           (λ i k. rw (missed-run h i k) (and-false (q (entry_at disc i))))
 
-      pub found-any : (four_at bytes at ≡ 0 → ⊥) → file < max_files
+      pub found-any : (four_at bytes at ≡ 0 → ⊥) → (file : ℕ) → found ≡ Some file
           → q (entry_at disc file) ≡ any (λ e. q e && of_run bytes at e) (files disc)
-      found-any n h =
+      found-any n file h =
           both_ways (q (entry_at disc file)) (any (λ e. q e && of_run bytes at e) (files disc))
-          (λ t. any-tab-at (λ e. q e && of_run bytes at e) (entry_at disc) (file_count disc) file k (and_both t (found-run h k)))
+          (λ t. any-tab-at (λ e. q e && of_run bytes at e) (entry_at disc) (file_count disc) file k (and_both t (found-run file h k)))
           (λ t. of-found (any-tab-is (λ e. q e && of_run bytes at e) (entry_at disc) (file_count disc) t))
         where
           k : file < file_count disc
-          k = found_inside n h
+          k = found_inside n file h
 
           of-found : SomeAt (λ e. q e && of_run bytes at e) (entry_at disc) (file_count disc) → q (entry_at disc file) ≡ true
           of-found s =
               let e = entry_at disc s.place in
-              let w = one-of-run s.place file s.inside k (and_right (q e) (of_run bytes at e) s.holds) (found-run h k) in
+              let w = one-of-run s.place file s.inside k (and_right (q e) (of_run bytes at e) s.holds) (found-run file h k) in
               subst (λ (i : ℕ). q (entry_at disc i) ≡ true) w (and_left (q e) (of_run bytes at e) s.holds)
 
   -- no file is empty
@@ -157,15 +181,15 @@ module _ (disc runs : List ℕ) (listed : Listed disc runs) (bd : Bytes disc) (b
           let g : 1 ≤ (entry_at disc i).len = (good i k).some in
           ne_eqb (word_at bytes (at + 2)) (entry_at disc i).len (λ e. omega arith)
 
-  -- a run that is not empty is that of a file where the search ends before the last place
-  pub open-listed : (file : ℕ) → FileOf runs (four_at bytes at) file → (word_at bytes (at + 2) ≡ 0 → ⊥)
-      → ltb file max_files ≡ any (of_run bytes at) (files disc)
+  -- a run that is not empty is that of a file where the search finds one
+  pub open-listed : (found : Option ℕ) → FileOf runs (four_at bytes at) found → (word_at bytes (at + 2) ≡ 0 → ⊥)
+      → is_some found ≡ any (of_run bytes at) (files disc)
   unfolding four_at
-  open-listed file s n = go (ltb file max_files) refl
+  open-listed found s n = go found refl
     where
       some : four_at bytes at ≡ 0 → ⊥
       some z = let l : word_at bytes at + word_at bytes (at + 2) * 65536 ≡ 0 = z in n (omega arith)
 
-      go : (t : Bool) → ltb file max_files ≡ t → t ≡ any (of_run bytes at) (files disc)
-      go true t = found-any file s (λ e. true) some (ltb-true _ _ t)
-      go false t = sym (missed-any file s (λ e. true) (ltb-false _ _ t))
+      go : (f : Option ℕ) → found ≡ f → is_some f ≡ any (of_run bytes at) (files disc)
+      go (Some i) t = found-any found s (λ e. true) some i t
+      go None t = sym (missed-any found s (λ e. true) t)

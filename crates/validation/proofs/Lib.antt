@@ -1,5 +1,4 @@
 -- The laws of the tests of a good area on its bytes, by topic.
-mod Filled
 pub mod Zeros
 pub mod Slots
 pub mod Columns

@@ -1,16 +1,19 @@
 -- IDs by slot: 0 where nothing lives.
-use Prim.Native.Nat.{ℕ, ◌+◌, ◌<◌}
-use mathlib.Core.Path.{◌≡◌, refl, sym, ◌∙◌}
+use Rattle.std.specs.List.{list_all, range_with_len}
+use Prim.Native.Nat.{ℕ, zero, suc, ◌+◌, ◌≤◌, ◌<◌}
+use mathlib.Core.Path.{◌≡◌, refl, sym, ap, ◌∙◌}
 use mathlib.Core.Bool.{Bool, true, false, cond, ◌&&◌, ◌||◌, not, and-false}
 use mathlib.Core.List.{List, [], ◌∷◌, map}
 use native.Mathlib.Numerals.{add-one}
 use native.Mathlib.Omega.{arith}
 use lib.Dec.{eqb}
 use lib.ListN.{get_or, length, take}
-use lib.Seq.{get_or-take, length-take-le, take-suc}
+use lib.Seq.{get_or-take, length-take-le, take-suc, take_all}
 use borrow.Author.Tests.{eq-eqb, eqb-false, eqb-true, ne_eqb}
-use Rattle.buffer.specs.Lists.{all, any, cons_if, keep, pairs}
+use Rattle.buffer.specs.Lists.{all, any, cons_if, keep, pairs, tab}
 use Rattle.buffer.proofs.Bools.{and_both, and_left, and_right, not-true-is-false, true-not-false}
+use Rattle.buffer.proofs.Equivalence.{all-tab-more}
+use Rattle.buffer.proofs.Tables.{tab-range}
 use Rattle.buffer.proofs.Lists.{all-each, pairs-at, pairs-snoc}
 use Rattle.machine.specs.GoodArea.{other_id}
 use Rattle.machine.specs.State.{is_live}
@@ -63,6 +66,33 @@ module _ {A : Type 0} (r : A → A → Bool) (l : List A) (i : ℕ) (d : A) (h :
       let m : j < i = omega (arith, length-take-le i l (omega arith)) in
       rw (get_or-take i l j d m) (pairs-at r l j i d m h t)))
       e)
+
+-- ---- tests of the slots by number, as `all` over a range answers them
+all-listed : {A : Type 0} (p : A → Bool) (f : ℕ → A) (l : List ℕ) → list_all (λ k. p (f k)) l ≡ all p (map f l)
+unfolding all
+all-listed p f [] = refl
+all-listed p f (x ∷ l) = ap (λ b. p (f x) && b) (all-listed p f l)
+
+pub all-range : {A : Type 0} (p : A → Bool) (f : ℕ → A) (n : ℕ) → list_all (λ k. p (f k)) (range_with_len 0 n) ≡ all p (tab f n)
+all-range p f n = all-listed p f (range_with_len 0 n) ∙ ap (all p) (tab-range f n)
+
+-- every two of a list, by the later of the two
+module _ {A : Type 0} (r : A → A → Bool) (l : List A) (d : A) where
+  abbrev later : ℕ → Bool
+  later i = all (λ x. r x (get_or l i d)) (take i l)
+
+  pairs-tab : (n : ℕ) → n ≤ length l → all later (tab (λ i. i) n) ≡ pairs r (take n l)
+  unfolding all tab pairs
+  pairs-tab zero h = refl
+  pairs-tab (suc n) h =
+      let step = ap (λ (b : Bool). b && later n) (pairs-tab n (omega arith)) in
+      let told : all later (tab (λ i. i) (n + 1)) ≡ pairs r (take (n + 1) l) =
+      all-tab-more later (λ i. i) n ∙ step ∙ sym (more r l n d (omega arith)) in
+      rw add-one at told
+
+  pub pairs-range : (n : ℕ) → n ≡ length l → list_all later (range_with_len 0 n) ≡ pairs r l
+  pairs-range n h =
+      all-range later (λ i. i) n ∙ pairs-tab n (omega arith) ∙ ap (pairs r) (take_all n l (omega arith))
 
 -- ---- the IDs of good records
 abbrev live_id : Process → ℕ

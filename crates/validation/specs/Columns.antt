@@ -1,6 +1,6 @@
 -- How the tests of a good area read it: IDs by slot, files and variables by columns.
-use Rattle.std.specs.Prelude.{ℕ, ◌+◌, ◌*◌, ◌≤◌, ◌<◌, ◌≡◌, Bool, true, cond, ◌&&◌, ◌||◌, not, List, eqb, leb, ltb}
-use Rattle.std.specs.Prelude.{get_or, replicate}
+use Rattle.std.specs.Prelude.{ℕ, ◌+◌, ◌*◌, ◌<◌, ◌≡◌, Bool, true, cond, ◌&&◌, ◌||◌, not, List, eqb, leb, ltb}
+use Rattle.std.specs.Prelude.{get_or, replicate, None, Option, Some}
 use Rattle.buffer.specs.Buffer.{four_at, overwrite, word_at}
 use Rattle.buffer.specs.Lists.{tab}
 use Rattle.disc.specs.Directory.{Readable, file_count, good_disc}
@@ -26,10 +26,10 @@ pub record Listed (disc runs : List ℕ) : Type 0 where
   pub sound : good_disc disc ≡ true
   pub each : runs ≡ file_runs disc
 
--- where a search among the runs ends: at one that is equal, or behind them all where none is
-pub record FileOf (runs : List ℕ) (run file : ℕ) : Type 0 where
-  pub found : file < max_files → get_or runs file 0 ≡ run
-  pub missed : max_files ≤ file → (i : ℕ) → i < max_files → get_or runs i 0 ≡ run → ⊥
+-- where a search among the runs ends: at one that is equal, if one is
+pub record FileOf (runs : List ℕ) (run : ℕ) (file : Option ℕ) : Type 0 where
+  pub found : (i : ℕ) → file ≡ Some i → (i < max_files) × (get_or runs i 0 ≡ run)
+  pub missed : file ≡ None → (i : ℕ) → i < max_files → get_or runs i 0 ≡ run → ⊥
 
 -- ---- IDs
 -- the ID of a live process; 0, which is none in a good area, where nothing lives

@@ -7,6 +7,7 @@ ghost use Rattle.variable.specs.Limits.{entry_size, max_variables};
 ghost use Rattle.validation.specs.Columns.{bytes_of, ends_of, places, words_of};
 
 use buffer::bytes::word_at;
+use std::array;
 use variable::{ENTRIES_AT, ENTRY_SIZE};
 
 // Every two of 25 by their distance: the first stands below 24, the second up to 24 behind it.
@@ -40,11 +41,8 @@ pub fn fill_bytes(column: &mut [u16; PLACES], area: &[u8], field: usize, count: 
     ensures { column.new
         ≡ overwrite column.old 0 (bytes_of area.now field count) }
 {
-    let mut i: usize = 0;
-    while i < count {
-        let b = wide(area[ENTRIES_AT + i * ENTRY_SIZE + field]);
-        column[i] = b;
-        i += 1;
+    for i in 0..count {
+        column[i] = wide(area[ENTRIES_AT + i * ENTRY_SIZE + field]);
     }
 }
 
@@ -54,11 +52,8 @@ pub fn fill_words(column: &mut [u16; PLACES], area: &[u8], field: usize, count: 
     ensures { column.new
         ≡ overwrite column.old 0 (words_of area.now field count) }
 {
-    let mut i: usize = 0;
-    while i < count {
-        let w = word_at(area, ENTRIES_AT + i * ENTRY_SIZE + field);
-        column[i] = w;
-        i += 1;
+    for i in 0..count {
+        column[i] = word_at(area, ENTRIES_AT + i * ENTRY_SIZE + field);
     }
 }
 
@@ -66,12 +61,9 @@ pub fn fill_ends(column: &mut [u16; PLACES], area: &[u8], count: usize)
     requires { (length column.old ≡ places) × (length area.now ≡ area_length) × (count ≤ max_variables) }
     ensures { column.new ≡ overwrite column.old 0 (ends_of area.now count) }
 {
-    let mut i: usize = 0;
-    while i < count {
+    for i in 0..count {
         let at = ENTRIES_AT + i * ENTRY_SIZE;
-        let end = wide(area[at + ADDRESS_AT]) + wide(area[at + SIZE_AT]);
-        column[i] = end;
-        i += 1;
+        column[i] = wide(area[at + ADDRESS_AT]) + wide(area[at + SIZE_AT]);
     }
 }
 
@@ -79,12 +71,5 @@ pub fn fill_ends(column: &mut [u16; PLACES], area: &[u8], count: usize)
 pub fn no_names() -> [u16; PLACES]
     ensures { result ≡ tab (λ i. 256 + i) places }
 {
-    let mut names = [0u16; PLACES];
-    let mut i: usize = 0;
-    while i < PLACES {
-        let name = 256 + i as u16;
-        names[i] = name;
-        i += 1;
-    }
-    names
+    array::from_fn(|i| 256 + i as u16)
 }

@@ -9,6 +9,7 @@ use super::records::is_live;
 use area::records::{ID_AT, STATE_AT, record_at};
 use buffer::bytes::word_at;
 use machine::limits::SLOT_COUNT;
+use std::array;
 
 // 0, which is no live process's, where nothing lives.
 fn live_id(bytes: &[u8]) -> u16
@@ -25,15 +26,7 @@ pub fn live_ids(area: &[u8]) -> [u16; SLOT_COUNT]
     requires { length area.now ≡ area_length }
     ensures { result ≡ slot_ids area.now }
 {
-    let mut ids = [0u16; SLOT_COUNT];
-    let mut i: u32 = 0;
-    while (i as usize) < SLOT_COUNT {
-        let slot = i as usize;
-        let id = live_id(record_at(area, slot));
-        ids[slot] = id;
-        i += 1;
-    }
-    ids
+    array::from_fn(|slot| live_id(record_at(area, slot)))
 }
 
 // Whether slot i has no ID, or one that no earlier slot has. No way out of the loop: speed.
@@ -46,10 +39,8 @@ fn is_new(ids: &[u16; SLOT_COUNT], i: usize) -> bool
         return true;
     }
     let mut new = true;
-    let mut j: usize = 0;
-    while j < i {
-        new = new & (ids[j] != id);
-        j += 1;
+    for earlier in &ids[..i] {
+        new = new & (*earlier != id);
     }
     new
 }
@@ -59,12 +50,5 @@ pub fn are_distinct(ids: &[u16; SLOT_COUNT]) -> bool
     requires { length ids.now ≡ slot_count }
     ensures { result ≡ pairs differs ids.now }
 {
-    let mut i: u32 = 0;
-    while (i as usize) < SLOT_COUNT {
-        if !is_new(ids, i as usize) {
-            return false;
-        }
-        i += 1;
-    }
-    true
+    (0..SLOT_COUNT).all(|i| is_new(ids, i))
 }

@@ -1,12 +1,12 @@
 // The ten process records, each tested on its bytes against the directory.
-ghost use Rattle.std.specs.Prelude.{◌≡◌, true, ◌||◌, ◌+◌, ◌<◌, eqb, length};
+ghost use Rattle.std.specs.Prelude.{◌==◌, ◌≡◌, true, ◌||◌, ◌+◌, ◌<◌, eqb, length, position};
 ghost use Rattle.buffer.specs.Lists.{all, any};
 ghost use Rattle.disc.specs.Directory.{Readable, files};
 ghost use Rattle.machine.specs.Area.{kernel_of, process_of};
 ghost use Rattle.machine.specs.GoodArea.{good_file, good_live, good_process, good_registers, is_program};
 ghost use Rattle.machine.specs.Limits.{area_length, record_size};
 ghost use Rattle.machine.specs.State.{paused, running};
-ghost use Rattle.validation.specs.Columns.{FileOf, Listed, file_runs};
+ghost use Rattle.validation.specs.Columns.{Listed, file_runs};
 
 use area::records::{
     CODE_AT, FILE_AT, ID_AT, LOOP_AT, NO_LOOP, PAUSED, PC_AT, RUNNING, SHARE_AT, SP_AT, STATE_AT,
@@ -23,27 +23,17 @@ pub fn file_runs(disc: &[u8]) -> [u32; MAX_FILES]
 {
     let count = disc::directory::file_count(disc);
     let mut runs = [0u32; MAX_FILES];
-    let mut i: usize = 0;
-    while i < count {
-        let run = four_at(disc, i * ENTRY_SIZE + NAME_SIZE);
-        runs[i] = run;
-        i += 1;
+    for i in 0..count {
+        runs[i] = four_at(disc, i * ENTRY_SIZE + NAME_SIZE);
     }
     runs
 }
 
-// The place of the first file of that start and length, or MAX_FILES.
-fn file_of(runs: &[u32; MAX_FILES], run: u32) -> usize
-    ensures { FileOf runs.now run result }
+// The place of the first file of that start and length.
+fn file_of(runs: &[u32; MAX_FILES], run: u32) -> Option<usize>
+    ensures { result ≡ position (λ n. n == run) runs.now }
 {
-    let mut i: usize = 0;
-    while i < MAX_FILES {
-        if runs[i] == run {
-            return i;
-        }
-        i += 1;
-    }
-    MAX_FILES
+    runs.iter().position(|other| *other == run)
 }
 
 // Document 01: "Live means running or paused."
@@ -62,11 +52,10 @@ fn is_good_program(disc: &[u8], runs: &[u32; MAX_FILES], bytes: &[u8]) -> bool
     if run == 0 {
         return false;
     }
-    let file = file_of(runs, run);
-    if MAX_FILES <= file {
-        return false;
+    match file_of(runs, run) {
+        Some(file) => disc::good::same_name(bytes, 0, disc, file * ENTRY_SIZE),
+        None => false,
     }
-    disc::good::same_name(bytes, 0, disc, file * ENTRY_SIZE)
 }
 
 // "file offset at most [its] length", "an open file equal to some directory file"
@@ -82,7 +71,7 @@ fn is_good_file(disc: &[u8], runs: &[u32; MAX_FILES], bytes: &[u8]) -> bool
     if len < offset {
         return false;
     }
-    file_of(runs, four_at(bytes, FILE_AT)) < MAX_FILES
+    file_of(runs, four_at(bytes, FILE_AT)).is_some()
 }
 
 // Document 02, Q-9: a live record's share is at most 8; "SP at most 32, PC, loop (unless none) [..] at most their
@@ -140,12 +129,5 @@ pub fn are_good(disc: &[u8], runs: &[u32; MAX_FILES], area: &[u8]) -> bool
         (kernel_of area.now).processes }
 {
     let next = word_at(area, NEXT_AT);
-    let mut i: u32 = 0;
-    while (i as usize) < SLOT_COUNT {
-        if !is_good_record(disc, runs, next, record_at(area, i as usize)) {
-            return false;
-        }
-        i += 1;
-    }
-    true
+    (0..SLOT_COUNT).all(|slot| is_good_record(disc, runs, next, record_at(area, slot)))
 }

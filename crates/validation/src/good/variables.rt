@@ -42,14 +42,12 @@ fn are_sized(area: &[u8], count: usize) -> bool
     ensures { result ≡ all sized (tab (variable_in area.now) count) }
 {
     let mut good = true;
-    let mut i: usize = 0;
-    while i < count {
+    for i in 0..count {
         let at = ENTRIES_AT + i * ENTRY_SIZE;
         let size = wide(area[at + SIZE_AT]);
         good = good
             & (is_good_size(wide(area[at + KIND_AT]), size)
                 & is_inside(wide(area[at + ADDRESS_AT]), size));
-        i += 1;
     }
     good
 }
@@ -60,11 +58,8 @@ fn is_owner(ids: &[u16; SLOT_COUNT], id: u16) -> bool
     ensures { result ≡ any (eqb id) (keep is_id ids.now) }
 {
     let mut hit = false;
-    let mut i: u32 = 0;
-    while (i as usize) < SLOT_COUNT {
-        let slot = i as usize;
-        hit = hit | (id == ids[slot]);
-        i += 1;
+    for live in ids {
+        hit = hit | (id == *live);
     }
     (id != 0) & hit
 }
@@ -74,10 +69,8 @@ fn are_owned(owners: &[u16; PLACES], ids: &[u16; SLOT_COUNT], count: usize) -> b
     ensures { result ≡ all (λ id. any (eqb id) (keep is_id ids.now)) (take count owners.now) }
 {
     let mut good = true;
-    let mut i: usize = 0;
-    while i < count {
-        good = good & is_owner(ids, owners[i]);
-        i += 1;
+    for owner in &owners[..count] {
+        good = good & is_owner(ids, *owner);
     }
     good
 }
@@ -98,14 +91,12 @@ fn is_clash(
         (tab (λ i. i) n) }
 {
     let mut hit = false;
-    let mut i: u32 = 0;
-    while i < n {
+    for i in 0..n {
         let a = i as usize;
         let b = a + d;
         hit = hit
             | (((starts[a] < ends[b]) & (starts[b] < ends[a]))
                 | ((names[a] == names[b]) & (owners[a] == owners[b])));
-        i += 1;
     }
     hit
 }
@@ -145,12 +136,10 @@ fn are_beside(area: &[u8], owners: &[u16; PLACES], count: usize) -> bool
     fill_bytes(&mut starts, area, ADDRESS_AT, count);
     fill_ends(&mut ends, area, count);
     fill_bytes(&mut names, area, NAME_AT, count);
-    let mut d: usize = 1;
-    while d < count {
+    for d in 1..count {
         if is_clash_at(&starts, &ends, &names, owners, d, count - d) {
             return false;
         }
-        d += 1;
     }
     true
 }

@@ -8,7 +8,7 @@ loop-i-init c = column-none _ _ _
 
 pub loop-i-preserved : goal.loop-i-preserved
 loop-i-preserved c =
-    column-next _ _ _ c.loop-i.invariant (omega arith) (omega arith) c.wide-b.ensures.0
+    column-next _ _ _ c.loop-i.invariant (omega arith) (omega arith) c.wide.ensures.0
 
 pub returns : goal.returns
 returns c = column-filled _ _ _ c.loop-i.invariant (omega arith)

@@ -1,5 +1,5 @@
 -- The loop: the first i places are filled.
-use Prim.Native.Nat.{ℕ, ◌+◌, ◌*◌, ◌-◌}
+use Prim.Native.Nat.{ℕ, ◌+◌, ◌*◌}
 use mathlib.Core.List.{List}
 use lib.ListN.{get_or}
 use Rattle.validation.proofs.Columns.{Column}
@@ -11,6 +11,3 @@ byte area field i = get_or area (entries_at + i * entry_size + field) 0
 
 abbrev pub invariant-loop-i : goal.invariant-loop-i
 invariant-loop-i l = Column l.initial.column (byte l.area l.field) l.count l.column l.i
-
-abbrev pub decreases-loop-i : goal.decreases-loop-i
-decreases-loop-i l = l.count - l.i

@@ -1,5 +1,5 @@
 -- The loop: the first i places are filled.
-use Prim.Native.Nat.{ℕ, ◌+◌, ◌-◌}
+use Prim.Native.Nat.{ℕ, ◌+◌}
 use mathlib.Core.List.{List}
 use Rattle.validation.proofs.Columns.{Column}
 use Rattle.variable.specs.Bytes.{variable_in}
@@ -10,6 +10,3 @@ end area i = let e = variable_in area i in e.address + e.size
 
 abbrev pub invariant-loop-i : goal.invariant-loop-i
 invariant-loop-i l = Column l.initial.column (end l.area) l.count l.column l.i
-
-abbrev pub decreases-loop-i : goal.decreases-loop-i
-decreases-loop-i l = l.count - l.i

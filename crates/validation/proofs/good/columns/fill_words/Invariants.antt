@@ -1,5 +1,5 @@
 -- The loop: the first i places are filled.
-use Prim.Native.Nat.{ℕ, ◌+◌, ◌*◌, ◌-◌}
+use Prim.Native.Nat.{ℕ, ◌+◌, ◌*◌}
 use mathlib.Core.List.{List}
 use Rattle.buffer.specs.Buffer.{word_at}
 use Rattle.validation.proofs.Columns.{Column}
@@ -11,6 +11,3 @@ word area field i = word_at area (entries_at + i * entry_size + field)
 
 abbrev pub invariant-loop-i : goal.invariant-loop-i
 invariant-loop-i l = Column l.initial.column (word l.area l.field) l.count l.column l.i
-
-abbrev pub decreases-loop-i : goal.decreases-loop-i
-decreases-loop-i l = l.count - l.i

@@ -1,22 +1,12 @@
--- Each turn adds the ID of one slot more.
-use Prim.Native.Nat.{ℕ}
-use mathlib.Core.Path.{refl, ap, ◌∙◌}
-use mathlib.Core.List.{List}
-use native.Mathlib.Omega.{arith}
-use Rattle.buffer.specs.Lists.{tab}
-use Rattle.machine.specs.Area.{process_of}
+-- The ID of each slot.
+use Rattle.std.proofs.Common.{rules}
+use Rattle.machine.specs.Limits.{slot_count}
+use Rattle.area.specs.Parts.{process_in}
+use Rattle.area.proofs.Made.{made-all}
 use Rattle.validation.specs.Columns.{slot_id}
-use Rattle.validation.proofs.Filled.{filled-all, filled_next}
 use Rattle.validation.proofs.good.ids.live_ids.Goals as goal
 
-pub loop-i-init : goal.loop-i-init
-unfolding tab
-loop-i-init c = record { few = omega arith; size = refl; first = refl }
-
-pub loop-i-preserved : goal.loop-i-preserved
-loop-i-preserved c =
-    filled_next _ _ c.loop-i.invariant (omega arith)
-    (c.live_id-id.ensures ∙ ap (λ (b : List ℕ). slot_id (process_of b)) c.record_at.ensures.0)
-
 pub returns : goal.returns
-returns c = filled-all _ _ c.loop-i.invariant (omega arith)
+returns c =
+    let area = c.args.area.now in
+    made-all _ (λ i. slot_id (process_in area i)) _ (λ i y q k. search rules) c.from_fn.result slot_count c.from_fn.ensures.items

@@ -18,7 +18,7 @@ pub loop-i-preserved : goal.loop-i-preserved
 loop-i-preserved c =
     let p = c.requires in
     let few : c.file_count-count.result ≤ max_files = omega (arith, c.file_count-count.ensures, p.few) in
-    column-next _ _ _ c.loop-i.invariant few (omega arith) c.four_at-run.ensures
+    column-next _ _ _ c.loop-i.invariant few (omega arith) c.four_at.ensures
 
 pub returns : goal.returns
 unfolding file_runs

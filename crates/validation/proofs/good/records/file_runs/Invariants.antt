@@ -1,5 +1,5 @@
 -- The loop: the first i places are filled.
-use Prim.Native.Nat.{ℕ, ◌+◌, ◌*◌, ◌-◌}
+use Prim.Native.Nat.{ℕ, ◌+◌, ◌*◌}
 use mathlib.Core.List.{List}
 use lib.ListN.{replicate}
 use Rattle.buffer.specs.Buffer.{four_at}
@@ -12,6 +12,3 @@ run disc i = four_at disc (i * entry_size + name_size)
 
 abbrev pub invariant-loop-i : goal.invariant-loop-i
 invariant-loop-i l = Column (replicate max_files 0) (run l.disc) l.count l.runs l.i
-
-abbrev pub decreases-loop-i : goal.decreases-loop-i
-decreases-loop-i l = l.count - l.i

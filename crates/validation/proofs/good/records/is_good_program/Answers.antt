@@ -1,5 +1,6 @@
 -- No file is empty; a run that is no file's, and the name of the file of that run.
-use mathlib.Core.Path.{◌≡◌, sym, ap, subst, ◌∙◌}
+use Rattle.std.specs.Prelude.{None, Option, Some}
+use mathlib.Core.Path.{◌≡◌, refl, sym, ap, subst, ◌∙◌}
 use Prim.Native.Nat.{ℕ}
 use mathlib.Core.Bool.{Bool}
 use mathlib.Core.List.{List}
@@ -13,14 +14,15 @@ use Rattle.disc.specs.declared.Entry.{Entry}
 use Rattle.disc.proofs.InPlace.{name-in-place}
 use Rattle.machine.specs.GoodArea.{is_program}
 use Rattle.validation.specs.Columns.{FileOf}
-use Rattle.validation.proofs.Files.{empty-any, found-any, missed-any}
+use Rattle.validation.proofs.Files.{empty-any, file-of, found-any, missed-any}
 use Rattle.validation.proofs.good.records.is_good_program.Goals as goal
 
 -- the name in the record against an entry's
 abbrev named : List ℕ → Entry → Bool
 named bytes e = same (take name_size bytes) e.name
 
-sought : (runs bytes : List ℕ) {run file : ℕ} → run ≡ four_at bytes 16 → FileOf runs run file → FileOf runs (four_at bytes 16) file
+sought : (runs bytes : List ℕ) {run : ℕ} {file : Option ℕ} → run ≡ four_at bytes 16 → FileOf runs run file
+    → FileOf runs (four_at bytes 16) file
 sought runs bytes {run} {file} e s = subst (λ (n : ℕ). FileOf runs n file) e s
 
 pub returns-then-run-eq0 : goal.returns-then-run-eq0
@@ -31,22 +33,21 @@ returns-then-run-eq0 c =
     sym (empty-any a.disc.now a.runs.now c.requires.0 known a.bytes.now (λ n. omega (arith, c.type_inv.bytes n)) 16
     (named a.bytes.now) (sym c.four_at-run.ensures ∙ c.if-run-eq0.true))
 
-pub returns-then-file-ge-MAX_FILES : goal.returns-then-file-ge-MAX_FILES
+pub returns-in-None : goal.returns-in-None
 unfolding is_program
-returns-then-file-ge-MAX_FILES c =
+returns-in-None c =
     let a = c.args in
     let known : Bytes a.disc.now = λ n. omega (arith, c.type_inv.disc n) in
     sym (missed-any a.disc.now a.runs.now c.requires.0 known a.bytes.now (λ n. omega (arith, c.type_inv.bytes n)) 16
-    c.file_of-file.result (sought a.runs.now a.bytes.now c.four_at-run.ensures c.file_of-file.ensures)
-    (named a.bytes.now) c.if-file-ge-MAX_FILES.true)
+    None (sought a.runs.now a.bytes.now c.four_at-run.ensures (file-of a.runs.now c.four_at-run.result (omega arith) c.in-None.ensures)) (named a.bytes.now) refl)
 
-pub returns : goal.returns
+pub returns-in-Some : goal.returns-in-Some
 unfolding is_program
-returns c =
+returns-in-Some c =
     let a = c.args in
     let known : Bytes a.disc.now = λ n. omega (arith, c.type_inv.disc n) in
     c.same_name.ensures
-    ∙ ap (same (take name_size a.bytes.now)) (name-in-place a.disc.now c.file_of-file.result)
+    ∙ ap (same (take name_size a.bytes.now)) (name-in-place a.disc.now c.in-Some.file)
     ∙ found-any a.disc.now a.runs.now c.requires.0 known a.bytes.now (λ n. omega (arith, c.type_inv.bytes n)) 16
-    c.file_of-file.result (sought a.runs.now a.bytes.now c.four_at-run.ensures c.file_of-file.ensures) (named a.bytes.now)
-    (λ z. c.if-run-eq0.false (c.four_at-run.ensures ∙ z)) c.if-file-ge-MAX_FILES.false
+    (Some c.in-Some.file) (sought a.runs.now a.bytes.now c.four_at-run.ensures (file-of a.runs.now c.four_at-run.result (omega arith) c.in-Some.ensures)) (named a.bytes.now)
+    (λ z. c.if-run-eq0.false (c.four_at-run.ensures ∙ z)) c.in-Some.file refl

@@ -1,5 +1,5 @@
 -- The loop: no two clash whose distance is below d.
-use Prim.Native.Nat.{ℕ, ◌≤◌, ◌<◌, ◌-◌}
+use Prim.Native.Nat.{ℕ, ◌≤◌, ◌<◌}
 use mathlib.Core.Path.{◌≡◌}
 use mathlib.Core.Bool.{false}
 use Rattle.validation.proofs.Clashes.{clash_by}
@@ -7,6 +7,3 @@ use Rattle.validation.proofs.good.variables.are_beside.Given as goal
 
 abbrev pub invariant-loop-d : goal.invariant-loop-d
 invariant-loop-d l = (1 ≤ l.d) × ((k : ℕ) → 1 ≤ k → k < l.d → clash_by l.area l.count k ≡ false)
-
-abbrev pub decreases-loop-d : goal.decreases-loop-d
-decreases-loop-d l = l.count - l.d

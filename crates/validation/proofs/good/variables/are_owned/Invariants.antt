@@ -1,5 +1,5 @@
 -- The loop: whether the first i owners are live.
-use Prim.Native.Nat.{ℕ, ◌≤◌, ◌-◌}
+use Prim.Native.Nat.{ℕ}
 use mathlib.Core.Path.{◌≡◌}
 use mathlib.Core.Bool.{Bool}
 use mathlib.Core.List.{List}
@@ -12,8 +12,5 @@ use Rattle.validation.proofs.good.variables.are_owned.Given as goal
 abbrev pub owns : List ℕ → ℕ → Bool
 owns ids id = any (eqb id) (keep is_id ids)
 
-abbrev pub invariant-loop-i : goal.invariant-loop-i
-invariant-loop-i l = (l.i ≤ l.count) × (l.good ≡ all (owns l.ids) (take l.i l.owners))
-
-abbrev pub decreases-loop-i : goal.decreases-loop-i
-decreases-loop-i l = l.count - l.i
+abbrev pub invariant-loop-owner : goal.invariant-loop-owner
+invariant-loop-owner l = l.good ≡ all (owns l.ids) (take l.owner-index (take l.count l.owners))

@@ -1,5 +1,5 @@
 -- The loop: whether two of which the first stands below i clash.
-use Prim.Native.Nat.{ℕ, ◌+◌, ◌-◌}
+use Prim.Native.Nat.{ℕ, ◌+◌}
 use mathlib.Core.Bool.{Bool}
 use mathlib.Core.List.{List}
 use Rattle.buffer.proofs.Equivalence.{Asked}
@@ -11,6 +11,3 @@ test starts ends names owners d i = clash starts ends names owners i (i + d)
 
 abbrev pub invariant-loop-i : goal.invariant-loop-i
 invariant-loop-i l = Asked (test l.starts l.ends l.names l.owners l.d) (λ i. i) l.n l.hit l.i
-
-abbrev pub decreases-loop-i : goal.decreases-loop-i
-decreases-loop-i l = l.n - l.i

@@ -1,14 +1,9 @@
 -- The loop: whether one of the first i is the owner.
-use Prim.Native.Nat.{◌≤◌, ◌-◌}
 use mathlib.Core.Path.{◌≡◌}
 use lib.Dec.{eqb}
 use lib.ListN.{take}
 use Rattle.buffer.specs.Lists.{any}
-use Rattle.machine.specs.Limits.{slot_count}
 use Rattle.validation.proofs.good.variables.is_owner.Given as goal
 
-abbrev pub invariant-loop-i : goal.invariant-loop-i
-invariant-loop-i l = (l.i ≤ slot_count) × (l.hit ≡ any (eqb l.id) (take l.i l.ids))
-
-abbrev pub decreases-loop-i : goal.decreases-loop-i
-decreases-loop-i l = slot_count - l.i
+abbrev pub invariant-loop-live : goal.invariant-loop-live
+invariant-loop-live l = l.hit ≡ any (eqb l.id) (take l.live-index l.ids)
