@@ -26,5 +26,7 @@ pub fn push_clock(frame: &Frame<'_>, clock: u32) -> Result<Step, Fault>
     ensures { Performs frame.now (λ code stack loopstart at. push_clock code stack loopstart at clock) result }
 {
     let bytes = [(clock % 65536 / 256) as u8, (clock % 256) as u8];
-    frame.process.push_item(frame.process.stack.len(), 2, &bytes, frame.at + 1)
+    frame
+        .process
+        .push_item(frame.process.stack.len(), 2, &bytes, frame.at + 1)
 }

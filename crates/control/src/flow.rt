@@ -29,7 +29,9 @@ pub fn jump_if(frame: &Frame<'_>, zero: bool) -> Result<Step, Fault>
     }
     let x = top_number(frame.process.stack, Types::AnyNumber)?;
     if is_zero(x.number) == zero {
-        return frame.process.jump(to + usize::from(frame.process.code[from]));
+        return frame
+            .process
+            .jump(to + usize::from(frame.process.code[from]));
     }
     frame.process.jump(to)
 }
@@ -64,7 +66,9 @@ fn choose_while(
     if MAX_DISTANCE < distance {
         return Err(Fault::OutOfRange);
     }
-    frame.process.push_bytes(kept, &[(distance + 4) as u8], b"", to)
+    frame
+        .process
+        .push_bytes(kept, &[(distance + 4) as u8], b"", to)
 }
 
 // Document 01: "WHILE c b pops"

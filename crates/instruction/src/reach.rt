@@ -15,26 +15,36 @@ fn open_file(frame: &Frame<'_>) -> Result<Step, Fault>
 {
     let size = top_number(frame.process.stack, Types::AnyNumber)?;
     let name = top_value(&frame.process.stack[..size.below], Types::AnyString)?;
-    Ok(frame.process.act_on(
-        Action::Open(size.number),
-        name.at,
-        name.len - 1,
-        frame.at + 1,
-    ))
+    Ok(
+        frame.process.act_on(
+            Action::Open(size.number),
+            name.at,
+            name.len - 1,
+            frame.at + 1,
+        ),
+    )
 }
 
 fn write_file(frame: &Frame<'_>) -> Result<Step, Fault>
     ensures { Performs frame.now (λ code stack loopstart at. reaches code stack loopstart at Reach.WriteFile) result }
 {
     let x = top_value(frame.process.stack, Types::AnyValue)?;
-    Ok(frame.process.act_on(Action::Write, x.at, x.len, frame.at + 1))
+    Ok(
+        frame
+            .process
+            .act_on(Action::Write, x.at, x.len, frame.at + 1),
+    )
 }
 
 fn fork_process(frame: &Frame<'_>) -> Result<Step, Fault>
     ensures { Performs frame.now (λ code stack loopstart at. reaches code stack loopstart at Reach.Fork) result }
 {
     let name = top_value(frame.process.stack, Types::AnyString)?;
-    Ok(frame.process.act_on(Action::Fork, name.at, name.len - 1, frame.at + 1))
+    Ok(
+        frame
+            .process
+            .act_on(Action::Fork, name.at, name.len - 1, frame.at + 1),
+    )
 }
 
 fn wait(frame: &Frame<'_>) -> Result<Step, Fault>
@@ -42,7 +52,11 @@ fn wait(frame: &Frame<'_>) -> Result<Step, Fault>
         (λ code stack loopstart at. reaches code stack loopstart at Reach.WaitUntilDone) result }
 {
     let id = top_number(frame.process.stack, Types::AnyNumber)?;
-    Ok(frame.process.act_on(Action::Await(id.number), id.below, 0, frame.at + 1))
+    Ok(
+        frame
+            .process
+            .act_on(Action::Await(id.number), id.below, 0, frame.at + 1),
+    )
 }
 
 // CLOSE and the READs take nothing off the stack.

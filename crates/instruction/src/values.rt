@@ -27,7 +27,12 @@ pub fn push_literal(frame: &Frame<'_>, kind: u8) -> Result<Step, Fault>
     if frame.process.code.len() < to {
         return Err(Fault::CodeEnded);
     }
-    frame.process.push_bytes(frame.process.stack.len(), &frame.process.code[from..to], &[kind], to)
+    frame.process.push_bytes(
+        frame.process.stack.len(),
+        &frame.process.code[from..to],
+        &[kind],
+        to,
+    )
 }
 
 // STRING: up to its zero inside the code.
@@ -39,7 +44,12 @@ pub fn push_text(frame: &Frame<'_>) -> Result<Step, Fault>
     if frame.process.code.len() < to {
         return Err(Fault::CodeEnded);
     }
-    frame.process.push_item(frame.process.stack.len(), STRING_KIND, &frame.process.code[from..to], to)
+    frame.process.push_item(
+        frame.process.stack.len(),
+        STRING_KIND,
+        &frame.process.code[from..to],
+        to,
+    )
 }
 
 pub fn set_variable(frame: &Frame<'_>) -> Result<Step, Fault>
@@ -51,7 +61,14 @@ pub fn set_variable(frame: &Frame<'_>) -> Result<Step, Fault>
         return Err(Fault::CodeEnded);
     }
     let x = top_value(frame.process.stack, Types::AnyValue)?;
-    Ok(frame.process.act_on(Action::Assign(frame.process.code[from], x.kind), x.at, x.len, to))
+    Ok(
+        frame.process.act_on(
+            Action::Assign(frame.process.code[from], x.kind),
+            x.at,
+            x.len,
+            to,
+        ),
+    )
 }
 
 pub fn get_variable(frame: &Frame<'_>, area: &[u8], owner: u16) -> Result<Step, Fault>
@@ -69,7 +86,9 @@ pub fn get_variable(frame: &Frame<'_>, area: &[u8], owner: u16) -> Result<Step, 
             let e = variable_at(area, i);
             let start = e.address as usize;
             let end = start + e.size as usize;
-            frame.process.push_item(frame.process.stack.len(), e.kind, &area[start..end], to)
+            frame
+                .process
+                .push_item(frame.process.stack.len(), e.kind, &area[start..end], to)
         }
         None => Err(Fault::NoVariable),
     }
@@ -77,20 +96,26 @@ pub fn get_variable(frame: &Frame<'_>, area: &[u8], owner: u16) -> Result<Step, 
 
 fn print_text(frame: &Frame<'_>, text: &[u8], ends: bool, kept: usize) -> Step
     requires { (length text.now < stack_size) × (kept ≤ stack_size) }
-    ensures { (result ≡ step_of Action.Print kept (text.now ++ newline ends) (frame.now.at + 1) frame.now.process.loopstart)
+    ensures { (result ≡ step_of Action.Print kept (text.now ++ newline ends) (frame.now.at + 1)
+        frame.now.process.loopstart)
         × (result.len ≤ stack_size) }
 {
     if ends {
-        return frame.process.step(Action::Print, kept, text, b"\n", frame.at + 1);
+        return frame
+            .process
+            .step(Action::Print, kept, text, b"\n", frame.at + 1);
     }
-    frame.process.step(Action::Print, kept, text, b"", frame.at + 1)
+    frame
+        .process
+        .step(Action::Print, kept, text, b"", frame.at + 1)
 }
 
 // Document 01: "PRINT: CHAR one byte; INT decimal; STRING without its zero; FLOAT to the nearest hundredth"
 fn print_value(frame: &Frame<'_>, kind: u8, bytes: &[u8], ends: bool, kept: usize) -> Step
     requires { Printable kind bytes.now × (kept ≤ stack_size) }
     ensures { (result ≡ step_of Action.Print kept
-        (printed (record { kind = kind; bytes = bytes.now }) ++ newline ends) (frame.now.at + 1) frame.now.process.loopstart)
+        (printed (record { kind = kind; bytes = bytes.now }) ++ newline ends) (frame.now.at + 1)
+        frame.now.process.loopstart)
         × (result.len ≤ stack_size) }
 {
     if kind == STRING_KIND {

@@ -71,8 +71,8 @@ fn calculate(operator: Arithmetic, pair: Pair) -> Outcome
     }
 }
 
-// One function over `PartialOrd` would be no plainer than this and the next: its contract would be by `partial_cmp`, with a
-// law for each operator that this is the order of whole numbers, and IEEE's of FLOATs.
+// One function over `PartialOrd` would be no plainer than this and the next: its contract would be by `partial_cmp`,
+// with a law for each operator that this is the order of whole numbers, and IEEE's of FLOATs.
 #[tactic(auto, unfolding(crate::specs::Binary::ordered))]
 fn compare_wholes(operator: Comparison, x: i16, y: i16) -> bool
     ensures { result ≡ ordered operator x y }

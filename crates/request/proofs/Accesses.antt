@@ -54,7 +54,8 @@ module _ (f : OpenFile) (n : ℕ) where
   unfolding access_to
   ahead {disc} l e = go (eqb f.len 0) refl (leb (f.offset + n) f.len) refl e
     where
-      go : (a : Bool) → eqb f.len 0 ≡ a → (b : Bool) → leb (f.offset + n) f.len ≡ b → cond a (Err NoOpenFile) (cond b (Ok (tt {0})) (Err PastEnd)) ≡ Ok (tt {0})
+      go : (a : Bool) → eqb f.len 0 ≡ a → (b : Bool) → leb (f.offset + n) f.len ≡ b
+          → cond a (Err NoOpenFile) (cond b (Ok (tt {0})) (Err PastEnd)) ≡ Ok (tt {0})
           → Ahead disc f n
       go true p b q e = absurd (let z : ◌≡◌ {A = ℕ} 0 1 = cc in omega arith)
       go false p false q e = absurd (let z : ◌≡◌ {A = ℕ} 0 1 = cc in omega arith)
@@ -73,7 +74,8 @@ granted-by : (f : OpenFile) (n : ℕ) (rest : Answered)
 unfolding access_to
 granted-by f n rest = go (eqb f.len 0) (leb (f.offset + n) f.len)
   where
-    go : (a b : Bool) → cond a (breaks 11) (unless_breaks b 12 rest) ≡ granted (cond a (Err NoOpenFile) (cond b (Ok (tt {0})) (Err PastEnd))) rest
+    go : (a b : Bool) → cond a (breaks 11) (unless_breaks b 12 rest) ≡ granted (cond a (Err NoOpenFile) (cond b (Ok (tt {0})) (Err
+        PastEnd))) rest
     go true b = refl
     go false true = refl
     go false false = refl

@@ -1,5 +1,6 @@
 -- Requests in code: what disc and area are after an answer, and what the code needs of an open file.
-use Rattle.std.specs.Prelude.{ℕ, ◌+◌, ◌≤◌, ◌≡◌, Bool, cond, ◌&&◌, List, [], ◌∷◌, ◌++◌, eqb, leb, pos, length, take, Result, Ok, Err}
+use Rattle.std.specs.Prelude.{ℕ, ◌+◌, ◌≤◌, ◌≡◌, Bool, cond, ◌&&◌, List, [], ◌∷◌, ◌++◌, eqb, leb, pos, length, take}
+use Rattle.std.specs.Prelude.{Result, Ok, Err}
 use Rattle.machine.specs.Area.{kernel_of}
 use Rattle.machine.specs.Beyond.{Answered, file_run}
 use Rattle.machine.specs.declared.fault.Fault.{Fault}

@@ -35,4 +35,5 @@ returns c =
     )
     (c.is_some.ensures ∙ open-listed a.disc.now a.runs.now c.requires.0 (λ n. omega (arith, c.type_inv.disc n))
     a.bytes.now (λ n. omega (arith, c.type_inv.bytes n)) 24 c.file_of.result
-    (subst (λ (n : ℕ). FileOf a.runs.now n c.file_of.result) c.four_at.ensures (file-of a.runs.now c.four_at.result (omega arith) c.file_of.ensures)) some)
+    (subst (λ (n : ℕ). FileOf a.runs.now n c.file_of.result) c.four_at.ensures (file-of a.runs.now c.four_at.result (omega arith)
+    c.file_of.ensures)) some)

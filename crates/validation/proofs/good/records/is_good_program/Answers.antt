@@ -39,7 +39,8 @@ returns-in-None c =
     let a = c.args in
     let known : Bytes a.disc.now = λ n. omega (arith, c.type_inv.disc n) in
     sym (missed-any a.disc.now a.runs.now c.requires.0 known a.bytes.now (λ n. omega (arith, c.type_inv.bytes n)) 16
-    None (sought a.runs.now a.bytes.now c.four_at-run.ensures (file-of a.runs.now c.four_at-run.result (omega arith) c.in-None.ensures)) (named a.bytes.now) refl)
+    None (sought a.runs.now a.bytes.now c.four_at-run.ensures (file-of a.runs.now c.four_at-run.result (omega arith) c.in-None.ensures))
+    (named a.bytes.now) refl)
 
 pub returns-in-Some : goal.returns-in-Some
 unfolding is_program
@@ -49,5 +50,6 @@ returns-in-Some c =
     c.same_name.ensures
     ∙ ap (same (take name_size a.bytes.now)) (name-in-place a.disc.now c.in-Some.file)
     ∙ found-any a.disc.now a.runs.now c.requires.0 known a.bytes.now (λ n. omega (arith, c.type_inv.bytes n)) 16
-    (Some c.in-Some.file) (sought a.runs.now a.bytes.now c.four_at-run.ensures (file-of a.runs.now c.four_at-run.result (omega arith) c.in-Some.ensures)) (named a.bytes.now)
+    (Some c.in-Some.file) (sought a.runs.now a.bytes.now c.four_at-run.ensures (file-of a.runs.now c.four_at-run.result (omega arith)
+    c.in-Some.ensures)) (named a.bytes.now)
     (λ z. c.if-run-eq0.false (c.four_at-run.ensures ∙ z)) c.in-Some.file refl
