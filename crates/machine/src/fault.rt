@@ -1,6 +1,9 @@
 // The faults that end a process. Document 01 numbers them; specs/Fault.antt has its table.
-ghost use Rattle.std.specs.Prelude.{◌≡◌};
+ghost use Rattle.std.specs.Prelude.{◌≡◌, Err};
 ghost use Rattle.machine.specs.Fault.{fault_number};
+ghost use Rattle.operator.specs.Outcome.{fault_of};
+
+use operator::ArithmeticError;
 
 #[derive(Clone, Copy, Debug, PartialEq, Eq)]
 pub enum Fault {
@@ -27,5 +30,17 @@ impl Fault {
         ensures { result ≡ fault_number self }
     {
         self as u8
+    }
+}
+
+// Document 01: "7 whole divisor zero; 8 conversion of NaN or to a whole outside the type's range, negative whole root"
+impl From<ArithmeticError> for Fault {
+    ghost from_gives = { λ error fault. fault_number fault ≡ fault_of (Err error) };
+
+    fn from(error: ArithmeticError) -> Fault {
+        match error {
+            ArithmeticError::DivisionByZero => Fault::DivisionByZero,
+            ArithmeticError::OutOfRange => Fault::OutOfRange,
+        }
     }
 }

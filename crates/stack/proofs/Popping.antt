@@ -14,15 +14,13 @@ use Rattle.buffer.proofs.Bools.{true-not-false}
 use Rattle.buffer.proofs.Disjunctions.{or_cases}
 use Rattle.buffer.proofs.Parts.{part_length}
 use Rattle.operator.specs.Instruction.{includes}
-use Rattle.number.specs.declared.Number.{Number}
 use Rattle.operator.specs.declared.instruction.Types.{Types}
 use Rattle.operator.specs.declared.instruction.Types.TheVariants.{AnyNumber, CharOrInt, IntOrFloat, CharOrFloat, AnyString, AnyValue}
 use Rattle.operator.specs.declared.instruction.Types.TheVariants.{Nothing}
 use Rattle.disc.specs.Name.{trimmed}
-use Rattle.machine.specs.Effect.{Effect, with_number}
-use Rattle.machine.specs.Stack.{Item, Popped, popped, cannot, pop, string_kind}
+use Rattle.machine.specs.Stack.{Item, popped, pop, string_kind}
 use Rattle.machine.proofs.Instructions.Popping.{Pops, TakenOff, number-kinds, pop-pops}
-use Rattle.stack.specs.Tops.{is_numeric, number_above, numbered}
+use Rattle.stack.specs.Tops.{is_numeric}
 use Rattle.stack.specs.declared.TopValue.{TopValue}
 
 -- ---- values

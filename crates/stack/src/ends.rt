@@ -7,7 +7,7 @@ use crate::{Action, STRING_KIND, Step};
 use machine::fault::Fault;
 use machine::limits::STACK_SIZE;
 use number::Number;
-use operator::{ArithmeticError, Outcome};
+use operator::Outcome;
 
 impl Step {
     // Of an instruction that ends its process.
@@ -139,17 +139,13 @@ impl Running<'_> {
         self.push_item(kept, encoded.kind, &bytes[..n], to)
     }
 
-    // What an operator answers goes onto the stack, or is a fault. Document 01: "7 whole divisor zero; 8 conversion of
-    // NaN or to a whole outside the type's range, negative whole root"
+    // What an operator answers goes onto the stack, or is a fault.
     pub fn push_outcome(&self, kept: usize, outcome: Outcome, to: usize) -> Result<Step, Fault>
         requires { kept ≤ length self.now.stack.now }
         ensures { Means self.now.stack.now result (with_outcome outcome (λ a. lands self.now to
             (push (take kept self.now.stack.now) (type_of a) (value_bytes a)))) }
     {
-        match outcome {
-            Ok(a) => self.push_number(kept, a, to),
-            Err(ArithmeticError::DivisionByZero) => Err(Fault::DivisionByZero),
-            Err(ArithmeticError::OutOfRange) => Err(Fault::OutOfRange),
-        }
+        let a = outcome?;
+        self.push_number(kept, a, to)
     }
 }

@@ -8,7 +8,8 @@ pub mod tops;
 use machine::limits::STACK_SIZE;
 use number::Number;
 
-// Document 01: "a string as bytes, length, 3"
+// Document 01: "a string as bytes, length, 3". A type stays the byte that it lies as: a stack and variable memory may
+// hold any byte there, and the kernel's definitions (`push_item`, `assigns`, `reads`) take it as a number.
 pub const STRING_KIND: u8 = 3;
 
 // The value on top: its type, its first byte and its length.
