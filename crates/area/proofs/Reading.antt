@@ -1,10 +1,4 @@
 -- What the area says, read off the bytes of its parts.
-use Prim.Native.Nat.{◌-◌}
-use mathlib.Core.Path.{ap}
-use native.Mathlib.Omega.{arith}
-use lib.ListN.{length, take, drop, length-drop}
-use lib.Seq.{take_all}
-use Rattle.buffer.specs.Buffer.{part}
 use Prim.Native.Nat.{ℕ, ◌<◌}
 use mathlib.Core.Path.{◌≡◌}
 use mathlib.Core.List.{List}
@@ -17,7 +11,3 @@ use Rattle.area.specs.Parts.{process_in}
 pub process-read : (area : List ℕ) (slot : ℕ) → slot < slot_count → process_at (kernel_of area) slot ≡ process_in area slot
 unfolding kernel_of
 process-read area slot h = tab-at (process_in area) slot_count slot no_process h
-
--- the first n bytes of those from a place on, as a first chunk has them
-pub part-first : (l : List ℕ) (at n : ℕ) → take n (take (length l - at) (drop at l)) ≡ part l at n
-part-first l at n = ap (take n) (take_all (length l - at) (drop at l) (omega (arith, length-drop at l)))

@@ -2,7 +2,7 @@
 ghost use Rattle.std.specs.Prelude.{◌≡◌, length};
 ghost use Rattle.machine.specs.Area.{kernel_of, process_of};
 ghost use Rattle.machine.specs.GoodArea.{is_open_in, is_program};
-ghost use Rattle.machine.specs.Limits.{area_length};
+ghost use Rattle.machine.specs.Limits.{area_length, record_size};
 ghost use Rattle.machine.specs.Operations.{in_use, uses};
 ghost use Rattle.machine.specs.State.{ended_slot, has_id, is_live, slot_of};
 
@@ -10,7 +10,7 @@ use crate::records::{CODE_AT, FILE_AT, ID_AT, PAUSED, RUNNING, STATE_AT, process
 use disc::Entry;
 use disc::layout::NAME_SIZE;
 use machine::Process;
-use machine::limits::{RECORD_SIZE, SLOT_COUNT};
+use machine::limits::SLOT_COUNT;
 use std::array;
 
 // Document 01: "ten of them in the kernel state, copied out, stepped, put back."
@@ -23,20 +23,23 @@ pub fn processes_of(area: &[u8]) -> [Process; SLOT_COUNT]
 
 // ---- tests of a record's bytes
 // Document 01: "Live means running or paused."
-pub fn is_live(bytes: &[u8; RECORD_SIZE]) -> bool
+pub fn is_live(bytes: &[u8]) -> bool
+    requires { length bytes.now ≡ record_size }
     ensures { result ≡ is_live (process_of bytes.now) }
 {
     let state = bytes[STATE_AT];
     (state == RUNNING) | (state == PAUSED)
 }
 
-fn has_id(bytes: &[u8; RECORD_SIZE], id: u32) -> bool
+fn has_id(bytes: &[u8], id: u32) -> bool
+    requires { length bytes.now ≡ record_size }
     ensures { result ≡ has_id id (process_of bytes.now) }
 {
     is_live(bytes) & (buffer::bytes::word_at(bytes, ID_AT) as u32 == id)
 }
 
-fn is_program(bytes: &[u8; RECORD_SIZE], e: Entry) -> bool
+fn is_program(bytes: &[u8], e: Entry) -> bool
+    requires { length bytes.now ≡ record_size }
     ensures { result ≡ is_program (process_of bytes.now) e }
 {
     let name = e.name;
@@ -46,7 +49,8 @@ fn is_program(bytes: &[u8; RECORD_SIZE], e: Entry) -> bool
     named & ((start == e.start) & (len == e.len))
 }
 
-fn is_open_in(bytes: &[u8; RECORD_SIZE], e: Entry) -> bool
+fn is_open_in(bytes: &[u8], e: Entry) -> bool
+    requires { length bytes.now ≡ record_size }
     ensures { result ≡ is_open_in (process_of bytes.now).file e }
 {
     let start = buffer::bytes::word_at(bytes, FILE_AT);
@@ -54,7 +58,8 @@ fn is_open_in(bytes: &[u8; RECORD_SIZE], e: Entry) -> bool
     (start == e.start) & (len == e.len)
 }
 
-fn is_user(bytes: &[u8; RECORD_SIZE], e: Entry) -> bool
+fn is_user(bytes: &[u8], e: Entry) -> bool
+    requires { length bytes.now ≡ record_size }
     ensures { result ≡ uses e (process_of bytes.now) }
 {
     is_live(bytes) & (is_program(bytes, e) | is_open_in(bytes, e))

@@ -5,8 +5,8 @@
 ghost use Rattle.std.specs.Prelude.{◌≡◌, ◌<◌, length, take};
 ghost use Rattle.buffer.specs.Buffer.{overwrite, part, word_bytes};
 ghost use Rattle.disc.specs.Layout.{name_size};
-ghost use Rattle.machine.specs.Area.{kernel_of, process_bytes, process_of, register_bytes, stack_at};
-ghost use Rattle.machine.specs.Limits.{area_length, next_at, record_size, slot_count, stack_size};
+ghost use Rattle.machine.specs.Area.{kernel_of, process_bytes, process_of, register_bytes};
+ghost use Rattle.machine.specs.Limits.{area_length, next_at, record_size, slot_count};
 ghost use Rattle.machine.specs.State.{process_at};
 ghost use Rattle.area.specs.Parts.{record_at};
 
@@ -47,37 +47,39 @@ pub const NO_LOOP: u16 = 65535;
 // The bytes between name and stack.
 const REGISTER_SIZE: usize = 20;
 
-// The bytes of the record in that slot.
-pub fn record_at(area: &[u8], slot: usize) -> &[u8; RECORD_SIZE]
+// The bytes of the record in that slot. A slice, and not an array's reference, which the library hands out in an Option:
+// that lies in memory otherwise where pointers are shorter (tools/ports/lint.py).
+pub fn record_at(area: &[u8], slot: usize) -> &[u8]
     requires area_len { length area.now ≡ area_length }
     requires slot_lt_slot_count { slot < slot_count }
     ensures { (result.now ≡ part area.now (record_at slot) record_size) × (length result.now ≡ record_size) }
 {
-    area[RECORDS_AT + slot * RECORD_SIZE..]
-        .first_chunk()
-        .unwrap()
+    let at = RECORDS_AT + slot * RECORD_SIZE;
+    let end = at + RECORD_SIZE;
+    &area[at..end]
 }
 
-fn name_of(bytes: &[u8; RECORD_SIZE]) -> [u8; NAME_SIZE]
+// The name byte by byte and not by a loop: compiled, it is three words, and a copy of so few bytes costs more.
+fn name_of(bytes: &[u8]) -> [u8; NAME_SIZE]
+    requires { length bytes.now ≡ record_size }
     ensures { result ≡ take name_size bytes.now }
 {
-    *bytes.first_chunk().unwrap()
-}
-
-fn stack_of(bytes: &[u8; RECORD_SIZE]) -> [u8; STACK_SIZE]
-    ensures { result ≡ part bytes.now stack_at stack_size }
-{
-    *bytes[STACK_AT..].first_chunk().unwrap()
+    [
+        bytes[0], bytes[1], bytes[2], bytes[3], bytes[4], bytes[5], bytes[6], bytes[7], bytes[8],
+        bytes[9], bytes[10], bytes[11],
+    ]
 }
 
 // The process that a record's bytes say.
-fn process_of(bytes: &[u8; RECORD_SIZE]) -> Process
+fn process_of(bytes: &[u8]) -> Process
+    requires { length bytes.now ≡ record_size }
     ensures { result ≡ process_of bytes.now }
 {
     let name = name_of(bytes);
-    let stack = stack_of(bytes);
+    let mut stack = [0u8; STACK_SIZE];
+    buffer::bytes::copy_part(&mut stack, bytes, STACK_AT);
     Process {
-        name,
+        name: name,
         id: buffer::bytes::word_at(bytes, ID_AT),
         state: bytes[STATE_AT],
         fault: bytes[FAULT_AT],
@@ -94,7 +96,7 @@ fn process_of(bytes: &[u8; RECORD_SIZE]) -> Process
         },
         sp: bytes[SP_AT],
         share: bytes[SHARE_AT],
-        stack,
+        stack: stack,
     }
 }
 

@@ -3,7 +3,7 @@ ghost use Rattle.std.specs.Prelude.{◌≡◌, List, ℕ};
 ghost use Rattle.machine.specs.Answer.{answer, erase, other, run};
 ghost use Rattle.operation.specs.Answers.{answered, lent};
 
-use request::Starting;
+use request::start::find_start;
 use store::{Answer, Refusal};
 use validation::check;
 
@@ -27,14 +27,12 @@ pub fn run(disc: &[u8], area: &mut [u8], name: &[u8]) -> Answer
         ≡ answer (run name.now) (lent disc.now area.old out) }
 {
     check(disc, area)?;
-    match request::start::find_start(disc, area, name) {
-        Starting::Starts(slot, i) => {
-            let next = area::records::next_id(area);
-            request::start::start(area, slot, disc::directory::entry_at(disc, i));
-            Ok(next)
-        }
-        Starting::NoSlot => Err(Refusal::NoSlot),
-        Starting::NoFile => Err(Refusal::NoSuchFile),
-        Starting::NoId => Err(Refusal::NoId),
-    }
+    let start = find_start(disc, area, name)?;
+    let next = area::records::next_id(area);
+    request::start::start(
+        area,
+        start.slot,
+        disc::directory::entry_at(disc, start.place),
+    );
+    Ok(next)
 }

@@ -3,7 +3,7 @@ ghost use Rattle.std.specs.Prelude.{◌≡◌, ◌+◌, ◌≤◌, length};
 ghost use Rattle.buffer.specs.Laid.{Laid};
 ghost use Rattle.machine.specs.Answer.{answer, list, other};
 ghost use Rattle.machine.specs.Area.{kernel_of, process_of};
-ghost use Rattle.machine.specs.Limits.{area_length};
+ghost use Rattle.machine.specs.Limits.{area_length, record_size};
 ghost use Rattle.machine.specs.Operations.{list_text};
 ghost use Rattle.operation.specs.Answers.{answered, lent};
 ghost use Rattle.operation.specs.Lines.{line_of};
@@ -11,12 +11,13 @@ ghost use Rattle.operation.specs.Lines.{line_of};
 use area::processes::is_live;
 use area::records::{ID_AT, STATE_AT, record_at};
 use disc::layout::NAME_SIZE;
-use machine::limits::{RECORD_SIZE, SLOT_COUNT};
+use machine::limits::SLOT_COUNT;
 use store::{Answer, Refusal};
 use validation::check;
 
 // Document 01, List: "ID, space, 'r' or 'p', space, name, newline per live process". Nothing for one that has ended.
-fn line_length(bytes: &[u8; RECORD_SIZE]) -> usize
+fn line_length(bytes: &[u8]) -> usize
+    requires { length bytes.now ≡ record_size }
     ensures { result ≡ length (line_of (process_of bytes.now)) }
 {
     if !is_live(bytes) {
@@ -26,8 +27,9 @@ fn line_length(bytes: &[u8; RECORD_SIZE]) -> usize
     decimal::decimal_length(id as u32) + disc::name::text_length(&bytes[..NAME_SIZE]) + 4
 }
 
-fn put_line(out: &mut [u8], at: usize, bytes: &[u8; RECORD_SIZE]) -> usize
-    requires { at + length (line_of (process_of bytes.now)) ≤ length out.old }
+fn put_line(out: &mut [u8], at: usize, bytes: &[u8]) -> usize
+    requires bytes_len { length bytes.now ≡ record_size }
+    requires bytes_in_bounds { at + length (line_of (process_of bytes.now)) ≤ length out.old }
     ensures { Laid out.old at (line_of (process_of bytes.now)) out.new result }
 {
     if !is_live(bytes) {

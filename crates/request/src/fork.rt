@@ -11,7 +11,7 @@ ghost use Rattle.request.specs.Starts.{Startable};
 ghost use Rattle.stack.specs.Steps.{about, keeping};
 ghost use Rattle.disc.specs.Directory.{Readable, entry_at};
 
-use crate::Starting;
+use crate::Launch;
 use crate::start::{find_start, start};
 use machine::{OpenFile, Process};
 use process::advance::go_on;
@@ -32,27 +32,23 @@ fn push_zero(area: &mut [u8], slot: usize, file: OpenFile, d: Step)
     go_on(area, slot, d.kept, d.pc, d.loopstart, &id, &tail, file);
 }
 
-// The child in its slot, next ID on the stack. It started from the file at place i of the directory.
-fn push_child(
-    disc: &[u8],
-    area: &mut [u8],
-    slot: usize,
-    file: OpenFile,
-    d: Step,
-    child: usize,
-    i: usize,
-)
+// The child in its slot, next ID on the stack.
+fn push_child(disc: &[u8], area: &mut [u8], slot: usize, file: OpenFile, d: Step, child: Launch)
     requires { Stepping area.old slot (own_at area.old slot) d × (file ≡ (own_at area.old slot).file)
         × (d.kept + 3 ≤ stack_size) × Readable disc.now
-        × Startable disc.now area.old child i × ((kernel_of area.old).next ≤ id_limit) }
+        × Startable disc.now area.old child.slot child.place × ((kernel_of area.old).next ≤ id_limit) }
     ensures { left disc.now area.new ≡ after disc.now area.old slot
-        (forked (kernel_of area.old) slot disc.now (starts child (entry_at disc.now i))
+        (forked (kernel_of area.old) slot disc.now (starts child.slot (entry_at disc.now child.place))
         (keeping (stack_of (own_at area.old slot)) d)) }
 {
     let next = area::records::next_id(area);
     let id = [buffer::bytes::high(next), buffer::bytes::low(next)];
     let tail = [INT_KIND];
-    start(area, child, disc::directory::entry_at(disc, i));
+    start(
+        area,
+        child.slot,
+        disc::directory::entry_at(disc, child.place),
+    );
     go_on(area, slot, d.kept, d.pc, d.loopstart, &id, &tail, file);
 }
 
@@ -66,9 +62,7 @@ pub fn fork(disc: &[u8], area: &mut [u8], slot: usize, p: Process, d: Step)
     let bytes = d.bytes;
     let len = d.len as usize;
     match find_start(disc, area, &bytes[..len]) {
-        Starting::Starts(child, i) => push_child(disc, area, slot, file, d, child, i),
-        Starting::NoSlot => push_zero(area, slot, file, d),
-        Starting::NoFile => push_zero(area, slot, file, d),
-        Starting::NoId => push_zero(area, slot, file, d),
+        Ok(child) => push_child(disc, area, slot, file, d, child),
+        Err(_) => push_zero(area, slot, file, d),
     }
 }

@@ -7,11 +7,9 @@ pub mod open;
 pub mod start;
 pub mod wait;
 
-// Where a program is started, slot and place in the directory; or why it is not.
+// Where a program is started: the slot, and its file's place in the directory.
 #[derive(Clone, Copy)]
-pub enum Starting {
-    Starts(usize, usize),
-    NoSlot,
-    NoFile,
-    NoId,
+pub struct Launch {
+    pub slot: usize,
+    pub place: usize,
 }

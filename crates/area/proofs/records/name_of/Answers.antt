@@ -1,5 +1,11 @@
--- The name stands first.
+-- The bytes spelled are the first twelve.
+use native.Mathlib.Omega.{arith}
+use Rattle.buffer.specs.Lists.{tab}
+use Rattle.buffer.proofs.Words.{spelled}
+use Rattle.disc.specs.Layout.{name_size}
 use Rattle.area.proofs.records.name_of.Goals as goal
 
 pub returns : goal.returns
-returns c = (rw c.unwrap.ensures at c.first_chunk.ensures.cases).same
+unfolding tab
+returns c =
+    spelled c.args.bytes.now 0 name_size (omega arith)

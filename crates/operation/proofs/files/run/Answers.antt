@@ -32,44 +32,34 @@ next_id-next-requires c = area-size (first-passed c.args.disc.now c.args.area.no
 pub entry_at-requires : goal.entry_at-requires
 entry_at-requires c =
     let r = disc-readable (first-passed c.args.disc.now c.args.area.now c.in_ok-check.ensures) in
-    (r.low, omega (arith, c.in-Starts.ensures.1.file-low, r.few))
+    (r.low, omega (arith, (rw c.in_ok-start.was at c.find_start.ensures.1).file-low, r.few))
 
 pub start-requires : goal.start-requires
 start-requires c = (
   area-size (first-passed c.args.disc.now c.args.area.now c.in_ok-check.ensures),
-  c.in-Starts.ensures.1.slot-low,
+  (rw c.in_ok-start.was at c.find_start.ensures.1).slot-low,
   omega
       (arith, next_low (first-passed c.args.disc.now c.args.area.now c.in_ok-check.ensures)),
 )
 
-pub returns-in-Starts : goal.returns-in-Starts
+pub returns : goal.returns
 unfolding answer
-returns-in-Starts c out =
+returns c out =
     let a = c.args in
     let k = kernel_of a.area.now in
-    let begun : c.start.new.area ≡ kernel_bytes (started k c.in-Starts.slot (entry_at a.disc.now c.in-Starts.i)) =
-    c.start.ensures ∙ (λ i. kernel_bytes (started k c.in-Starts.slot (c.entry_at.ensures i))) in
+    let s = c.in_ok-start.start in
+    let begun : c.start.new.area ≡ kernel_bytes (started k s.slot (entry_at a.disc.now s.place)) =
+    c.start.ensures ∙ (λ i. kernel_bytes (started k s.slot (c.entry_at.ensures i))) in
+    let found = rw c.in_ok-start.was at c.find_start.ensures.0 in
     first_done _ _ c.in_ok-check.ensures out
     ((λ i. answered (Ok (c.next_id-next.ensures i)) a.disc.now (begun i) out)
-    ∙ ap (λ (s : StartOf). run_at s k (lent a.disc.now a.area.now out)) c.in-Starts.ensures.0)
+    ∙ ap (λ (s : StartOf). run_at s k (lent a.disc.now a.area.now out)) found)
 
-pub returns-in-NoSlot : goal.returns-in-NoSlot
+pub returns-in_err-start : goal.returns-in_err-start
 unfolding answer
-returns-in-NoSlot c out =
+returns-in_err-start c out =
     let a = c.args in
-    first_done _ _ c.in_ok-check.ensures out
-    (ap (λ (s : StartOf). run_at s (kernel_of a.area.now) (lent a.disc.now a.area.now out)) c.in-NoSlot.ensures.0)
-
-pub returns-in-NoFile : goal.returns-in-NoFile
-unfolding answer
-returns-in-NoFile c out =
-    let a = c.args in
-    first_done _ _ c.in_ok-check.ensures out
-    (ap (λ (s : StartOf). run_at s (kernel_of a.area.now) (lent a.disc.now a.area.now out)) c.in-NoFile.ensures.0)
-
-pub returns-in-NoId : goal.returns-in-NoId
-unfolding answer
-returns-in-NoId c out =
-    let a = c.args in
-    first_done _ _ c.in_ok-check.ensures out
-    (ap (λ (s : StartOf). run_at s (kernel_of a.area.now) (lent a.disc.now a.area.now out)) c.in-NoId.ensures.0)
+    let p = err_from_is_err_and c.from_residual-in_err-start.result c.from_residual-in_err-start.ensures.1 in
+    let refused = rw c.in_err-start.was at c.find_start.ensures.0 in
+    rw (p.1, p.2) (first_done _ _ c.in_ok-check.ensures out
+    (ap (λ (s : StartOf). run_at s (kernel_of a.area.now) (lent a.disc.now a.area.now out)) refused))

@@ -28,24 +28,24 @@ returns-then-not-is_live c =
 pub put_decimal-counted-requires : goal.put_decimal-counted-requires
 put_decimal-counted-requires c =
     let long = line-length (process_of c.args.bytes.now) (sym c.is_live.ensures ∙ c.if-not-is_live.false) c.word_at-id.ensures in
-    omega (arith, c.requires)
+    omega (arith, c.requires.bytes_in_bounds)
 
 pub put_bytes-stated-requires : goal.put_bytes-stated-requires
 put_bytes-stated-requires c =
     let long = line-length (process_of c.args.bytes.now) (sym c.is_live.ensures ∙ c.if-not-is_live.false) c.word_at-id.ensures in
-    omega (arith, c.requires, c.put_decimal-counted.ensures.place)
+    omega (arith, c.requires.bytes_in_bounds, c.put_decimal-counted.ensures.place)
 
 pub put_name-named-requires : goal.put_name-named-requires
 put_name-named-requires c =
     let long = line-length (process_of c.args.bytes.now) (sym c.is_live.ensures ∙ c.if-not-is_live.false) c.word_at-id.ensures in
-    omega (arith, c.requires, c.put_decimal-counted.ensures.place, c.put_bytes-stated.ensures.place)
+    omega (arith, c.requires.bytes_in_bounds, c.put_decimal-counted.ensures.place, c.put_bytes-stated.ensures.place)
 
 pub put_bytes-requires : goal.put_bytes-requires
 put_bytes-requires c =
     let long = line-length (process_of c.args.bytes.now) (sym c.is_live.ensures ∙ c.if-not-is_live.false) c.word_at-id.ensures in
     omega (
       arith,
-      c.requires,
+      c.requires.bytes_in_bounds,
       c.put_decimal-counted.ensures.place,
       c.put_bytes-stated.ensures.place,
       c.put_name-named.ensures.place,
@@ -58,6 +58,6 @@ returns c =
     let live = live-line p (sym c.is_live.ensures ∙ c.if-not-is_live.false) in
     rw live
     (line-laid (decimal p.id) (32 ∷ p.state ∷ 32 ∷ []) (trimmed p.name) (10 ∷ [])
-    (omega (arith, ap length live, c.requires))
+    (omega (arith, ap length live, c.requires.bytes_in_bounds))
     (rw (ap decimal c.word_at-id.ensures) at c.put_decimal-counted.ensures) c.put_bytes-stated.ensures c.put_name-named.ensures
     c.put_bytes.ensures)

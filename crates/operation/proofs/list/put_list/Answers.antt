@@ -24,7 +24,10 @@ loop-slot-init c = written_none _ _ _ _
 pub put_line-at-requires : goal.put_line-at-requires
 put_line-at-requires c =
     let room = roomy c.args.area.now c.args.out.now c.requires.area_in_bounds in
-    written-room _ _ _ _ room c.loop-slot.invariant (omega arith) (ap process_of c.record_at.ensures.0)
+    record {
+      bytes_len = c.record_at.ensures.1;
+      bytes_in_bounds = written-room _ _ _ _ room c.loop-slot.invariant (omega arith) (ap process_of c.record_at.ensures.0);
+    }
 
 pub loop-slot-preserved : goal.loop-slot-preserved
 loop-slot-preserved c =

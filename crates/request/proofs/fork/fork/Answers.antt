@@ -12,6 +12,7 @@ use Rattle.process.specs.Stepping.{Left, Stepping, own_at, stack_of}
 use Rattle.process.proofs.Advancing.{own-file, own-stepping}
 use Rattle.stack.specs.Steps.{about, keeping}
 use Rattle.stack.specs.declared.Step.{Step}
+use Rattle.store.specs.Answer.{refusal_number}
 use Rattle.request.specs.Answers.{after}
 use Rattle.request.proofs.Answering.{answers}
 use Rattle.request.proofs.fork.fork.Goals as goal
@@ -29,25 +30,14 @@ forks-by {area} {slot} {p} {d} s disc {x} {start} e t =
 
 pub push_child-requires : goal.push_child-requires
 push_child-requires c =
-    (own-stepping c.requires.0, own-file c.requires.0, c.requires.2, c.requires.1, c.in-Starts.ensures.1, c.requires.3)
+    (own-stepping c.requires.0, own-file c.requires.0, c.requires.2, c.requires.1, c.in-Ok.ensures.1, c.requires.3)
 
-pub returns-in-Starts : goal.returns-in-Starts
-returns-in-Starts c = forks-by c.requires.0 c.args.disc.now c.push_child.ensures c.in-Starts.ensures.0
+pub returns-in-Ok : goal.returns-in-Ok
+returns-in-Ok c = forks-by c.requires.0 c.args.disc.now c.push_child.ensures c.in-Ok.ensures.0
 
 pub push_zero-requires : goal.push_zero-requires
 push_zero-requires c = (own-stepping c.requires.0, own-file c.requires.0, c.requires.2)
 
-pub returns-in-NoSlot : goal.returns-in-NoSlot
-returns-in-NoSlot c = forks-by c.requires.0 c.args.disc.now (c.push_zero.ensures c.args.disc.now 12) c.in-NoSlot.ensures.0
-
-pub push_zero-requires-in-NoFile : goal.push_zero-requires-in-NoFile
-push_zero-requires-in-NoFile c = (own-stepping c.requires.0, own-file c.requires.0, c.requires.2)
-
-pub returns-in-NoFile : goal.returns-in-NoFile
-returns-in-NoFile c = forks-by c.requires.0 c.args.disc.now (c.push_zero-in-NoFile.ensures c.args.disc.now 10) c.in-NoFile.ensures.0
-
-pub push_zero-requires-in-NoId : goal.push_zero-requires-in-NoId
-push_zero-requires-in-NoId c = (own-stepping c.requires.0, own-file c.requires.0, c.requires.2)
-
-pub returns-in-NoId : goal.returns-in-NoId
-returns-in-NoId c = forks-by c.requires.0 c.args.disc.now (c.push_zero-in-NoId.ensures c.args.disc.now 13) c.in-NoId.ensures.0
+pub returns-in-Err : goal.returns-in-Err
+returns-in-Err c =
+    forks-by c.requires.0 c.args.disc.now (c.push_zero.ensures c.args.disc.now (refusal_number c.in-Err.field-0)) c.in-Err.ensures.0

@@ -24,14 +24,14 @@ pub go_on-requires : goal.go_on-requires
 go_on-requires c =
     let a = c.args in
     let s = c.requires.0 in
-    let begun = begun-is a.area.now s.size a.child (search rules) c.entry_at.ensures c.start.ensures in
-    may-fork-on s a.disc.now a.child _ c.requires.4.ended c.start.new.area (omega (arith, s.size)) begun c.requires.2
+    let begun = begun-is a.area.now s.size a.child.slot (search rules) c.entry_at.ensures c.start.ensures in
+    may-fork-on s a.disc.now a.child.slot _ c.requires.4.ended c.start.new.area (omega (arith, s.size)) begun c.requires.2
 
 pub returns : goal.returns
 returns c =
     let a = c.args in
     let s = c.requires.0 in
-    let begun = begun-is a.area.now s.size a.child (search rules) c.entry_at.ensures c.start.ensures in
+    let begun = begun-is a.area.now s.size a.child.slot (search rules) c.entry_at.ensures c.start.ensures in
     let high = c.high.ensures ∙ ap (λ (w : ℕ). w / 256) c.next_id-next.ensures in
     let low = c.low.ensures ∙ ap (λ (w : ℕ). w % 256) c.next_id-next.ensures in
-    forks-on s a.disc.now a.child _ c.requires.4.ended c.start.new.area begun high low c.requires.1 c.go_on.ensures
+    forks-on s a.disc.now a.child.slot _ c.requires.4.ended c.start.new.area begun high low c.requires.1 c.go_on.ensures
