@@ -2,12 +2,10 @@
 ghost use Rattle.std.specs.Prelude.{◌≡◌};
 ghost use Rattle.machine.specs.Start.{started_process};
 ghost use Rattle.machine.specs.Ended.{ended_process};
-ghost use Rattle.machine.specs.Fault.{fault_byte};
 
 use crate::records::{NO_LOOP, RUNNING};
 use disc::Entry;
 use disc::layout::NAME_SIZE;
-use machine::fault::Fault;
 use machine::limits::STACK_SIZE;
 use machine::{OpenFile, Process};
 use place::Run;
@@ -31,15 +29,16 @@ const NO_PROCESS: Process = Process {
     stack: [0; STACK_SIZE],
 };
 
-// Document 01: "Its record keeps name, ID and fault (0 unless a fault) and is otherwise zero."
-pub fn ended_process(p: Process, fault: Option<Fault>) -> Process
-    ensures { result ≡ ended_process p (fault_byte fault) }
+// Document 01: "Its record keeps name, ID and fault (0 unless a fault) and is otherwise zero." The fault is the record's
+// byte and not the enum: `ended_process` and `ended` are defined of every number, and docs/PROOFS.md names both.
+pub fn ended_process(p: Process, fault: u8) -> Process
+    ensures { result ≡ ended_process p fault }
 {
     let name = p.name;
     Process {
         name,
         id: p.id,
-        fault: fault.map_or(0, Fault::number),
+        fault,
         ..NO_PROCESS
     }
 }

@@ -1,5 +1,5 @@
 -- The faults by name, with document 01's numbers.
-use Rattle.std.specs.Prelude.{ℕ, Option, None, Some}
+use Rattle.std.specs.Prelude.{ℕ}
 use Rattle.machine.specs.declared.fault.Fault.{Fault}
 use Rattle.machine.specs.declared.fault.Fault.TheVariants.{NoInstruction, CodeEnded, OutsideCode, StackFull}
 use Rattle.machine.specs.declared.fault.Fault.TheVariants.{NothingThere, WrongType, DivisionByZero, OutOfRange}
@@ -24,8 +24,3 @@ fault_number NoPlace = 10
 fault_number NoOpenFile = 11
 fault_number PastEnd = 12
 fault_number FileRefused = 13
-
--- a record's byte of the fault that its process ended with: "0 unless a fault"
-abbrev pub fault_byte : Option Fault → ℕ
-fault_byte None = 0
-fault_byte (Some fault) = fault_number fault

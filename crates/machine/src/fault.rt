@@ -5,6 +5,9 @@ ghost use Rattle.operator.specs.Outcome.{fault_of};
 
 use operator::ArithmeticError;
 
+// Document 01: "fault (0 unless a fault)"
+pub const NO_FAULT: u8 = 0;
+
 #[derive(Clone, Copy, Debug, PartialEq, Eq)]
 pub enum Fault {
     NoInstruction = 1,

@@ -8,6 +8,7 @@ ghost use Rattle.operation.specs.Commands.{live_slot, turned_to};
 
 use area::processes::slot_of;
 use area::records::{PAUSED, RUNNING, process_at};
+use machine::fault::NO_FAULT;
 use machine::limits::MAX_SHARE;
 use process::advance::put_back;
 use process::ending::finish;
@@ -59,7 +60,7 @@ pub fn kill(disc: &[u8], area: &mut [u8], id: u32) -> Answer
         ≡ answer (command kill id) (lent disc.now area.old out) }
 {
     let slot = live_slot(disc, area, id)?;
-    finish(area, slot, None);
+    finish(area, slot, NO_FAULT);
     Ok(0)
 }
 

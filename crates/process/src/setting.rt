@@ -7,7 +7,7 @@ ghost use Rattle.process.specs.Stepping.{Stepping, left, left_by, stack_of};
 ghost use Rattle.stack.specs.Steps.{about, keeping};
 
 use crate::advance::go_on;
-use crate::ending::finish;
+use crate::ending::fail;
 use area::variables::assign_in;
 use machine::Process;
 use machine::fault::Fault;
@@ -27,6 +27,6 @@ pub fn set_variable(area: &mut [u8], slot: usize, p: Process, d: Step, name: u8,
     let placing = assign_in(area, name, kind, p.id, &bytes[..n]);
     match placing {
         Ok(_) => go_on(area, slot, d.kept, d.pc, d.loopstart, b"", b"", file),
-        Err(_) => finish(area, slot, Some(Fault::NoPlace)),
+        Err(_) => fail(area, slot, Fault::NoPlace),
     }
 }

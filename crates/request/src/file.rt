@@ -13,7 +13,7 @@ use machine::limits::STACK_SIZE;
 use machine::{OpenFile, Process};
 use place::Run;
 use process::advance::go_on;
-use process::ending::finish;
+use process::ending::fail;
 use stack::{STRING_KIND, Step};
 
 // Whether n bytes can be written or read at the offset. Document 01: "11 no open file; 12 past the file's end"
@@ -76,7 +76,7 @@ pub fn write_file(disc: &mut [u8], area: &mut [u8], slot: usize, p: Process, d: 
                 advanced(file, n),
             );
         }
-        Err(fault) => finish(area, slot, Some(fault)),
+        Err(fault) => fail(area, slot, fault),
     }
 }
 
@@ -99,7 +99,7 @@ fn push_read(
         (keeping (stack_of (own_at area.old slot)) d)) }
 {
     if STACK_SIZE < d.kept as usize + n + tail.len() {
-        finish(area, slot, Some(Fault::StackFull));
+        fail(area, slot, Fault::StackFull);
         return;
     }
     let mut bytes = [0u8; STACK_SIZE];
@@ -129,7 +129,7 @@ pub fn read_number(disc: &[u8], area: &mut [u8], slot: usize, p: Process, d: Ste
             let tail = [kind];
             push_read(disc, area, slot, file, d, n, &tail);
         }
-        Err(fault) => finish(area, slot, Some(fault)),
+        Err(fault) => fail(area, slot, fault),
     }
 }
 
@@ -141,7 +141,7 @@ fn push_text(disc: &[u8], area: &mut [u8], slot: usize, p: Process, d: Step, n: 
         (keeping (stack_of p) d)) }
 {
     if STACK_SIZE < n {
-        finish(area, slot, Some(Fault::StackFull));
+        fail(area, slot, Fault::StackFull);
         return;
     }
     let file = p.file;
@@ -157,12 +157,12 @@ pub fn read_string(disc: &[u8], area: &mut [u8], slot: usize, p: Process, d: Ste
 {
     let file = p.file;
     if file.len == 0 {
-        finish(area, slot, Some(Fault::NoOpenFile));
+        fail(area, slot, Fault::NoOpenFile);
         return;
     }
     let n = store::file::text_ahead(disc, file_run(file), file.offset as usize) + 1;
     if (file.len as usize) < file.offset as usize + n {
-        finish(area, slot, Some(Fault::PastEnd));
+        fail(area, slot, Fault::PastEnd);
         return;
     }
     push_text(disc, area, slot, p, d, n);

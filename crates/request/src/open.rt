@@ -14,7 +14,7 @@ use machine::{OpenFile, Process};
 use number::Number;
 use number::compare::size_within;
 use process::advance::go_on;
-use process::ending::finish;
+use process::ending::fail;
 use stack::Step;
 
 // The process goes on with the file of these bytes open, at offset 0.
@@ -46,7 +46,7 @@ fn create_file(disc: &mut [u8], area: &mut [u8], slot: usize, p: Process, d: Ste
             store::file::create(disc, &bytes[..len], n as usize, start);
             open_run(area, slot, p, d, start as u16, n);
         }
-        Err(_) => finish(area, slot, Some(Fault::FileRefused)),
+        Err(_) => fail(area, slot, Fault::FileRefused),
     }
 }
 
@@ -60,7 +60,7 @@ fn open_new(disc: &mut [u8], area: &mut [u8], slot: usize, p: Process, d: Step, 
     let max = store::file::size_limit(disc);
     match size_within(size, max as u16) {
         Some(n) => create_file(disc, area, slot, p, d, n),
-        None => finish(area, slot, Some(Fault::FileRefused)),
+        None => fail(area, slot, Fault::FileRefused),
     }
 }
 

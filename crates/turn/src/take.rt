@@ -12,8 +12,9 @@ ghost use Rattle.turn.specs.Turns.{Carries, printed_by, turn_left, turn_left_by}
 
 use area::processes::processes_of;
 use machine::Process;
+use machine::fault::NO_FAULT;
 use process::advance::go_on;
-use process::ending::finish;
+use process::ending::{fail, finish};
 use process::fetch::next_step;
 use process::setting::set_variable;
 use request::file::{read_number, read_string, write_file};
@@ -39,7 +40,7 @@ fn carry_out(disc: &mut [u8], area: &mut [u8], slot: usize, p: Process, d: Step)
         }
         Action::Print => go_on(area, slot, d.kept, d.pc, d.loopstart, b"", b"", file),
         Action::Assign(name, kind) => set_variable(area, slot, p, d, name, kind),
-        Action::Stop => finish(area, slot, None),
+        Action::Stop => finish(area, slot, NO_FAULT),
         Action::Open(size) => open_file(disc, area, slot, p, d, size),
         Action::Close => go_on(area, slot, d.kept, d.pc, d.loopstart, b"", b"", file),
         Action::Write => write_file(disc, area, slot, p, d),
@@ -86,7 +87,7 @@ pub fn take_turn(
             print(d, out)
         }
         Err(fault) => {
-            finish(area, slot, Some(fault));
+            fail(area, slot, fault);
             0
         }
     }

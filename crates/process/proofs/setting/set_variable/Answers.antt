@@ -34,12 +34,12 @@ pub returns-in-Ok : goal.returns-in-Ok
 returns-in-Ok c =
     set-done c.requires.0 c.args.name c.args.kind c.assign_in-placing.ensures c.in-Ok.is c.go_on.ensures
 
-pub finish-requires : goal.finish-requires
-finish-requires c =
+pub fail-requires : goal.fail-requires
+fail-requires c =
     let t = c.requires.0 in
     (omega (arith, t.size), t.low, set-few t c.args.name c.args.kind c.assign_in-placing.ensures (Err c.in-Err.field-0) tt c.in-Err.is)
 
 pub returns-in-Err : goal.returns-in-Err
 returns-in-Err c =
     set-refused c.requires.0 c.args.name c.args.kind c.assign_in-placing.ensures (Err c.in-Err.field-0) tt c.in-Err.is
-    (sym (ap placing_fault c.in-Err.is)) c.finish.ensures
+    (sym (ap placing_fault c.in-Err.is)) c.fail.ensures

@@ -62,7 +62,7 @@ returns-then-d-n-gt-STACK_SIZE c =
     breaks-off s a.disc.now
     (ap (answer s is h a.tail.now) is
     ∙ no_room s (own-ahead s is h) a.tail.now (keeping (stack_of (own_at a.area.now a.slot)) a.d) (omega arith))
-    c.finish.ensures
+    c.fail.ensures
 
 pub slice_bounds-read_at-end : goal.slice_bounds-read_at-end
 slice_bounds-read_at-end c = sym (lent-length c.args.n (omega arith))

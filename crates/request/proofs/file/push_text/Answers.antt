@@ -16,7 +16,7 @@ pub returns-then-n-gt-STACK_SIZE : goal.returns-then-n-gt-STACK_SIZE
 returns-then-n-gt-STACK_SIZE c =
     let a = c.args in
     breaks-off c.requires.0 a.disc.now
-    (no_room c.requires.0 c.requires.1 (a.n ∷ string_kind ∷ []) (keeping (stack_of a.p) a.d) (omega arith)) c.finish.ensures
+    (no_room c.requires.0 c.requires.1 (a.n ∷ string_kind ∷ []) (keeping (stack_of a.p) a.d) (omega arith)) c.fail.ensures
 
 pub push_read-requires : goal.push_read-requires
 push_read-requires c =

@@ -26,4 +26,4 @@ returns-in-Ok c =
 
 pub returns-in-Err : goal.returns-in-Err
 returns-in-Err c =
-    breaks-off c.requires.0 _ (read-granted c.requires.0 _ c.args.kind (sym c.in-Err.ensures)) c.finish.ensures
+    breaks-off c.requires.0 _ (read-granted c.requires.0 _ c.args.kind (sym c.in-Err.ensures)) c.fail.ensures

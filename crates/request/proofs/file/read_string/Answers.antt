@@ -41,7 +41,7 @@ pub returns-then-file-eq0 : goal.returns-then-file-eq0
 returns-then-file-eq0 c =
     let a = c.args in
     breaks-off c.requires.0 a.disc.now (text-granted c.requires.0 a.disc.now (no-file a.p.file _ c.if-file-eq0.true))
-    c.finish.ensures
+    c.fail.ensures
 
 pub returns-then-file-n : goal.returns-then-file-n
 returns-then-file-n c =
@@ -49,7 +49,7 @@ returns-then-file-n c =
     let n = text-is a.disc.now a.p.file c.text_ahead-n.ensures c.file_run.ensures in
     breaks-off c.requires.0 a.disc.now
     (text-granted c.requires.0 a.disc.now (past_end a.p.file _ c.if-file-eq0.false (omega (arith, n, c.if-file-n.true))))
-    c.finish-then-file-n.ensures
+    c.fail-then-file-n.ensures
 
 pub returns : goal.returns
 returns c =

@@ -42,4 +42,4 @@ returns-in-Ok c =
 pub returns-in-Err : goal.returns-in-Err
 returns-in-Err c =
     let size : length c.args.d.bytes ≡ stack_size = search rules in
-    breaks-off c.requires.0 _ (write_granted c.requires.0 _ size (sym c.in-Err.ensures)) c.finish.ensures
+    breaks-off c.requires.0 _ (write_granted c.requires.0 _ size (sym c.in-Err.ensures)) c.fail.ensures

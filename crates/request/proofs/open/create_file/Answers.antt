@@ -44,4 +44,4 @@ returns-in-Err c =
     let a = c.args in
     let answer : Result ℕ Refusal → Answered =
     λ x. created_at (kernel_of a.area.now) a.slot a.disc.now x (about a.d) a.n (keeping (stack_of a.p) a.d) in
-    breaks-off c.requires.0 a.disc.now (ap answer (sym c.in-Err.ensures)) c.finish.ensures
+    breaks-off c.requires.0 a.disc.now (ap answer (sym c.in-Err.ensures)) c.fail.ensures

@@ -38,4 +38,4 @@ returns-in-None c =
     λ x. created (kernel_of a.area.now) a.slot a.disc.now x (about a.d) (keeping (stack_of a.p) a.d) in
     breaks-off c.requires.0 a.disc.now
     (ap answer (sym (size-is a.disc.now a.size c.in-None.is c.size_within.ensures c.size_limit-max.ensures)))
-    c.finish.ensures
+    c.fail.ensures

@@ -37,8 +37,8 @@ returns-in-Ok c =
     (effect_is a.disc.now a.area.now passes a.slot low (sym (ap is_running is) ∙ runs) a.p is a.clock d c.in-Ok.ensures)
     c.print.result c.carry_out.new.disc c.carry_out.new.area a.out.now c.print.new.out c.carry_out.ensures c.print.ensures
 
-pub finish-requires : goal.finish-requires
-finish-requires c = (area-size c.requires.0, c.requires.1, few-variables c.requires.0)
+pub fail-requires : goal.fail-requires
+fail-requires c = (area-size c.requires.0, c.requires.1, few-variables c.requires.0)
 
 pub returns-in-Err : goal.returns-in-Err
 returns-in-Err c =
@@ -46,4 +46,4 @@ returns-in-Err c =
     let (passes, low, _, is, runs) = c.requires in
     turn-faulted (kernel_of a.area.now) a.slot a.disc.now a.clock _
     (fault_is a.disc.now a.area.now passes a.slot low (sym (ap is_running is) ∙ runs) a.p is a.clock _ c.in-Err.ensures)
-    c.finish.new.area a.out.now c.finish.ensures
+    c.fail.new.area a.out.now c.fail.ensures
