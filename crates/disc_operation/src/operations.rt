@@ -82,10 +82,8 @@ fn files_length(disc: &[u8]) -> usize
 {
     let count = disc::directory::file_count(disc);
     let mut len: usize = 0;
-    let mut i: usize = 0;
-    while i < count {
+    for i in 0..count {
         len += line_length(disc::directory::entry_at(disc, i));
-        i += 1;
     }
     len
 }
@@ -97,10 +95,8 @@ fn put_files(disc: &[u8], out: &mut [u8]) -> usize
 {
     let count = disc::directory::file_count(disc);
     let mut at: usize = 0;
-    let mut i: usize = 0;
-    while i < count {
+    for i in 0..count {
         at = put_line(out, at, disc::directory::entry_at(disc, i));
-        i += 1;
     }
     at
 }

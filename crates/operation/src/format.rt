@@ -1,5 +1,5 @@
 // Format and boot: they take any bytes of the right length.
-ghost use Rattle.std.specs.Prelude.{◌≡◌, List, ℕ, length, replicate};
+ghost use Rattle.std.specs.Prelude.{◌≡◌, List, ℕ, length};
 ghost use Rattle.machine.specs.Answer.{boot_answer, booted, format_answer};
 ghost use Rattle.machine.specs.Limits.{area_length};
 ghost use Rattle.operation.specs.Answers.{answered, lent};
@@ -7,22 +7,12 @@ ghost use Rattle.operation.specs.Answers.{answered, lent};
 use machine::limits::{AREA_LENGTH, NEXT_AT};
 use store::{Answer, Refusal};
 
-fn fill_zeros(bytes: &mut [u8])
-    ensures { bytes.new ≡ replicate (length bytes.old) 0 }
-{
-    let mut i: usize = 0;
-    while i < bytes.len() {
-        bytes[i] = 0;
-        i += 1;
-    }
-}
-
 // Document 01: "Boot zeroes the work area and sets next ID to 1."
 fn clear_area(area: &mut [u8])
     requires { length area.old ≡ area_length }
     ensures { area.new ≡ booted }
 {
-    fill_zeros(area);
+    area.fill(0);
     area[NEXT_AT] = 1;
 }
 
@@ -48,7 +38,7 @@ pub fn format(disc: &mut [u8], area: &mut [u8]) -> Answer
     if area.len() != AREA_LENGTH {
         return Err(Refusal::WrongLength);
     }
-    fill_zeros(disc);
+    disc.fill(0);
     clear_area(area);
     Ok(0)
 }

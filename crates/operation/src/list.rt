@@ -49,10 +49,8 @@ fn list_length(area: &[u8]) -> usize
     ensures { result ≡ length (list_text (kernel_of area.now)) }
 {
     let mut len: usize = 0;
-    let mut slot: usize = 0;
-    while slot < SLOT_COUNT {
+    for slot in 0..SLOT_COUNT {
         len += line_length(record_at(area, slot));
-        slot += 1;
     }
     len
 }
@@ -63,10 +61,8 @@ fn put_list(area: &[u8], out: &mut [u8]) -> usize
     ensures { Laid out.old 0 (list_text (kernel_of area.now)) out.new result }
 {
     let mut at: usize = 0;
-    let mut slot: usize = 0;
-    while slot < SLOT_COUNT {
+    for slot in 0..SLOT_COUNT {
         at = put_line(out, at, record_at(area, slot));
-        slot += 1;
     }
     at
 }

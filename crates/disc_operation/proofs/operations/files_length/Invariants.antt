@@ -7,6 +7,3 @@ use Rattle.disc_operation.proofs.operations.files_length.Given as goal
 
 abbrev pub invariant-loop-i : goal.invariant-loop-i
 invariant-loop-i l = Counted file_line (entry_at l.disc) (file_count l.disc) l.len l.i
-
-abbrev pub decreases-loop-i : goal.decreases-loop-i
-decreases-loop-i l = l.count - l.i

@@ -7,6 +7,3 @@ use Rattle.disc_operation.proofs.operations.put_files.Given as goal
 
 abbrev pub invariant-loop-i : goal.invariant-loop-i
 invariant-loop-i l = Written file_line (entry_at l.disc) (file_count l.disc) l.initial.out l.out l.at l.i
-
-abbrev pub decreases-loop-i : goal.decreases-loop-i
-decreases-loop-i l = l.count - l.i

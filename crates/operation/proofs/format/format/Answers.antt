@@ -1,6 +1,7 @@
 -- Both lengths are tested; then the disc is zeros, and the area is cleared.
 use Rattle.std.specs.Prelude.{Ok}
 use Prim.Native.Nat.{ℕ}
+use borrow.Author.Rules.{rules}
 use mathlib.Core.Path.{◌≡◌, sym, ap₂, ◌∙◌}
 use mathlib.Core.Bool.{true}
 use mathlib.Core.List.{List}
@@ -26,4 +27,4 @@ unfolding format_answer
 returns c out =
     let disc-long : is_disc_length (length c.args.disc.now) ≡ true = sym c.is_disc_length.ensures ∙ c.if-not-is_disc_length.false in
     rw (disc-long, eq-eqb _ _ c.if-area-ne-AREA_LENGTH.false)
-    (ap₂ (λ (d a : List ℕ). answered (Ok 0) d a out) c.fill_zeros.ensures c.clear_area.ensures)
+    (ap₂ (λ (d a : List ℕ). answered (Ok 0) d a out) (c.fill.ensures.after (λ y e. search rules)) c.clear_area.ensures)

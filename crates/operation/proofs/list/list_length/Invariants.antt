@@ -8,6 +8,3 @@ use Rattle.operation.proofs.list.list_length.Given as goal
 
 abbrev pub invariant-loop-slot : goal.invariant-loop-slot
 invariant-loop-slot l = Counted line_of (process_in l.area) slot_count l.len l.slot
-
-abbrev pub decreases-loop-slot : goal.decreases-loop-slot
-decreases-loop-slot l = slot_count - l.slot

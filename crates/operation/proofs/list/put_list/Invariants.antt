@@ -8,6 +8,3 @@ use Rattle.operation.proofs.list.put_list.Given as goal
 
 abbrev pub invariant-loop-slot : goal.invariant-loop-slot
 invariant-loop-slot l = Written line_of (process_in l.area) slot_count l.initial.out l.out l.at l.slot
-
-abbrev pub decreases-loop-slot : goal.decreases-loop-slot
-decreases-loop-slot l = slot_count - l.slot
