@@ -114,6 +114,5 @@ pub fn operate(frame: &Frame<'_>, operator: Operator) -> Result<Step, Fault>
         Operator::OfOne(o) => operate_one(frame, o),
         Operator::OfTwo(o) => operate_two(frame, o),
         Operator::Scale(o) => scale(frame, o),
-        Operator::NotAnOperator => Err(Fault::NoInstruction),
     }
 }

@@ -3,7 +3,6 @@ ghost use Rattle.std.specs.Prelude.{◌≡◌};
 ghost use Rattle.machine.specs.Instruction.{find, instruction_of, others};
 
 use machine::instruction::{Instruction, Reach};
-use operator::operators::Operator;
 
 #[tactic(auto, unfolding(machine::specs::Instruction::find))]
 fn other(n: u8) -> Instruction
@@ -47,9 +46,7 @@ pub fn instruction(n: u8) -> Instruction
     ensures { result ≡ instruction_of n }
 {
     match operator::instruction::operator(n) {
-        Operator::OfOne(o) => Instruction::Operate(Operator::OfOne(o)),
-        Operator::OfTwo(o) => Instruction::Operate(Operator::OfTwo(o)),
-        Operator::Scale(o) => Instruction::Operate(Operator::Scale(o)),
-        Operator::NotAnOperator => other(n),
+        Some(o) => Instruction::Operate(o),
+        None => other(n),
     }
 }

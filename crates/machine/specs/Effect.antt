@@ -12,7 +12,7 @@ use Rattle.operator.specs.Outcome.{Outcome}
 use Rattle.std.specs.Prelude.{Ok, Err}
 use Rattle.operator.specs.declared.ArithmeticError.TheVariants.{DivisionByZero, OutOfRange}
 use Rattle.operator.specs.declared.operators.Operator.{Operator}
-use Rattle.operator.specs.declared.operators.Operator.TheVariants.{OfOne, OfTwo, Scale, NotAnOperator}
+use Rattle.operator.specs.declared.operators.Operator.TheVariants.{OfOne, OfTwo, Scale}
 use Rattle.operator.specs.declared.operators.Scaling.TheVariants.{Constrain, Map, Power}
 use Rattle.scaling.specs.Constrain.{constrained}
 use Rattle.scaling.specs.Map.{mapped}
@@ -104,7 +104,6 @@ operates (Scale Power) stack next =
     with_operand (Scale Power) 1 stack λ y rest.
     with_operand (Scale Power) 0 rest λ x rest.
     with_outcome (power x y) λ z. next (push rest (type_of z) (value_bytes z))
-operates NotAnOperator stack next = faults 1
 
 -- ---- printing
 -- Document 01: "PRINT: CHAR one byte; INT decimal; STRING without its zero; FLOAT to the nearest hundredth"

@@ -1,8 +1,8 @@
 -- The instructions and their numbers.
 use Rattle.std.specs.Prelude.{ℕ, true, false, cond, List, [], ◌∷◌, eqb}
+use Rattle.std.specs.Prelude.{None, Option, Some}
 use Rattle.operator.specs.Instruction.{operator_of}
 use Rattle.operator.specs.declared.operators.Operator.{Operator}
-use Rattle.operator.specs.declared.operators.Operator.TheVariants.{OfOne, OfTwo, Scale, NotAnOperator}
 use Rattle.machine.specs.declared.instruction.Instruction.{Instruction}
 use Rattle.machine.specs.declared.instruction.Instruction.TheVariants.{Literal, StringLiteral, SetVariable}
 use Rattle.machine.specs.declared.instruction.Instruction.TheVariants.{GetVariable, Operate, DelayUntil, Millis}
@@ -25,11 +25,9 @@ unfoldable pub find : ℕ → List (ℕ × Instruction) → Instruction
 find n [] = Unknown
 find n (row ∷ table) = cond (eqb n row.0) row.1 (find n table)
 
-abbrev pub operator_or : Operator → Instruction → Instruction
-operator_or (OfOne o) i = Operate (OfOne o)
-operator_or (OfTwo o) i = Operate (OfTwo o)
-operator_or (Scale o) i = Operate (Scale o)
-operator_or NotAnOperator i = i
+abbrev pub operator_or : Option Operator → Instruction → Instruction
+operator_or (Some o) i = Operate o
+operator_or None i = i
 
 -- Document 01: "38 to 40, 43 and 46 to 50 are not built." Document 02, Q-3, builds 38 to 40.
 unfoldable pub instruction_of : ℕ → Instruction

@@ -31,10 +31,10 @@ fn write_scaling(
 
 fn write_operator(rt: &(impl Print + AllocGlobal), instruction: u8, grid: &Grid) -> io::Result<()> {
     match operator(instruction) {
-        Operator::OfOne(o) => unary::write_lines(rt, instruction, o, grid),
-        Operator::OfTwo(o) => binary::write_lines(rt, instruction, o, grid),
-        Operator::Scale(o) => write_scaling(rt, instruction, o, grid),
-        Operator::NotAnOperator => Ok(()),
+        Some(Operator::OfOne(o)) => unary::write_lines(rt, instruction, o, grid),
+        Some(Operator::OfTwo(o)) => binary::write_lines(rt, instruction, o, grid),
+        Some(Operator::Scale(o)) => write_scaling(rt, instruction, o, grid),
+        None => Ok(()),
     }
 }
 

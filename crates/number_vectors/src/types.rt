@@ -3,8 +3,11 @@ use operator::instruction::{operator, takes, types_of};
 use std::io;
 
 fn write_types(rt: &impl Print, instruction: u8, place: u8) -> io::Result<()> {
-    let types = types_of(operator(instruction), place);
-    for kind in (0..6).filter(|kind| takes(types, *kind)) {
+    let takes_at = |kind: u8| match operator(instruction) {
+        Some(o) => takes(types_of(o, place), kind),
+        None => false,
+    };
+    for kind in (0..6).filter(|kind| takes_at(*kind)) {
         print!(rt; " {kind}")?;
     }
     println!(rt;)

@@ -3,6 +3,7 @@ use mathlib.Core.Path.{◌≡◌, refl, sym, ◌∙◌, ap}
 use mathlib.Core.Bool.{Bool, true, cond, not}
 use mathlib.Core.List.{List, [], ◌∷◌}
 use Prim.Native.Nat.{ℕ}
+use Rattle.std.specs.Prelude.{Option, Some}
 use borrow.Author.Tests.{ne_eqb}
 use lib.Ieee.{Float as Binary32}
 use Rattle.buffer.specs.Lists.{all}
@@ -26,13 +27,13 @@ pub first : {A : Type 0} (n : ℕ) (table : List (ℕ × A)) (U : Type 0) → Ab
 first n [] U u = u
 first n (entry ∷ table) U u = (first n table (U × (n ≡ entry.0 → ⊥)) u).0
 
-pub absent : (n : ℕ) (table : List (ℕ × Operator)) (other : Operator) (U : Type 0) → Absent n table U → other ≡ lookup n table other
+pub absent : (n : ℕ) (table : List (ℕ × Operator)) (other : Option Operator) (U : Type 0) → Absent n table U → other ≡ lookup n table other
 unfolding lookup
 absent n [] other U u = refl
 absent n (entry ∷ table) other U u =
     let W = U × (n ≡ entry.0 → ⊥) in
     absent n table other W u
-    ∙ ap (λ (t : Bool). cond t entry.1 (lookup n table other)) (sym (ne_eqb n entry.0 (first n table W u).1))
+    ∙ ap (λ (t : Bool). cond t (Some entry.1) (lookup n table other)) (sym (ne_eqb n entry.0 (first n table W u).1))
 
 -- the operators that take whole numbers alone, with the places at which they do
 abbrev whole_operands : List (Operator × ℕ)

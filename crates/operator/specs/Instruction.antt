@@ -1,9 +1,10 @@
 -- Which instruction is which operator; the sets of types that a pop may take, and which of them an operator takes at
 -- which place.
 use Rattle.std.specs.Prelude.{ℕ, Bool, false, cond, ◌||◌, List, [], ◌∷◌, eqb}
+use Rattle.std.specs.Prelude.{None, Option, Some}
 use Rattle.operator.specs.declared.instruction.Types.{Types}
 use Rattle.operator.specs.declared.instruction.Types.TheVariants.{AnyNumber, CharOrInt, IntOrFloat, CharOrFloat}
-use Rattle.operator.specs.declared.instruction.Types.TheVariants.{AnyString, AnyValue, Nothing}
+use Rattle.operator.specs.declared.instruction.Types.TheVariants.{AnyString, AnyValue}
 use Rattle.operator.specs.declared.operators.Arithmetic.{Arithmetic}
 use Rattle.operator.specs.declared.operators.Arithmetic.TheVariants.{Plus, Minus, Times, DividedBy, Modulus}
 use Rattle.operator.specs.declared.operators.Binary.{Binary}
@@ -17,7 +18,7 @@ use Rattle.operator.specs.declared.operators.Conversion.{Conversion}
 use Rattle.operator.specs.declared.operators.Conversion.TheVariants.{ToChar, ToInt, ToFloat, Round, Floor, Ceil}
 use Rattle.operator.specs.declared.operators.Extremum.TheVariants.{Min, Max}
 use Rattle.operator.specs.declared.operators.Operator.{Operator}
-use Rattle.operator.specs.declared.operators.Operator.TheVariants.{OfOne, OfTwo, Scale, NotAnOperator}
+use Rattle.operator.specs.declared.operators.Operator.TheVariants.{OfOne, OfTwo, Scale}
 use Rattle.operator.specs.declared.operators.Scaling.{Scaling}
 use Rattle.operator.specs.declared.operators.Scaling.TheVariants.{Constrain, Map, Power}
 use Rattle.operator.specs.declared.operators.Unary.{Unary}
@@ -48,13 +49,13 @@ unary_table =
 abbrev pub scaling_table : List (ℕ × Operator)
 scaling_table = (38, Scale Constrain) ∷ (39, Scale Map) ∷ (40, Scale Power) ∷ []
 
-unfoldable pub lookup : ℕ → List (ℕ × Operator) → Operator → Operator
+unfoldable pub lookup : ℕ → List (ℕ × Operator) → Option Operator → Option Operator
 lookup n [] other = other
-lookup n (entry ∷ table) other = cond (eqb n entry.0) entry.1 (lookup n table other)
+lookup n (entry ∷ table) other = cond (eqb n entry.0) (Some entry.1) (lookup n table other)
 
-unfoldable pub operator_of : ℕ → Operator
+unfoldable pub operator_of : ℕ → Option Operator
 unfolding lookup
-operator_of n = lookup n binary_table (lookup n unary_table (lookup n scaling_table NotAnOperator))
+operator_of n = lookup n binary_table (lookup n unary_table (lookup n scaling_table None))
 
 -- Document 01: "TOCHAR, TOINT, TOFLOAT take only the types of the guide's table 2."
 abbrev pub conversion_types : Conversion → Types
@@ -102,7 +103,6 @@ abbrev pub types_of : Operator → ℕ → Types
 types_of (OfOne o) place = unary_types o
 types_of (OfTwo o) place = binary_types o
 types_of (Scale o) place = scaling_types o place
-types_of NotAnOperator place = Nothing
 
 -- the type bytes: 1 CHAR, 2 INT, 3 STRING, 4 FLOAT
 unfoldable pub includes : Types → ℕ → Bool
@@ -112,4 +112,3 @@ includes IntOrFloat kind = eqb kind 2 || eqb kind 4
 includes CharOrFloat kind = eqb kind 1 || eqb kind 4
 includes AnyString kind = eqb kind 3
 includes AnyValue kind = eqb kind 3 || (eqb kind 1 || eqb kind 2 || eqb kind 4)
-includes Nothing kind = false

@@ -1,5 +1,5 @@
 // Which instruction is which operator, and which types an operator takes at which place.
-ghost use Rattle.std.specs.Prelude.{◌≡◌};
+ghost use Rattle.std.specs.Prelude.{◌≡◌, None};
 ghost use Rattle.operator.specs.Instruction.{lookup, scaling_table, unary_table, operator_of};
 ghost use Rattle.operator.specs.Instruction.{conversion_types, unary_types, arithmetic_types, binary_types};
 ghost use Rattle.operator.specs.Instruction.{scaling_types, types_of, includes};
@@ -17,69 +17,68 @@ pub enum Types {
     CharOrFloat,
     AnyString,
     AnyValue,
-    Nothing,
 }
 
 #[tactic(auto, unfolding(crate::specs::Instruction::lookup))]
-fn scaling_operator(instruction: u8) -> Operator
-    ensures { result ≡ lookup instruction scaling_table Operator.NotAnOperator }
+fn scaling_operator(instruction: u8) -> Option<Operator>
+    ensures { result ≡ lookup instruction scaling_table None }
 {
     match instruction {
-        38 => Operator::Scale(Scaling::Constrain),
-        39 => Operator::Scale(Scaling::Map),
-        40 => Operator::Scale(Scaling::Power),
-        _ => Operator::NotAnOperator,
+        38 => Some(Operator::Scale(Scaling::Constrain)),
+        39 => Some(Operator::Scale(Scaling::Map)),
+        40 => Some(Operator::Scale(Scaling::Power)),
+        _ => None,
     }
 }
 
 #[tactic(auto, unfolding(crate::specs::Instruction::lookup))]
-fn unary_operator(instruction: u8) -> Operator
+fn unary_operator(instruction: u8) -> Option<Operator>
     ensures { result ≡ lookup instruction unary_table
-        (lookup instruction scaling_table Operator.NotAnOperator) }
+        (lookup instruction scaling_table None) }
 {
     match instruction {
-        7 => Operator::OfOne(Unary::Increment),
-        8 => Operator::OfOne(Unary::Decrement),
-        14 => Operator::OfOne(Unary::UnaryMinus),
-        24 => Operator::OfOne(Unary::LogicalNot),
-        28 => Operator::OfOne(Unary::BitwiseNot),
-        29 => Operator::OfOne(Unary::Convert(Conversion::ToChar)),
-        30 => Operator::OfOne(Unary::Convert(Conversion::ToInt)),
-        31 => Operator::OfOne(Unary::Convert(Conversion::ToFloat)),
-        32 => Operator::OfOne(Unary::Convert(Conversion::Round)),
-        33 => Operator::OfOne(Unary::Convert(Conversion::Floor)),
-        34 => Operator::OfOne(Unary::Convert(Conversion::Ceil)),
-        37 => Operator::OfOne(Unary::Abs),
-        41 => Operator::OfOne(Unary::Sq),
-        42 => Operator::OfOne(Unary::Sqrt),
+        7 => Some(Operator::OfOne(Unary::Increment)),
+        8 => Some(Operator::OfOne(Unary::Decrement)),
+        14 => Some(Operator::OfOne(Unary::UnaryMinus)),
+        24 => Some(Operator::OfOne(Unary::LogicalNot)),
+        28 => Some(Operator::OfOne(Unary::BitwiseNot)),
+        29 => Some(Operator::OfOne(Unary::Convert(Conversion::ToChar))),
+        30 => Some(Operator::OfOne(Unary::Convert(Conversion::ToInt))),
+        31 => Some(Operator::OfOne(Unary::Convert(Conversion::ToFloat))),
+        32 => Some(Operator::OfOne(Unary::Convert(Conversion::Round))),
+        33 => Some(Operator::OfOne(Unary::Convert(Conversion::Floor))),
+        34 => Some(Operator::OfOne(Unary::Convert(Conversion::Ceil))),
+        37 => Some(Operator::OfOne(Unary::Abs)),
+        41 => Some(Operator::OfOne(Unary::Sq)),
+        42 => Some(Operator::OfOne(Unary::Sqrt)),
         _ => scaling_operator(instruction),
     }
 }
 
 #[tactic(auto, unfolding(crate::specs::Instruction::operator_of, crate::specs::Instruction::lookup))]
-pub fn operator(instruction: u8) -> Operator
+pub fn operator(instruction: u8) -> Option<Operator>
     ensures { result ≡ operator_of instruction }
 {
     match instruction {
-        9 => Operator::OfTwo(Binary::Arithmetic(Arithmetic::Plus)),
-        10 => Operator::OfTwo(Binary::Arithmetic(Arithmetic::Minus)),
-        11 => Operator::OfTwo(Binary::Arithmetic(Arithmetic::Times)),
-        12 => Operator::OfTwo(Binary::Arithmetic(Arithmetic::DividedBy)),
-        13 => Operator::OfTwo(Binary::Arithmetic(Arithmetic::Modulus)),
-        15 => Operator::OfTwo(Binary::Comparison(Comparison::Equals)),
-        16 => Operator::OfTwo(Binary::Comparison(Comparison::NotEquals)),
-        17 => Operator::OfTwo(Binary::Comparison(Comparison::LessThan)),
-        18 => Operator::OfTwo(Binary::Comparison(Comparison::LessOrEqual)),
-        19 => Operator::OfTwo(Binary::Comparison(Comparison::GreaterThan)),
-        20 => Operator::OfTwo(Binary::Comparison(Comparison::GreaterOrEqual)),
-        21 => Operator::OfTwo(Binary::Logical(Connective::And)),
-        22 => Operator::OfTwo(Binary::Logical(Connective::Or)),
-        23 => Operator::OfTwo(Binary::Logical(Connective::Xor)),
-        25 => Operator::OfTwo(Binary::Bitwise(Connective::And)),
-        26 => Operator::OfTwo(Binary::Bitwise(Connective::Or)),
-        27 => Operator::OfTwo(Binary::Bitwise(Connective::Xor)),
-        35 => Operator::OfTwo(Binary::Extremum(Extremum::Min)),
-        36 => Operator::OfTwo(Binary::Extremum(Extremum::Max)),
+        9 => Some(Operator::OfTwo(Binary::Arithmetic(Arithmetic::Plus))),
+        10 => Some(Operator::OfTwo(Binary::Arithmetic(Arithmetic::Minus))),
+        11 => Some(Operator::OfTwo(Binary::Arithmetic(Arithmetic::Times))),
+        12 => Some(Operator::OfTwo(Binary::Arithmetic(Arithmetic::DividedBy))),
+        13 => Some(Operator::OfTwo(Binary::Arithmetic(Arithmetic::Modulus))),
+        15 => Some(Operator::OfTwo(Binary::Comparison(Comparison::Equals))),
+        16 => Some(Operator::OfTwo(Binary::Comparison(Comparison::NotEquals))),
+        17 => Some(Operator::OfTwo(Binary::Comparison(Comparison::LessThan))),
+        18 => Some(Operator::OfTwo(Binary::Comparison(Comparison::LessOrEqual))),
+        19 => Some(Operator::OfTwo(Binary::Comparison(Comparison::GreaterThan))),
+        20 => Some(Operator::OfTwo(Binary::Comparison(Comparison::GreaterOrEqual))),
+        21 => Some(Operator::OfTwo(Binary::Logical(Connective::And))),
+        22 => Some(Operator::OfTwo(Binary::Logical(Connective::Or))),
+        23 => Some(Operator::OfTwo(Binary::Logical(Connective::Xor))),
+        25 => Some(Operator::OfTwo(Binary::Bitwise(Connective::And))),
+        26 => Some(Operator::OfTwo(Binary::Bitwise(Connective::Or))),
+        27 => Some(Operator::OfTwo(Binary::Bitwise(Connective::Xor))),
+        35 => Some(Operator::OfTwo(Binary::Extremum(Extremum::Min))),
+        36 => Some(Operator::OfTwo(Binary::Extremum(Extremum::Max))),
         _ => unary_operator(instruction),
     }
 }
@@ -162,7 +161,6 @@ pub fn types_of(operator: Operator, place: u8) -> Types
         Operator::OfOne(o) => unary_types(o),
         Operator::OfTwo(o) => binary_types(o),
         Operator::Scale(o) => scaling_types(o, place),
-        Operator::NotAnOperator => Types::Nothing,
     }
 }
 
@@ -177,6 +175,5 @@ pub fn takes(types: Types, kind: u8) -> bool
         Types::CharOrFloat => (kind == 1) | (kind == 4),
         Types::AnyString => kind == 3,
         Types::AnyValue => (kind == 3) | ((kind == 1) | (kind == 2) | (kind == 4)),
-        Types::Nothing => false,
     }
 }

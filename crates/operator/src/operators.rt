@@ -76,5 +76,4 @@ pub enum Operator {
     OfOne(Unary),
     OfTwo(Binary),
     Scale(Scaling),
-    NotAnOperator,
 }

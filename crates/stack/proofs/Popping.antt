@@ -16,7 +16,6 @@ use Rattle.buffer.proofs.Parts.{part_length}
 use Rattle.operator.specs.Instruction.{includes}
 use Rattle.operator.specs.declared.instruction.Types.{Types}
 use Rattle.operator.specs.declared.instruction.Types.TheVariants.{AnyNumber, CharOrInt, IntOrFloat, CharOrFloat, AnyString, AnyValue}
-use Rattle.operator.specs.declared.instruction.Types.TheVariants.{Nothing}
 use Rattle.disc.specs.Name.{trimmed}
 use Rattle.machine.specs.Stack.{Item, popped, pop, string_kind}
 use Rattle.machine.proofs.Instructions.Popping.{Pops, TakenOff, number-kinds, pop-pops}
@@ -78,7 +77,6 @@ numeric-number IntOrFloat kind n h = either_number kind 2 4 refl refl h
 numeric-number CharOrFloat kind n h = either_number kind 1 4 refl refl h
 numeric-number AnyString kind n h = absurd (true-not-false n refl)
 numeric-number AnyValue kind n h = absurd (true-not-false n refl)
-numeric-number Nothing kind n h = absurd (true-not-false h refl)
 
 pub number_small : (kind : ℕ) → includes AnyNumber kind ≡ true → kind ≤ 4
 number_small kind h = ⊎_elim (λ e. omega arith) (λ o. ⊎_elim (λ e. omega arith) (λ e. omega arith) o) (number-kinds kind h)

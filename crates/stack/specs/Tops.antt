@@ -9,7 +9,7 @@ use Rattle.number.specs.declared.Number.{Number}
 use Rattle.number.specs.declared.Number.TheVariants.{Char}
 use Rattle.operator.specs.declared.instruction.Types.{Types}
 use Rattle.operator.specs.declared.instruction.Types.TheVariants.{AnyNumber, CharOrInt, IntOrFloat, CharOrFloat}
-use Rattle.operator.specs.declared.instruction.Types.TheVariants.{AnyString, AnyValue, Nothing}
+use Rattle.operator.specs.declared.instruction.Types.TheVariants.{AnyString, AnyValue}
 use Rattle.stack.specs.declared.TopNumber.{TopNumber}
 use Rattle.stack.specs.declared.TopValue.{TopValue}
 
@@ -30,7 +30,6 @@ is_numeric IntOrFloat = true
 is_numeric CharOrFloat = true
 is_numeric AnyString = false
 is_numeric AnyValue = false
-is_numeric Nothing = true
 
 -- a popped value of which the number is all that is read
 pub data Numbered : Type 0 where

@@ -19,7 +19,7 @@ use Rattle.operator.specs.Outcome.{Outcome}
 use Rattle.std.specs.Prelude.{Ok, Err}
 use Rattle.operator.specs.declared.ArithmeticError.TheVariants.{DivisionByZero, OutOfRange}
 use Rattle.operator.specs.declared.operators.Operator.{Operator}
-use Rattle.operator.specs.declared.operators.Operator.TheVariants.{OfOne, OfTwo, Scale, NotAnOperator}
+use Rattle.operator.specs.declared.operators.Operator.TheVariants.{OfOne, OfTwo, Scale}
 use Rattle.operator.specs.declared.operators.Scaling.TheVariants.{Constrain, Map, Power}
 use Rattle.scaling.specs.Constrain.{constrained}
 use Rattle.scaling.specs.Map.{mapped}
@@ -147,4 +147,3 @@ operates-gives (Scale Power) stack next h g =
     number-gives (types_of (Scale Power) 1) stack h _ λ y rest fy k.
     number-gives (types_of (Scale Power) 0) rest k _ λ x rest fx k.
     outcome-gives (power x y) rest next (power-answers x y) k g
-operates-gives NotAnOperator stack next h g = tt

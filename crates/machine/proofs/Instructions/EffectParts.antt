@@ -18,7 +18,7 @@ use Rattle.operator.specs.Outcome.{Outcome}
 use Rattle.std.specs.Prelude.{Ok, Err}
 use Rattle.operator.specs.declared.ArithmeticError.TheVariants.{DivisionByZero, OutOfRange}
 use Rattle.operator.specs.declared.operators.Operator.{Operator}
-use Rattle.operator.specs.declared.operators.Operator.TheVariants.{OfOne, OfTwo, Scale, NotAnOperator}
+use Rattle.operator.specs.declared.operators.Operator.TheVariants.{OfOne, OfTwo, Scale}
 use Rattle.operator.specs.declared.operators.Scaling.TheVariants.{Constrain, Map, Power}
 use Rattle.scaling.specs.Map.{mapped}
 use Rattle.scaling.specs.Power.{power}
@@ -113,7 +113,6 @@ module _ (prog : List ℕ) (l : Local) where
       number-does (types_of (Scale Power) 1) stack _ λ y rest t.
       number-does (types_of (Scale Power) 0) rest _ λ x rest u.
       outcome-does (power x y) _ λ z. h _
-  operates-does NotAnOperator stack next h = (omega arith, omega arith)
 
   -- the tests at the end of an instruction: stack and PC fit whatever it did
   pub settle-does : (target : Option ℕ) (stack : List ℕ) (loopstart : ℕ) (out : List ℕ)

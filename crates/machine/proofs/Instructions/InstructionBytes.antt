@@ -1,5 +1,6 @@
 -- Which bytes of a program ask something of the world beyond the process.
 use Prim.Native.Nat.{ℕ}
+use Rattle.std.specs.Prelude.{None, Option, Some}
 use mathlib.Core.Path.{◌≡◌, refl, subst⁻¹}
 use mathlib.Core.Bool.{Bool, true, false, ◌&&◌, ◌||◌, cond}
 use mathlib.Core.List.{List, [], ◌∷◌}
@@ -10,7 +11,6 @@ use Rattle.buffer.specs.Lists.{all}
 use Rattle.buffer.proofs.Bools.{and_left, and_right}
 use Rattle.operator.specs.Instruction.{operator_of}
 use Rattle.operator.specs.declared.operators.Operator.{Operator}
-use Rattle.operator.specs.declared.operators.Operator.TheVariants.{OfOne, OfTwo, Scale, NotAnOperator}
 use Rattle.machine.specs.Instruction.{find, instruction_of, operator_or, others}
 use Rattle.machine.specs.Suppositions.{is_barred}
 use Rattle.machine.specs.declared.instruction.Instruction.{Instruction}
@@ -77,11 +77,9 @@ pub instruction-all : (test : ℕ → Instruction → Bool) (b : ℕ) → ((o : 
 unfolding instruction_of
 instruction-all test b p u h = go (operator_of b)
   where
-    go : (o : Operator) → test b (operator_or o (find b others)) ≡ true
-    go (OfOne o) = p (OfOne o)
-    go (OfTwo o) = p (OfTwo o)
-    go (Scale o) = p (Scale o)
-    go NotAnOperator = find-all test b others u h
+    go : (found : Option Operator) → test b (operator_or found (find b others)) ≡ true
+    go (Some o) = p o
+    go None = find-all test b others u h
 
 pub instruction-asks-by : (b : ℕ) → asks_by b (instruction_of b) ≡ true
 unfolding all
