@@ -1,25 +1,29 @@
--- Laws of texts, which end at a zero, and of names: a good name is what its padded form trims to, and a good field is the
--- padded form of its trimmed name.
+-- Laws of texts, which end at a zero, and of names: a good name is what its padded form trims to, and a good field is
+-- the padded form of its trimmed name.
 use Prim.Native.Nat.{ℕ, zero, suc, ◌+◌, ◌-◌, ◌≤◌, ◌<◌}
 use mathlib.Core.Path.{◌≡◌, refl, sym, ap, ◌∙◌, subst}
 use mathlib.Core.Bool.{Bool, true, false, ◌&&◌}
-use mathlib.Core.List.{List, [], ◌∷◌, ◌++◌}
-use native.Mathlib.Nat.{not-suc-le-zero, le_of_suc-le-suc, min-le_left}
+use mathlib.Core.List.{List, [], ◌∷◌, ◌++◌, map}
+use native.Mathlib.Nat.{not-suc-le-zero, le_of_suc-le-suc, le_refl, min-le_left}
 use native.Mathlib.Numerals.{add-one}
 use native.Mathlib.Omega.{arith}
 use lib.Dec.{eqb, leb}
 use lib.ListN.{length, get_or, replicate, take, length-append, length-replicate, length-take}
-use lib.Seq.{length-take-le, take-suc}
+use lib.Seq.{length-take-le, take-length, take-suc}
 use borrow.Author.Tests.{eq-eqb, eqb-true, leb-true, le-leb, ne_eqb}
+use Rattle.std.specs.List.{list_all, range_with_len}
 use Rattle.buffer.specs.Lists.{all, same}
 use Rattle.buffer.proofs.Bools.{and_left, and_right, and_both}
+use Rattle.buffer.proofs.FixedWidth.{tab-of}
 use Rattle.buffer.proofs.Lists.{same-eq, same_refl}
+use Rattle.buffer.proofs.Tables.{tab-range}
 use Rattle.disc.specs.Layout.{max_name, name_size}
 use Rattle.disc.specs.Name.{good_field, good_name, is_name_byte, padded, trimmed, unless_zero}
 
 -- ---- texts
 -- no byte before n is zero, and the one at n is, or there is none
-pub trimmed-at : (l : List ℕ) (n : ℕ) → n ≤ length l → get_or l n 0 ≡ 0 → ((k : ℕ) → k < n → get_or l k 0 ≡ 0 → ⊥) → trimmed l ≡ take n l
+pub trimmed-at : (l : List ℕ) (n : ℕ) → n ≤ length l → get_or l n 0 ≡ 0 → ((k : ℕ) → k < n → get_or l k 0 ≡ 0 → ⊥)
+    → trimmed l ≡ take n l
 unfolding trimmed
 trimmed-at [] zero h e f = refl
 trimmed-at [] (suc n) h e f = absurd (not-suc-le-zero h)
@@ -44,7 +48,13 @@ trimmed-short = by-text (λ l t. length t ≤ length l) (omega arith) (λ l. ome
 
 -- the text of bytes that begin with a name's field
 pub field-short : (l : List ℕ) → length (trimmed (take name_size l)) ≤ name_size
-field-short l = omega (arith, trimmed-short (take name_size l), length-take name_size l, min-le_left name_size (length l))
+field-short l = omega (
+  arith,
+  trimmed-short (take name_size l),
+  length-take name_size l,
+  min-le_left name_size (length
+      l),
+)
 
 pub trimmed-first : (l : List ℕ) → take (length (trimmed l)) l ≡ trimmed l
 trimmed-first = by-text (λ l t. take (length t) l ≡ t) refl (λ l. refl) (λ b l h. ap (λ (m : List ℕ). b ∷ m) h)
@@ -58,7 +68,8 @@ pub text-ends : (l : List ℕ) → get_or l (length (trimmed l)) 0 ≡ 0
 text-ends = by-text (λ l t. get_or l (length t) 0 ≡ 0) refl (λ l. refl) (λ b l h. h)
 
 -- the text with the zero behind it
-pub text-with-zero : (l : List ℕ) → length (trimmed l) < length l → take (length (trimmed l) + 1) l ≡ trimmed l ++ (0 ∷ [])
+pub text-with-zero : (l : List ℕ) → length (trimmed l) < length l → take (length (trimmed l) + 1) l
+    ≡ trimmed l ++ (0 ∷ [])
 text-with-zero l h = rw (add-one, take-suc l (length (trimmed l)) 0 h, trimmed-first l, text-ends l)
 
 -- ---- good names
@@ -95,7 +106,8 @@ trimmed-filled : (name : List ℕ) (n : ℕ) → all is_name_byte name ≡ true 
 unfolding trimmed all
 trimmed-filled [] n e = trimmed-zeros n
 trimmed-filled (b ∷ name) n e =
-    let low : 33 ≤ b = leb-true _ _ (and_left (leb 33 b) (leb b 126) (and_left (is_name_byte b) (all is_name_byte name) e)) in
+    let low : 33 ≤ b = leb-true _ _ (and_left (leb 33 b) (leb b 126) (and_left (is_name_byte b) (all is_name_byte name)
+    e)) in
     let z : eqb b 0 ≡ false = ne_eqb b 0 (omega arith) in
     rw z (ap (λ (l : List ℕ). b ∷ l) (trimmed-filled name n (and_right (is_name_byte b) (all is_name_byte name) e)))
 
@@ -123,3 +135,15 @@ field-padded field e = same-eq field (padded (trimmed field))
 pub field-length : (field : List ℕ) → good_field field ≡ true → length field ≡ name_size
 field-length field e = ap length (field-padded field e)
     ∙ padded-length (trimmed field) (omega (arith, (good-name-is (trimmed field) (field-name-good field e)).short))
+
+-- ---- a test of each byte by its place, as `all` over a range answers it
+all-listed : {A : Type 0} (p : A → Bool) (f : ℕ → A) (l : List ℕ) → list_all (λ k. p (f k)) l ≡ all p (map f l)
+unfolding all
+all-listed p f [] = refl
+all-listed p f (x ∷ l) = ap (λ b. p (f x) && b) (all-listed p f l)
+
+pub all-places : (p : ℕ → Bool) (l : List ℕ) → list_all (λ k. p (get_or l k 0)) (range_with_len 0 (length l)) ≡ all p l
+all-places p l =
+    all-listed p (λ k. get_or l k 0) (range_with_len 0 (length l))
+    ∙ ap (all p) (tab-range (λ k. get_or l k 0) (length l) ∙ tab-of l 0 (λ k. get_or l k 0) (length l) (le_refl (length l)) (λ i h.
+    refl) ∙ take-length l)

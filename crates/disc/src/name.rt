@@ -1,4 +1,5 @@
-// File names: as they are given, and as the directory holds them.
+// File names: as they are given, and as the directory holds them. Bytes are gone through by their places: the library's
+// iterators of slices hand out references in an Option, which lie otherwise where pointers are shorter (tools/ports/lint.py).
 ghost use Rattle.std.specs.Prelude.{◌≡◌, ◌+◌, ◌≤◌, length, take};
 ghost use Rattle.buffer.specs.Laid.{Laid};
 ghost use Rattle.disc.specs.Layout.{name_size};
@@ -15,7 +16,7 @@ fn is_name_byte(b: u8) -> bool
 pub fn is_good_name(name: &[u8]) -> bool
     ensures { result ≡ good_name name.now }
 {
-    (1..=MAX_NAME).contains(&name.len()) && name.iter().all(|b| is_name_byte(*b))
+    (1..=MAX_NAME).contains(&name.len()) && (0..name.len()).all(|i| is_name_byte(name[i]))
 }
 
 // Document 01: "zero-filled".
@@ -33,7 +34,9 @@ pub fn text_length(bytes: &[u8]) -> usize
     ensures { (result ≤ length bytes.now)
         × (take result bytes.now ≡ trimmed bytes.now) }
 {
-    bytes.iter().position(|b| *b == 0).unwrap_or(bytes.len())
+    (0..bytes.len())
+        .find(|i| bytes[*i] == 0)
+        .unwrap_or(bytes.len())
 }
 
 // Lays the bytes of field before its first zero over out from place at, and answers the place behind them.
