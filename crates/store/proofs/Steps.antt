@@ -1,5 +1,4 @@
 -- What the steps of the code come to: entering, erasing, writing.
-use Rattle.std.specs.List.{copy_within}
 use Prim.Native.Nat.{ℕ, ◌+◌, ◌*◌, ◌-◌, ◌≤◌, ◌<◌}
 use mathlib.Core.Path.{◌≡◌, refl, sym, ap, ◌∙◌}
 use mathlib.Core.List.{List}
@@ -30,15 +29,6 @@ module _ (d : List ℕ) (h : data_start ≤ length d) where
       let n = part_length d (i * entry_size + entry_size) ((last - i) * entry_size) (omega arith) in
       let laid = overwrite-joined d later (replicate entry_size 0) (i * entry_size) (last * entry_size) (omega arith) (omega arith) in
       overwrite-set z count_at last (omega arith) ∙ rw (f, e, laid, q)
-
--- later entries as copied within the disc
-pub moved-up : (d : List ℕ) (i last : ℕ) → i ≤ last → (last + 1) * entry_size ≤ length d
-    → copy_within d ((i + 1) * entry_size) ((last + 1) * entry_size) (i * entry_size)
-    ≡ overwrite d (i * entry_size) (part d (i * entry_size + entry_size) ((last - i) * entry_size))
-moved-up d i last h l =
-    let from : (i + 1) * entry_size ≡ i * entry_size + entry_size = omega arith in
-    let size : (last + 1) * entry_size - (i * entry_size + entry_size) ≡ (last - i) * entry_size = omega arith in
-    rw (from, size, part_length d (i * entry_size + entry_size) ((last - i) * entry_size) (omega arith))
 
 -- bytes that lie in a row
 pub written-steps : (d : List ℕ) (run : Run) (offset : ℕ) (bytes : List ℕ)

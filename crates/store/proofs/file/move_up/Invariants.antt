@@ -1,5 +1,5 @@
 -- The loop: the first i bytes are moved.
-use Prim.Native.Nat.{◌+◌, ◌≤◌, ◌-◌}
+use Prim.Native.Nat.{◌+◌, ◌≤◌}
 use mathlib.Core.Path.{◌≡◌}
 use lib.ListN.{length}
 use lib.Seq.{paste}
@@ -10,6 +10,3 @@ use Rattle.store.proofs.file.move_up.Given as goal
 abbrev pub invariant-loop-i : goal.invariant-loop-i
 invariant-loop-i l = (l.i ≤ l.n) × (length l.disc ≡ length l.initial.disc)
     × (l.disc ≡ paste l.initial.disc l.at (part l.initial.disc (l.at + entry_size) l.n) l.i)
-
-abbrev pub decreases-loop-i : goal.decreases-loop-i
-decreases-loop-i l = l.n - l.i
