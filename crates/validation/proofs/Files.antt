@@ -1,11 +1,8 @@
 -- Files found by their start and length as one number.
 use Rattle.std.specs.Prelude.{None, Option, Some, is_some}
 use Prim.Native.Nat.{ℕ, ◌+◌, ◌*◌, ◌≤◌, ◌<◌}
-use Rattle.std.specs.List.{position, position_or_len}
-use Rattle.std.proofs.lemmas.List.Quantifiers.{position-Some}
-use Rattle.std.proofs.lemmas.List.Sums.{fails_before_first}
 use mathlib.Core.Path.{◌≡◌, refl, sym, ap, ◌∙◌, subst}
-use mathlib.Core.Bool.{Bool, true, false, cond, ◌&&◌, and-false}
+use mathlib.Core.Bool.{Bool, true, false, ◌&&◌, and-false}
 use mathlib.Core.List.{List}
 use native.Mathlib.Omega.{arith}
 use lib.Dec.{eqb, leb, ltb}
@@ -48,25 +45,6 @@ module _ {A : Type 0} (p : A → Bool) (f : ℕ → A) (n : ℕ) where
 
   pub any-tab-none : ((i : ℕ) → i < n → p (f i) ≡ false) → any p (tab f n) ≡ false
   any-tab-none h = not-true-is-false (any p (tab f n)) (λ t. let s = any-tab-is t in true-not-false s.holds (h s.place s.inside))
-
--- ---- what a search among the runs found
-module _ (runs : List ℕ) (run : ℕ) (long : length runs ≡ max_files) where
-  abbrev same_run : ℕ → Bool
-  same_run n = eqb n run
-
-  none-before : (t : Bool) → ltb (position_or_len same_run runs) (length runs) ≡ t
-      → cond t (Some (position_or_len same_run runs)) None ≡ None → length runs ≤ position_or_len same_run runs
-  none-before true e h = absurd (let z : ◌≡◌ {A = ℕ} 0 1 = cc in omega arith)
-  none-before false e h = ltb-false _ _ e
-
-  pub file-of : {f : Option ℕ} → f ≡ position same_run runs → FileOf runs run f
-  file-of e =
-      record {
-        found = λ i h. let s = position-Some same_run runs i 0 (sym e ∙ h) in (omega (arith, s.0), eqb-true _ _ s.1);
-        missed = λ h i k q.
-            true-not-false (eq-eqb _ _ q)
-            (fails_before_first same_run runs i 0 (omega (arith, none-before _ refl (sym e ∙ h))));
-      }
 
 -- ---- the column of runs
 module _ (disc runs : List ℕ) (listed : Listed disc runs) where

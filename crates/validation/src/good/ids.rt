@@ -39,8 +39,8 @@ fn is_new(ids: &[u16; SLOT_COUNT], i: usize) -> bool
         return true;
     }
     let mut new = true;
-    for earlier in &ids[..i] {
-        new = new & (*earlier != id);
+    for j in 0..i {
+        new = new & (ids[j] != id);
     }
     new
 }

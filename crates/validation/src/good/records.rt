@@ -1,12 +1,12 @@
 // The ten process records, each tested on its bytes against the directory.
-ghost use Rattle.std.specs.Prelude.{◌==◌, ◌≡◌, true, ◌||◌, ◌+◌, ◌<◌, eqb, length, position};
+ghost use Rattle.std.specs.Prelude.{◌≡◌, true, ◌||◌, ◌+◌, ◌<◌, eqb, length};
 ghost use Rattle.buffer.specs.Lists.{all, any};
 ghost use Rattle.disc.specs.Directory.{Readable, files};
 ghost use Rattle.machine.specs.Area.{kernel_of, process_of};
 ghost use Rattle.machine.specs.GoodArea.{good_file, good_live, good_process, good_registers, is_program};
 ghost use Rattle.machine.specs.Limits.{area_length, record_size};
 ghost use Rattle.machine.specs.State.{paused, running};
-ghost use Rattle.validation.specs.Columns.{Listed, file_runs};
+ghost use Rattle.validation.specs.Columns.{FileOf, Listed, file_runs};
 
 use area::records::{
     CODE_AT, FILE_AT, ID_AT, LOOP_AT, NO_LOOP, PAUSED, PC_AT, RUNNING, SHARE_AT, SP_AT, STATE_AT,
@@ -31,9 +31,9 @@ pub fn file_runs(disc: &[u8]) -> [u32; MAX_FILES]
 
 // The place of the first file of that start and length.
 fn file_of(runs: &[u32; MAX_FILES], run: u32) -> Option<usize>
-    ensures { result ≡ position (λ n. n == run) runs.now }
+    ensures { FileOf runs.now run result }
 {
-    runs.iter().position(|other| *other == run)
+    (0..MAX_FILES).find(|i| runs[*i] == run)
 }
 
 // Document 01: "Live means running or paused."

@@ -58,8 +58,8 @@ fn is_owner(ids: &[u16; SLOT_COUNT], id: u16) -> bool
     ensures { result ≡ any (eqb id) (keep is_id ids.now) }
 {
     let mut hit = false;
-    for live in ids {
-        hit = hit | (id == *live);
+    for i in 0..SLOT_COUNT {
+        hit = hit | (id == ids[i]);
     }
     (id != 0) & hit
 }
@@ -69,8 +69,8 @@ fn are_owned(owners: &[u16; PLACES], ids: &[u16; SLOT_COUNT], count: usize) -> b
     ensures { result ≡ all (λ id. any (eqb id) (keep is_id ids.now)) (take count owners.now) }
 {
     let mut good = true;
-    for owner in &owners[..count] {
-        good = good & is_owner(ids, *owner);
+    for i in 0..count {
+        good = good & is_owner(ids, owners[i]);
     }
     good
 }

@@ -5,5 +5,5 @@ use Rattle.buffer.specs.Lists.{all}
 use Rattle.validation.proofs.Slots.{other}
 use Rattle.validation.proofs.good.ids.is_new.Given as goal
 
-abbrev pub invariant-loop-earlier : goal.invariant-loop-earlier
-invariant-loop-earlier l = l.new ≡ all (other l.id) (take l.earlier-index (take l.i l.ids))
+abbrev pub invariant-loop-j : goal.invariant-loop-j
+invariant-loop-j l = l.new ≡ all (other l.id) (take l.j l.ids)

@@ -7,7 +7,7 @@ use lib.Dec.{eqb}
 use Rattle.buffer.specs.Buffer.{word_at}
 use Rattle.machine.specs.GoodArea.{good_file}
 use Rattle.validation.specs.Columns.{FileOf}
-use Rattle.validation.proofs.Files.{file-of, open-listed}
+use Rattle.validation.proofs.Files.{open-listed}
 use Rattle.validation.proofs.good.records.is_good_file.Goals as goal
 
 pub returns-then-len-eq0 : goal.returns-then-len-eq0
@@ -35,5 +35,4 @@ returns c =
     )
     (c.is_some.ensures ∙ open-listed a.disc.now a.runs.now c.requires.0 (λ n. omega (arith, c.type_inv.disc n))
     a.bytes.now (λ n. omega (arith, c.type_inv.bytes n)) 24 c.file_of.result
-    (subst (λ (n : ℕ). FileOf a.runs.now n c.file_of.result) c.four_at.ensures (file-of a.runs.now c.four_at.result (omega arith)
-    c.file_of.ensures)) some)
+    (subst (λ (n : ℕ). FileOf a.runs.now n c.file_of.result) c.four_at.ensures c.file_of.ensures) some)

@@ -14,7 +14,7 @@ use Rattle.disc.specs.declared.Entry.{Entry}
 use Rattle.disc.proofs.InPlace.{name-in-place}
 use Rattle.machine.specs.GoodArea.{is_program}
 use Rattle.validation.specs.Columns.{FileOf}
-use Rattle.validation.proofs.Files.{empty-any, file-of, found-any, missed-any}
+use Rattle.validation.proofs.Files.{empty-any, found-any, missed-any}
 use Rattle.validation.proofs.good.records.is_good_program.Goals as goal
 
 -- the name in the record against an entry's
@@ -24,6 +24,16 @@ named bytes e = same (take name_size bytes) e.name
 sought : (runs bytes : List ℕ) {run : ℕ} {file : Option ℕ} → run ≡ four_at bytes 16 → FileOf runs run file
     → FileOf runs (four_at bytes 16) file
 sought runs bytes {run} {file} e s = subst (λ (n : ℕ). FileOf runs n file) e s
+
+pub overflow_mul-file : goal.overflow_mul-file
+overflow_mul-file c =
+    let f = c.in-Some.ensures.found c.in-Some.file refl in
+    omega (arith, f.0)
+
+pub same_name-requires : goal.same_name-requires
+same_name-requires c =
+    let f = c.in-Some.ensures.found c.in-Some.file refl in
+    (omega arith, omega (arith, f.0, c.requires.0.readable.low))
 
 pub returns-then-run-eq0 : goal.returns-then-run-eq0
 unfolding is_program
@@ -39,7 +49,7 @@ returns-in-None c =
     let a = c.args in
     let known : Bytes a.disc.now = λ n. omega (arith, c.type_inv.disc n) in
     sym (missed-any a.disc.now a.runs.now c.requires.0 known a.bytes.now (λ n. omega (arith, c.type_inv.bytes n)) 16
-    None (sought a.runs.now a.bytes.now c.four_at-run.ensures (file-of a.runs.now c.four_at-run.result (omega arith) c.in-None.ensures))
+    None (sought a.runs.now a.bytes.now c.four_at-run.ensures c.in-None.ensures)
     (named a.bytes.now) refl)
 
 pub returns-in-Some : goal.returns-in-Some
@@ -50,6 +60,5 @@ returns-in-Some c =
     c.same_name.ensures
     ∙ ap (same (take name_size a.bytes.now)) (name-in-place a.disc.now c.in-Some.file)
     ∙ found-any a.disc.now a.runs.now c.requires.0 known a.bytes.now (λ n. omega (arith, c.type_inv.bytes n)) 16
-    (Some c.in-Some.file) (sought a.runs.now a.bytes.now c.four_at-run.ensures (file-of a.runs.now c.four_at-run.result (omega arith)
-    c.in-Some.ensures)) (named a.bytes.now)
+    (Some c.in-Some.file) (sought a.runs.now a.bytes.now c.four_at-run.ensures c.in-Some.ensures) (named a.bytes.now)
     (λ z. c.if-run-eq0.false (c.four_at-run.ensures ∙ z)) c.in-Some.file refl

@@ -12,5 +12,5 @@ use Rattle.validation.proofs.good.variables.are_owned.Given as goal
 abbrev pub owns : List ℕ → ℕ → Bool
 owns ids id = any (eqb id) (keep is_id ids)
 
-abbrev pub invariant-loop-owner : goal.invariant-loop-owner
-invariant-loop-owner l = l.good ≡ all (owns l.ids) (take l.owner-index (take l.count l.owners))
+abbrev pub invariant-loop-i : goal.invariant-loop-i
+invariant-loop-i l = l.good ≡ all (owns l.ids) (take l.i l.owners)

@@ -10,19 +10,19 @@ use Rattle.buffer.proofs.Equivalence.{any-take-more}
 use Rattle.validation.proofs.Slots.{owner-kept}
 use Rattle.validation.proofs.good.variables.is_owner.Goals as goal
 
-pub loop-live-init : goal.loop-live-init
+pub loop-i-init : goal.loop-i-init
 unfolding any
-loop-live-init c = refl
+loop-i-init c = refl
 
-pub loop-live-preserved : goal.loop-live-preserved
-loop-live-preserved c =
+pub loop-i-preserved : goal.loop-i-preserved
+loop-i-preserved c =
     let a = c.args in
-    ap (λ (x : Bool). x || eqb a.id (get_or a.ids.now c.loop-live.live-index 0)) c.loop-live.invariant
-    ∙ sym (any-take-more (eqb a.id) a.ids.now c.loop-live.live-index 0 (omega arith))
+    ap (λ (x : Bool). x || eqb a.id (get_or a.ids.now c.loop-i.i 0)) c.loop-i.invariant
+    ∙ sym (any-take-more (eqb a.id) a.ids.now c.loop-i.i 0 (omega arith))
 
 pub returns : goal.returns
 returns c =
     let a = c.args in
-    ap (λ (x : Bool). not (eqb a.id 0) && x) (c.loop-live.invariant
-    ∙ ap (any (eqb a.id)) (take_all c.loop-live.live-index a.ids.now (omega arith)))
+    ap (λ (x : Bool). not (eqb a.id 0) && x) (c.loop-i.invariant
+    ∙ ap (any (eqb a.id)) (take_all c.loop-i.i a.ids.now (omega arith)))
     ∙ owner-kept a.id a.ids.now

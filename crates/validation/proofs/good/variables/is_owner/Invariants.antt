@@ -5,5 +5,5 @@ use lib.ListN.{take}
 use Rattle.buffer.specs.Lists.{any}
 use Rattle.validation.proofs.good.variables.is_owner.Given as goal
 
-abbrev pub invariant-loop-live : goal.invariant-loop-live
-invariant-loop-live l = l.hit ≡ any (eqb l.id) (take l.live-index l.ids)
+abbrev pub invariant-loop-i : goal.invariant-loop-i
+invariant-loop-i l = l.hit ≡ any (eqb l.id) (take l.i l.ids)
