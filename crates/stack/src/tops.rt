@@ -76,7 +76,8 @@ pub fn top_value(stack: &[u8], types: Types) -> Result<TopValue, Fault>
     number_on_top(stack, kind)
 }
 
-// The number of these bytes, which may be fewer than four: read one by one, since a copy of so few costs more.
+// The number of these bytes, which may be fewer than four: read one by one, since a copy of so few costs more. By a test, and
+// not by `get`, which hands out a reference in an Option (tools/ports/lint.py).
 #[tactic(auto, unfolding(number::specs::Value::number_of))]
 pub fn number_of(kind: u8, bytes: &[u8]) -> Number
     requires { length bytes.now ≤ 4 }
@@ -84,7 +85,7 @@ pub fn number_of(kind: u8, bytes: &[u8]) -> Number
 {
     let byte_at = |i: usize| -> u8
         ensures { result ≡ slice_index bytes.entry.now i }
-    { bytes.get(i).copied().unwrap_or(0) };
+    { if i < bytes.len() { bytes[i] } else { 0 } };
     number::value::decode(kind, byte_at(0), byte_at(1), byte_at(2), byte_at(3))
 }
 
