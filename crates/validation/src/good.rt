@@ -1,5 +1,5 @@
-// Whether a work area is good, tested on its bytes. These tests run at every call: docs/COSTS.md has their speed. Loops
-// over the ten slots and over pairs of variables count in 32 bits, one register on a small machine too.
+// Whether a work area is good, tested on its bytes. These tests run at every call: docs/COSTS.md has their speed. The
+// loop over pairs of variables counts in 32 bits, one register on a small machine too.
 mod columns;
 mod ids;
 mod records;
