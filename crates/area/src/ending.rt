@@ -29,8 +29,9 @@ const NO_PROCESS: Process = Process {
     stack: [0; STACK_SIZE],
 };
 
-// Document 01: "Its record keeps name, ID and fault (0 unless a fault) and is otherwise zero." The fault is the record's
-// byte and not the enum: `ended_process` and `ended` are defined of every number, and docs/PROOFS.md names both.
+// Document 01: "Its record keeps name, ID and fault (0 unless a fault) and is otherwise zero." The fault is the
+// record's byte and not the enum: `ended_process` and `ended` are defined of every number, and docs/PROOFS.md names
+// both.
 pub fn ended_process(p: Process, fault: u8) -> Process
     ensures { result ≡ ended_process p fault }
 {

@@ -47,8 +47,8 @@ pub const NO_LOOP: u16 = 65535;
 // The bytes between name and stack.
 const REGISTER_SIZE: usize = 20;
 
-// The bytes of the record in that slot. A slice, and not an array's reference, which the library hands out in an Option:
-// that lies in memory otherwise where pointers are shorter (tools/ports/lint.py).
+// The bytes of the record in that slot. A slice, and not an array's reference, which the library hands out in an
+// Option: that lies in memory otherwise where pointers are shorter (tools/ports/lint.py).
 pub fn record_at(area: &[u8], slot: usize) -> &[u8]
     requires area_len { length area.now ≡ area_length }
     requires slot_lt_slot_count { slot < slot_count }

@@ -1,5 +1,6 @@
 // File names: as they are given, and as the directory holds them. Bytes are gone through by their places: the library's
-// iterators of slices hand out references in an Option, which lie otherwise where pointers are shorter (tools/ports/lint.py).
+// iterators of slices hand out references in an Option, which lie otherwise where pointers are shorter
+// (tools/ports/lint.py).
 ghost use Rattle.std.specs.Prelude.{◌≡◌, ◌+◌, ◌≤◌, length, take};
 ghost use Rattle.buffer.specs.Laid.{Laid};
 ghost use Rattle.disc.specs.Layout.{name_size};

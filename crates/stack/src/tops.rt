@@ -76,8 +76,8 @@ pub fn top_value(stack: &[u8], types: Types) -> Result<TopValue, Fault>
     number_on_top(stack, kind)
 }
 
-// The number of these bytes, which may be fewer than four: read one by one, since a copy of so few costs more. By a test, and
-// not by `get`, which hands out a reference in an Option (tools/ports/lint.py).
+// The number of these bytes, which may be fewer than four: read one by one, since a copy of so few costs more. By a
+// test, and not by `get`, which hands out a reference in an Option (tools/ports/lint.py).
 #[tactic(auto, unfolding(number::specs::Value::number_of))]
 pub fn number_of(kind: u8, bytes: &[u8]) -> Number
     requires { length bytes.now ≤ 4 }

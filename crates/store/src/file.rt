@@ -80,8 +80,8 @@ pub fn create(disc: &mut [u8], name: &[u8], n: usize, start: usize)
     buffer::bytes::zero_at(disc, start, n);
 }
 
-// Moves the n bytes behind the entry at `at` up by one entry. Byte by byte: the library's `copy_within` compares addresses,
-// of which the code for every machine may make no numbers (tools/ports/lint.py).
+// Moves the n bytes behind the entry at `at` up by one entry. Byte by byte: the library's `copy_within` compares
+// addresses, of which the code for every machine may make no numbers (tools/ports/lint.py).
 fn move_up(disc: &mut [u8], at: usize, n: usize)
     requires { at + entry_size + n ≤ length disc.old }
     ensures { disc.new ≡ overwrite disc.old at
