@@ -9,7 +9,7 @@ pub const UNIT: u64 = 149;
 pub const LARGE: u64 = 158;
 
 // A finite value is significand * 2^exponent times 2^-149, the smallest value; the first field says whether it has the
-// minus sign.
+// minus sign. A NaN has none, an infinity has no size: three cases, no Option.
 #[derive(Clone, Copy)]
 pub enum Decoded {
     NotANumber,

@@ -5,7 +5,7 @@ ghost use Rattle.float.specs.Print.{printed_of};
 use crate::decode::{Decoded, LARGE, decode};
 use crate::whole::{Rounding, whole_size};
 
-// The first field says whether '-' stands in front.
+// The first field says whether '-' stands in front. All four are shown, so none of them is an error or a None.
 #[derive(Clone, Copy)]
 pub enum Printed {
     NotANumber,

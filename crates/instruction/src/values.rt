@@ -123,9 +123,7 @@ fn print_value(frame: &Frame<'_>, kind: u8, bytes: &[u8], ends: bool, kept: usiz
         return print_text(frame, &bytes[..n], ends, kept);
     }
     let text = number::text::write(number_of(kind, bytes));
-    let shown = text.bytes;
-    let n = text.len;
-    print_text(frame, &shown[..n], ends, kept)
+    print_text(frame, text.as_slice(), ends, kept)
 }
 
 // PRINT, and PRINTLN with a newline.

@@ -1,17 +1,16 @@
 -- Texts laid one behind the other, and how long they are. Assumes nothing.
-use Rattle.std.proofs.Common.{◌≡◌, ℕ, suc, ◌+◌, ◌/◌, ◌≤◌, Bool, true, false, List, [], ◌∷◌, ◌++◌, length, drop, pos, negsuc}
+use Rattle.std.proofs.Common.{◌≡◌, ℕ, suc, ◌+◌, ◌/◌, ◌≤◌, Bool, true, false, List, [], ◌∷◌, ◌++◌, length, take, drop, pos, negsuc}
 use Rattle.std.proofs.Common.{sym, ap, ◌∙◌, ap₂, append_assoc, add_assoc, arith, length-append, drop-drop}
-use lib.Seq.{take-append_seam, drop-append-add}
+use lib.Seq.{take-append_seam, drop-append_seam, drop-append-add}
 use Rattle.buffer.specs.Buffer.{overwrite}
 use Rattle.decimal.specs.Decimal.{decimal, max_digits}
 use Rattle.decimal.proofs.Laws.{digits-few}
 use Rattle.float.specs.Print.{printed_of}
 use Rattle.float.specs.declared.print.Printed.{Printed}
 use Rattle.float.specs.declared.print.Printed.TheVariants.{NotANumber, Infinite, Overflow, Hundredths}
-use Rattle.number.specs.Text.{sign, decimals, printed_text, text_of, zeros, laid}
+use Rattle.number.specs.Text.{sign, decimals, printed_text, text_of, zeros}
 use Rattle.number.specs.declared.Number.{Number}
 use Rattle.number.specs.declared.Number.TheVariants.{Char, Int, Float}
-use Rattle.number.specs.declared.text.Text.{Text}
 
 -- a text of zeros with p in front
 padded : List ℕ → List ℕ
@@ -42,9 +41,16 @@ module _ (h b t : List ℕ) {x y z : List ℕ} (ex : x ≡ overwrite zeros 0 h) 
   total = add_assoc (length h) (length b) (length t) ∙ ap (λ (n : ℕ). length h + n) (sym (length-append b t))
       ∙ sym (length-append h (b ++ t))
 
-  pub laid_out : ◌≡◌ {A = Text} (record { bytes = z; len = length h + length b + length t }) (laid (h ++ (b ++ t)))
+  pub text-first : take (length h + length b + length t) z ≡ h ++ (b ++ t)
   unfolding padded
-  laid_out = ap₂ (λ (l : List ℕ) (n : ℕ). record { bytes = l; len = n }) three total
+  text-first = ap₂ (λ (n : ℕ) (l : List ℕ). take n l) total three
+      ∙ take-append_seam (h ++ (b ++ t)) (drop (length (h ++ (b ++ t))) zeros)
+
+  pub zeros-behind : drop (length h + length b + length t) z ≡ drop (length h + length b + length t) zeros
+  unfolding padded
+  zeros-behind = ap₂ (λ (n : ℕ) (l : List ℕ). drop n l) total three
+      ∙ drop-append_seam (h ++ (b ++ t)) (drop (length (h ++ (b ++ t))) zeros)
+      ∙ ap (λ (n : ℕ). drop n zeros) (sym total)
 
 pub decimal-short : (n : ℕ) → length (decimal n) ≤ max_digits
 decimal-short n = digits-few max_digits n

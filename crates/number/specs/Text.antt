@@ -1,5 +1,5 @@
 -- What PRINT writes of a number.
-use Rattle.std.specs.Prelude.{ℕ, suc, ◌+◌, ◌/◌, ◌%◌, Bool, true, false, List, [], ◌∷◌, ◌++◌, length, drop, ℤ, pos}
+use Rattle.std.specs.Prelude.{ℕ, suc, ◌+◌, ◌/◌, ◌%◌, Bool, true, false, List, [], ◌∷◌, ◌++◌, ℤ, pos}
 use Rattle.std.specs.Prelude.{negsuc}
 use Rattle.std.specs.Int.{w8}
 use Rattle.std.proofs.Common.{of_z}
@@ -9,7 +9,6 @@ use Rattle.float.specs.declared.print.Printed.{Printed}
 use Rattle.float.specs.declared.print.Printed.TheVariants.{NotANumber, Infinite, Overflow, Hundredths}
 use Rattle.number.specs.declared.Number.{Number}
 use Rattle.number.specs.declared.Number.TheVariants.{Char, Int, Float}
-use Rattle.number.specs.declared.text.Text.{Text}
 
 -- '-' or nothing
 abbrev pub sign : Bool → List ℕ
@@ -38,9 +37,6 @@ text_of (Char x) = of_z w8 x ∷ []
 text_of (Int x) = whole_text x
 text_of (Float x) = printed_text (printed_of x)
 
--- a text of at most 16 bytes, with zeros behind it
+-- what stands behind a text in its 16 bytes
 abbrev pub zeros : List ℕ
 zeros = 0 ∷ 0 ∷ 0 ∷ 0 ∷ 0 ∷ 0 ∷ 0 ∷ 0 ∷ 0 ∷ 0 ∷ 0 ∷ 0 ∷ 0 ∷ 0 ∷ 0 ∷ 0 ∷ []
-
-abbrev pub laid : List ℕ → Text
-laid text = record { bytes = text ++ drop (length text) zeros; len = length text }

@@ -5,6 +5,7 @@ ghost use Rattle.number.specs.Promotion.{promoted, first, second};
 
 use crate::Number;
 
+// Both at one type: two Numbers would leave their types apart.
 #[derive(Clone, Copy)]
 pub enum Pair {
     Chars(i8, i8),

@@ -2,37 +2,57 @@
 ghost use Rattle.std.specs.Prelude.{◌≡◌, ◌+◌, ◌/◌, ◌<◌, ◌≤◌, ◌++◌, length};
 ghost use Rattle.decimal.specs.Decimal.{decimal};
 ghost use Rattle.float.specs.Print.{printed_of};
-ghost use Rattle.number.specs.Text.{sign, decimals, whole_text, printed_text, text_of, laid};
+ghost use Rattle.number.specs.Text.{sign, decimals, whole_text, printed_text, text_of};
 
 use crate::Number;
 use buffer::bytes::overwrite_at;
 use float::print::{Printed, to_printed};
 use integer::Whole;
+use std::marker::Model;
 
-// The first `len` bytes are the text, the others 0.
-#[derive(Clone, Copy)]
+// A number's text, seen as its list. It stands at the front of bytes, len long, with zeros behind it.
+#[derive(Drop)]
 pub struct Text {
-    pub bytes: [u8; 16],
-    pub len: usize,
+    bytes: [u8; 16],
+    len: usize,
+}
+
+impl Model for Text {
+    ghost use Rattle.std.specs.Prelude.{List, ℕ, ◌≡◌, ◌≤◌, drop, take};
+    ghost use Rattle.number.specs.Text.{zeros};
+
+    ghost Value = { List ℕ };
+
+    ghost view = { λ t. take t.len t.bytes };
+
+    ghost invariant = { λ t. (t.len ≤ 16) × (drop t.len t.bytes ≡ drop t.len zeros) };
+}
+
+impl Text {
+    pub fn as_slice(&self) -> &[u8]
+        ensures { result.now ≡ self.now }
+    {
+        &self.bytes[..self.len]
+    }
 }
 
 fn join(head: &[u8], body: &[u8], tail: &[u8]) -> Text
     requires { length head.now + length body.now + length tail.now ≤ 16 }
-    ensures { result ≡ laid (head.now ++ (body.now ++ tail.now)) }
+    ensures { result ≡ head.now ++ (body.now ++ tail.now) }
 {
     let mut bytes = [0u8; 16];
     overwrite_at(&mut bytes, 0, head);
     overwrite_at(&mut bytes, head.len(), body);
     overwrite_at(&mut bytes, head.len() + body.len(), tail);
     Text {
-        bytes: bytes,
+        bytes,
         len: head.len() + body.len() + tail.len(),
     }
 }
 
 fn signed(negative: bool, body: &[u8], tail: &[u8]) -> Text
     requires { length body.now + length tail.now < 16 }
-    ensures { result ≡ laid (sign negative ++ (body.now ++ tail.now)) }
+    ensures { result ≡ sign negative ++ (body.now ++ tail.now) }
 {
     if negative {
         join(b"-", body, tail)
@@ -43,13 +63,13 @@ fn signed(negative: bool, body: &[u8], tail: &[u8]) -> Text
 
 fn signed_decimal(negative: bool, n: u32, tail: &[u8]) -> Text
     requires { length tail.now < 6 }
-    ensures { result ≡ laid (sign negative ++ (decimal n ++ tail.now)) }
+    ensures { result ≡ sign negative ++ (decimal n ++ tail.now) }
 {
     signed(negative, decimal::digits_of(n).as_slice(), tail)
 }
 
 fn int_text(x: i16) -> Text
-    ensures { result ≡ laid (whole_text x) }
+    ensures { result ≡ whole_text x }
 {
     signed_decimal(x < 0, x.unsigned_abs() as u32, b"")
 }
@@ -66,14 +86,14 @@ fn decimals_of(hundredths: u64) -> [u8; 3]
 
 fn hundredths_text(negative: bool, hundredths: u64) -> Text
     requires { hundredths / 100 < 4294967296 }
-    ensures { result ≡ laid (printed_text (Printed.Hundredths negative hundredths)) }
+    ensures { result ≡ printed_text (Printed.Hundredths negative hundredths) }
 {
     let tail = decimals_of(hundredths);
     signed_decimal(negative, (hundredths / 100) as u32, &tail)
 }
 
 fn float_text(x: f32) -> Text
-    ensures { result ≡ laid (printed_text (printed_of x)) }
+    ensures { result ≡ printed_text (printed_of x) }
 {
     match to_printed(x) {
         Printed::NotANumber => signed(false, b"nan", b""),
@@ -85,7 +105,7 @@ fn float_text(x: f32) -> Text
 
 #[tactic(auto, unfolding(crate::specs::Text::text_of))]
 pub fn write(a: Number) -> Text
-    ensures { result ≡ laid (text_of a) }
+    ensures { result ≡ text_of a }
 {
     match a {
         Number::Char(x) => {

@@ -1,15 +1,26 @@
 // A number as the bytes and the type byte under which it lies on the stack.
-ghost use Rattle.std.specs.Prelude.{◌≡◌, [], ◌∷◌};
+ghost use Rattle.std.specs.Prelude.{◌≡◌, ◌≤◌, [], ◌∷◌, take};
 ghost use Rattle.number.specs.Value.{encoded, number_of, is_zero};
 
 use crate::Number;
 use integer::Whole;
 
-// The first `kind` bytes are the value's, the others 0: the type byte is also the number of bytes.
+// The first `kind` bytes are the value's, the others 0: the type byte is also the number of bytes. The fields are open,
+// for the checksum of the number vectors goes over all four bytes.
 #[derive(Clone, Copy)]
 pub struct Encoded {
     pub bytes: [u8; 4],
     pub kind: u8,
+}
+
+impl Encoded {
+    // The value's own bytes.
+    pub fn as_slice(&self) -> &[u8]
+        requires { self.now.kind ≤ 4 }
+        ensures { result.now ≡ take self.now.kind self.now.bytes }
+    {
+        &self.bytes[..self.kind as usize]
+    }
 }
 
 #[tactic(auto, unfolding(crate::specs::Value::encoded))]
@@ -33,6 +44,7 @@ pub fn encode(a: Number) -> Encoded
 }
 
 // The number of the type `kind` whose bytes these are; a CHAR has only the first, an INT the first two.
+// The kind is the byte that lies above the value on the stack, no enum: the promise is for every byte.
 #[tactic(auto, unfolding(crate::specs::Value::number_of))]
 pub fn decode(kind: u8, a: u8, b: u8, c: u8, d: u8) -> Number
     ensures { result ≡ number_of kind (a ∷ b ∷ c ∷ d ∷ []) }

@@ -2,15 +2,11 @@
 use crate::operands::{Grid, Kind, whole, wholes};
 use crate::tally::checksum;
 use number::Number;
-use number::text::{Text, write};
+use number::text::write;
 use std::io;
 
-fn bytes_of(text: &Text) -> &[u8] {
-    text.bytes.get(..text.len).unwrap_or(&[])
-}
-
 fn write_line(rt: &impl Print, a: Number) -> io::Result<()> {
-    rt.write_all(bytes_of(&write(a)))?;
+    rt.write_all(write(a).as_slice())?;
     println!(rt;)
 }
 
@@ -34,7 +30,7 @@ fn checksum_of(numbers: &[Number]) -> u32 {
     let mut sum = 0;
     for a in numbers {
         let text = write(*a);
-        let bytes = bytes_of(&text);
+        let bytes = text.as_slice();
         sum = checksum(sum, &[(bytes.len() % 256) as u8]);
         sum = checksum(sum, bytes);
     }

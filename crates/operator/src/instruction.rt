@@ -1,4 +1,5 @@
-// Which instruction is which operator, and which types an operator takes at which place.
+// Which instruction is which operator, and which types an operator takes at which place. The matches are the tables of
+// the guide's appendix C and table 2 written out, an arm for each row.
 ghost use Rattle.std.specs.Prelude.{◌≡◌, None};
 ghost use Rattle.operator.specs.Instruction.{lookup, scaling_table, unary_table, operator_of};
 ghost use Rattle.operator.specs.Instruction.{conversion_types, unary_types, arithmetic_types, binary_types};

@@ -46,6 +46,7 @@ fn power_whole<T: WholeNumber>(x: T, n: u8) -> Number
     product.number()
 }
 
+// Of FLOATs: each step rounds, where the step of whole numbers wraps. Two definitions, so two functions.
 fn power_real(x: f32, n: u8) -> f32
     ensures { result ≡ power_real x n }
 {

@@ -16,11 +16,11 @@ pub pushed-length : (stack head tail : List ℕ) (kept : ℕ) → kept ≤ lengt
 pushed-length stack head tail kept h = simp (length-append, length-take-le kept stack h)
 
 -- a number's bytes as they are encoded
-pub encoded-inside : (a : Number) → (encoded a).kind ≤ length (encoded a).bytes
+pub encoded-few : (a : Number) → (encoded a).kind ≤ 4
 unfolding encoded
-encoded-inside (Char x) = omega arith
-encoded-inside (Int x) = omega arith
-encoded-inside (Float x) = omega arith
+encoded-few (Char x) = omega arith
+encoded-few (Int x) = omega arith
+encoded-few (Float x) = omega arith
 
 pub number_pushed : (a : Number) (stack : List ℕ)
     → push_item stack (encoded a).kind (take (encoded a).kind (encoded a).bytes) ≡ push stack (type_of a) (value_bytes a)

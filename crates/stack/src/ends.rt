@@ -134,9 +134,7 @@ impl Running<'_> {
             (push (take kept self.now.stack.now) (type_of a) (value_bytes a))) }
     {
         let encoded = number::value::encode(a);
-        let bytes = encoded.bytes;
-        let n = encoded.kind as usize;
-        self.push_item(kept, encoded.kind, &bytes[..n], to)
+        self.push_item(kept, encoded.kind, encoded.as_slice(), to)
     }
 
     // What an operator answers goes onto the stack, or is a fault.
