@@ -8,7 +8,7 @@ invariant_of-result c =
     let a = c.args in (
       omega arith,
       zeros-behind a.head.now a.body.now a.tail.now
-      c.overwrite_at.ensures c.overwrite_at-2.ensures c.overwrite_at-3.ensures,
+          c.overwrite_at.ensures c.overwrite_at-2.ensures c.overwrite_at-3.ensures,
     )
 
 pub returns : goal.returns
