@@ -26,6 +26,7 @@ pub fn four_at(bytes: &[u8], at: usize) -> u32
     u32::from_le_bytes([bytes[at], bytes[at + 1], bytes[at + 2], bytes[at + 3]])
 }
 
+// The two bytes of a field by name: records lay them one by one among others.
 pub fn low(word: u16) -> u8
     ensures { result ≡ word % 256 }
 {
@@ -72,6 +73,7 @@ pub fn zero_at(dst: &mut [u8], at: usize, n: usize)
     dst[at..at + n].fill(0);
 }
 
+// `==`, in the word of the definitions.
 pub fn same_bytes(a: &[u8], b: &[u8]) -> bool
     ensures { result ≡ same a.now b.now }
 {

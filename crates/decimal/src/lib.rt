@@ -37,6 +37,7 @@ impl Digits {
     }
 }
 
+// One digit. `char::from_digit` of the library answers a char, and an Option.
 fn digit(n: u32) -> u8
     requires { n < 10 }
     ensures { result ≡ 48 + n }
@@ -44,6 +45,7 @@ fn digit(n: u32) -> u8
     b'0' + n as u8
 }
 
+// By hand: to print into lent bytes `write!` asks for a writer round them, and answers a Result that cannot fail.
 pub fn digits_of(n: u32) -> Digits
     ensures { result ≡ decimal n }
 {

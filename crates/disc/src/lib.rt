@@ -1,4 +1,7 @@
 // What a disc is: its layout, names, the directory of ten entries, and which discs are good.
+//
+// It is lent as a slice: it has one of two lengths, so no array holds it, and a struct round the slice would be made
+// anew at each call, of which every one is lent another disc. `Readable` is what all functions ask of it.
 #![tactic(auto)]
 
 pub mod directory;

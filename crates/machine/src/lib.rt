@@ -30,7 +30,8 @@ pub struct OpenFile {
     pub offset: u16,
 }
 
-// Document 01: "each process record carries its own 32-byte stack."
+// Document 01: "each process record carries its own 32-byte stack." State and fault are bytes, and no enums: a record
+// is defined of any 64 bytes, and its bytes of any record (`process_of`, `process_bytes`).
 #[derive(Clone, Copy)]
 pub struct Process {
     pub name: [u8; NAME_SIZE],

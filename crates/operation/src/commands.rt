@@ -23,7 +23,7 @@ fn live_slot(disc: &[u8], area: &[u8], id: u32) -> Result<usize, Refusal>
     slot_of(area, id).ok_or(Refusal::NoProcess)
 }
 
-// Document 01: "15 already in that state."
+// Document 01: "15 already in that state." The state is the record's byte, which is compared and written as it is.
 fn change_state(disc: &[u8], area: &mut [u8], id: u32, state: u8) -> Answer
     ensures { (out : List ℕ) → answered result disc.now area.new out
         ≡ on_good (lent disc.now area.old out)

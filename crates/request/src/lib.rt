@@ -1,4 +1,7 @@
 // What disc and process table answer to an instruction that reaches beyond its process.
+//
+// Each function takes disc, work area, slot, process and step by themselves: a struct of them would hold the two loans,
+// and be taken apart again where a part of the disc or of the area is lent on.
 #![tactic(auto)]
 
 pub mod file;

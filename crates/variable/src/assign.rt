@@ -54,21 +54,20 @@ fn runs_beside(variables: &[u8], name: u8, owner: u16) -> Taken
 // A place for n bytes among these runs, from low to high, where so many entries of so many are used.
 // Document 01, fault 10: "no variable entry or run"
 fn place_for(
-    runs: [Run; MAX_RUNS],
-    count: usize,
+    runs: &[Run],
     low: usize,
     high: usize,
     used: usize,
     limit: usize,
     n: usize,
 ) -> Result<usize, Unplaced>
-    requires { (count ≤ max_runs) × (high < 65536) × (1 ≤ n) }
-    ensures { result ≡ placing (take count runs) low high used limit n }
+    requires { (length runs.now ≤ max_runs) × (high < 65536) × (1 ≤ n) }
+    ensures { result ≡ placing runs.now low high used limit n }
 {
     if limit <= used {
         return Err(Unplaced::NoEntry);
     }
-    place::find_place(&runs[..count], low, high, n).ok_or(Unplaced::NoRun)
+    place::find_place(runs, low, high, n).ok_or(Unplaced::NoRun)
 }
 
 // Document 01's fault number of a placing, 0 where there is none.
@@ -120,7 +119,7 @@ pub fn assign(
     let taken = runs_beside(variables, name, owner);
     let used = taken.count;
     let runs = taken.runs;
-    let a = place_for(runs, used, LOW_END, HIGH_END, used, ENTRY_LIMIT, n)?;
+    let a = place_for(&runs[..used], LOW_END, HIGH_END, used, ENTRY_LIMIT, n)?;
     free(variables, |e| is_of(e, name, owner));
     let e = Variable {
         name: name,

@@ -1,4 +1,5 @@
 // Variable memory: 256 bytes and 25 entries that all processes share, in the 407 bytes at the front of the work area.
+// They are lent as a slice, as the work area is (crate area says why).
 #![tactic(auto)]
 
 pub mod assign;
@@ -64,7 +65,7 @@ pub struct Assigned {
     pub variables: Variables,
 }
 
-// The runs that some variables take: the first count.
+// The runs that some variables take: the first count. In an array, since no heap is there.
 #[derive(Clone, Copy)]
 pub struct Taken {
     pub runs: [Run; MAX_RUNS],

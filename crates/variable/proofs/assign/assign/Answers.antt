@@ -3,6 +3,7 @@ use Prim.Native.Nat.{ℕ, ◌+◌, ◌<◌, ◌≤◌}
 use mathlib.Core.Path.{◌≡◌, sym, ◌∙◌}
 use mathlib.Core.List.{List}
 use native.Mathlib.Omega.{arith}
+use lib.Seq.{length-take-le}
 use borrow.Author.Rules.{rules}
 use Rattle.std.proofs.lemmas.Result.{err_from_is_err_and}
 use lib.ListN.{get_or, length, take}
@@ -62,7 +63,9 @@ module _ (bytes : List ℕ) (size : length bytes ≡ variables_size) (few : (var
 pub place_for-requires : goal.place_for-requires
 place_for-requires c =
     let a = c.args in
-    (listed-few (variables_of a.variables.now) (is_of a.name a.owner) c.runs_beside-taken.ensures c.requires.1, omega arith, c.requires.2)
+    let few = listed-few (variables_of a.variables.now) (is_of a.name a.owner) c.runs_beside-taken.ensures c.requires.1 in
+    let taken = c.runs_beside-taken.result in
+    (omega (arith, few, length-take-le taken.count taken.runs), omega arith, c.requires.2)
 
 pub overflow_cast-e : goal.overflow_cast-e
 overflow_cast-e c =
