@@ -6,10 +6,21 @@ use native.Mathlib.Nat.{add_assoc, zero-add}
 use native.Mathlib.Numerals.{add-one}
 use native.Mathlib.Omega.{arith}
 use lib.ListN.{length, get_or, set, take, drop, replicate, length-drop, length-append}
-use lib.Seq.{get_or-drop, get_or-take, length-take-le, take_at, drop_at, drop-drop, drop-append-add, take-append-le}
+use lib.Seq.{take-suc, take-suc-set, get_or-drop, get_or-take, length-take-le, take_at, drop_at, drop-drop, drop-append-add, take-append-le}
 use lib.Seq.{paste, paste-suc, drop-length, drop-paste, set_split, append_snoc, take-length, take-take}
 use Rattle.buffer.specs.Buffer.{part, overwrite}
 use Rattle.buffer.proofs.Lists.{drop-replicate}
+
+module _ {A : Type 0} where
+  -- one more turn of a loop that fills l with the elements of t
+  pub fill-next : (l t : List A) (j : ℕ) (x d : A) → j < length l → j < length t → take j l ≡ take j t → x ≡ get_or t j d
+      → take (j + 1) (set l j x) ≡ take (j + 1) t
+  fill-next l t j x d hl ht e v = rw (add-one, take-suc-set, take-suc t j d, e, v)
+
+-- one more turn of a loop that copies a part
+pub copy-next : (l s : List ℕ) (at j : ℕ) → j < length l → at + j < length s → take j l ≡ take j (drop at s)
+    → take (j + 1) (set l j (get_or s (at + j) 0)) ≡ take (j + 1) (drop at s)
+copy-next l s at j hl hs e = fill-next l (drop at s) j (get_or s (at + j) 0) 0 hl (simp length-drop (omega arith)) e (rw get_or-drop)
 
 -- one more turn of a loop that overwrites
 pub overwrite-next : (d s l : List ℕ) (at j : ℕ) → at + j < length d → j < length s → l ≡ paste d at s j

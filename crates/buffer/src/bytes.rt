@@ -39,13 +39,15 @@ pub fn high(word: u16) -> u8
     word.to_le_bytes()[1]
 }
 
-// Fills dst with the bytes of src from place at.
+// Fills dst with the bytes of src from place at. Byte by byte, as the next one: the library's `copy_from_slice`
+// compares addresses, of which the code for every machine may make no numbers (tools/ports/lint.py).
 pub fn copy_part(dst: &mut [u8], src: &[u8], at: usize)
     requires { at + length dst.old ≤ length src.now }
     ensures { dst.new ≡ part src.now at (length dst.old) }
 {
-    let n = dst.len();
-    dst.copy_from_slice(&src[at..at + n]);
+    for i in 0..dst.len() {
+        dst[i] = src[at + i];
+    }
 }
 
 // Lays src over dst from place at.
@@ -53,7 +55,9 @@ pub fn overwrite_at(dst: &mut [u8], at: usize, src: &[u8])
     requires { at + length src.now ≤ length dst.old }
     ensures { dst.new ≡ overwrite dst.old at src.now }
 {
-    dst[at..at + src.len()].copy_from_slice(src);
+    for i in 0..src.len() {
+        dst[at + i] = src[i];
+    }
 }
 
 // The same, answering the place behind: a text is written piece after piece.
