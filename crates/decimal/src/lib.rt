@@ -11,22 +11,38 @@ pub const MAX_DIGITS: usize = 10;
 
 const LAST_DIGIT: usize = MAX_DIGITS - 1;
 
-// A number's digits, seen as their list. They stand at the end of bytes, from start on, with zeros before them.
-#[derive(Drop)]
+// A number's digits, seen as their list. They stand at the end of bytes, from start on, with zeros before them, so the
+// list alone gives the fields back, and a copy is the same value.
+#[derive(Clone, Copy)]
 pub struct Digits {
     bytes: [u8; MAX_DIGITS],
     start: usize,
 }
 
 impl Model for Digits {
-    ghost use Rattle.std.specs.Prelude.{List, ℕ, ◌≡◌, ◌<◌, drop, replicate, take};
+    ghost use Rattle.std.specs.Prelude.{List, ℕ, ◌≡◌, ◌<◌, ◌-◌, ◌++◌, drop, length, replicate, take};
+    ghost use Rattle.std.proofs.Common.{arith, ap, sym, ◌∙◌, length-drop, take-append-drop};
     ghost use Rattle.decimal.specs.Decimal.{max_digits};
 
     ghost Value = { List ℕ };
 
     ghost view = { λ d. drop d.start d.bytes };
 
-    ghost invariant = { λ d. (d.start < max_digits) × (take d.start d.bytes ≡ replicate d.start 0) };
+    ghost invariant = { λ d.
+        (d.start < max_digits) × (length d.bytes ≡ max_digits) × (take d.start d.bytes ≡ replicate d.start 0) };
+
+    ghost inverse = { λ l. record { bytes = replicate (max_digits - length l) 0 ++ l; start = max_digits - length l } };
+
+    ghost inverse_ok = { λ d h.
+        let digits = drop d.start d.bytes in
+        let start : max_digits - length digits ≡ d.start = omega (arith, h.0, h.1, length-drop d.start d.bytes) in
+        λ i. record {
+          bytes = (
+              ap (λ n. replicate n 0 ++ digits) start ∙ ap (λ l. l ++ digits) (sym h.2)
+              ∙ take-append-drop d.start d.bytes
+              ) i;
+          start = start i;
+        } };
 }
 
 impl Digits {

@@ -1,6 +1,6 @@
 -- Texts laid one behind the other, and how long they are. Assumes nothing.
 use Rattle.std.proofs.Common.{◌≡◌, ℕ, suc, ◌+◌, ◌/◌, ◌≤◌, Bool, true, false, List, [], ◌∷◌, ◌++◌, length, take, drop, pos, negsuc}
-use Rattle.std.proofs.Common.{sym, ap, ◌∙◌, ap₂, append_assoc, add_assoc, arith, length-append, drop-drop}
+use Rattle.std.proofs.Common.{sym, ap, ◌∙◌, ap₂, append_assoc, add_assoc, arith, length-append, length-drop, drop-drop}
 use lib.Seq.{take-append_seam, drop-append_seam, drop-append-add}
 use Rattle.buffer.specs.Buffer.{overwrite}
 use Rattle.decimal.specs.Decimal.{decimal, max_digits}
@@ -40,6 +40,14 @@ module _ (h b t : List ℕ) {x y z : List ℕ} (ex : x ≡ overwrite zeros 0 h) 
   total : length h + length b + length t ≡ length (h ++ (b ++ t))
   total = add_assoc (length h) (length b) (length t) ∙ ap (λ (n : ℕ). length h + n) (sym (length-append b t))
       ∙ sym (length-append h (b ++ t))
+
+  pub full : length h + length b + length t ≤ 16 → length z ≡ 16
+  unfolding padded
+  full fits =
+      let p = h ++ (b ++ t) in
+      let parts : length z ≡ length p + length (drop (length p) zeros) = ap length three
+      ∙ length-append p (drop (length p) zeros) in
+      omega (arith, parts, length-drop (length p) zeros, total, fits)
 
   pub text-first : take (length h + length b + length t) z ≡ h ++ (b ++ t)
   unfolding padded

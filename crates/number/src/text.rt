@@ -10,22 +10,36 @@ use float::print::{Printed, to_printed};
 use integer::Whole;
 use std::marker::Model;
 
-// A number's text, seen as its list. It stands at the front of bytes, len long, with zeros behind it.
-#[derive(Drop)]
+// A number's text, seen as its list. It stands at the front of bytes, len long, with zeros behind it, so the list alone
+// gives the fields back, and a copy is the same value.
+#[derive(Clone, Copy)]
 pub struct Text {
     bytes: [u8; 16],
     len: usize,
 }
 
 impl Model for Text {
-    ghost use Rattle.std.specs.Prelude.{List, ℕ, ◌≡◌, ◌≤◌, drop, take};
+    ghost use Rattle.std.specs.Prelude.{List, ℕ, ◌≡◌, ◌≤◌, ◌++◌, drop, length, take};
+    ghost use Rattle.std.proofs.Common.{arith, ap, sym, ◌∙◌, length-take-le, take-append-drop};
     ghost use Rattle.number.specs.Text.{zeros};
 
     ghost Value = { List ℕ };
 
     ghost view = { λ t. take t.len t.bytes };
 
-    ghost invariant = { λ t. (t.len ≤ 16) × (drop t.len t.bytes ≡ drop t.len zeros) };
+    ghost invariant = { λ t. (t.len ≤ 16) × (length t.bytes ≡ 16) × (drop t.len t.bytes ≡ drop t.len zeros) };
+
+    ghost inverse = { λ l. record { bytes = l ++ drop (length l) zeros; len = length l } };
+
+    ghost inverse_ok = { λ t h.
+        let text = take t.len t.bytes in
+        let len : length text ≡ t.len = length-take-le t.len t.bytes (omega (arith, h.0, h.1)) in
+        λ i. record {
+          bytes = (
+              ap (λ n. text ++ drop n zeros) len ∙ ap (λ l. text ++ l) (sym h.2) ∙ take-append-drop t.len t.bytes
+              ) i;
+          len = len i;
+        } };
 }
 
 impl Text {
