@@ -2,7 +2,7 @@
 use Prim.Native.Nat.{ℕ, ◌+◌}
 use mathlib.Core.Path.{◌≡◌, sym, ap, subst, ◌∙◌}
 use mathlib.Core.List.{List, []}
-use Rattle.machine.specs.Effect.{Effect, with_operand, with_outcome}
+use Rattle.machine.specs.Effect.{Effect, faults, with_operand, with_outcome}
 use Rattle.machine.specs.Exec.{onward}
 use Rattle.machine.specs.Stack.{pop, push}
 use Rattle.number.specs.Value.{type_of, value_bytes}
@@ -13,18 +13,33 @@ use Rattle.operator.specs.declared.operators.Operator.{Operator}
 use Rattle.stack.specs.Steps.{Means}
 use Rattle.stack.specs.Tops.{next_numbered, number_in, number_on, numbered, with_numbered}
 use Rattle.std.specs.Prelude.{Result}
+use Rattle.std.specs.Result.{IsErrAnd}
+use Rattle.std.proofs.lemmas.Result.{err_from_is_err_and}
+use Rattle.machine.specs.Fault.{fault_number}
 use Rattle.machine.specs.declared.fault.Fault.{Fault}
 use Rattle.stack.specs.declared.Step.{Step}
 use Rattle.stack.specs.declared.TopNumber.{TopNumber}
+use Rattle.stack.specs.declared.frame.Frame.{Frame}
 use Rattle.stack.proofs.Chains.{by_number, popped-first, popped-next}
 
 -- how the code goes on: with this stack, behind the instruction
 abbrev pub behind : List ℕ → List ℕ → ℕ → ℕ → List ℕ → Effect
 behind code stack loopstart at = λ l. onward code stack loopstart at (at + 1) l []
 
+-- the same of an instruction in its frame
+abbrev pub behind-frame : Frame → List ℕ → Effect
+behind-frame f = behind f.process.code.now f.process.stack.now f.process.loopstart f.at
+
 -- what has an effect has one equal to it
 means-as : (stack : List ℕ) (step : Result Step Fault) {e f : Effect} → Means stack step e → e ≡ f → Means stack step f
 means-as stack step h p = subst (Means stack step) p h
+
+-- what `?` hands on is the fault that it met
+pub fault-handed-on : (stack : List ℕ) (step : Result Step Fault) (fault : Fault) → IsErrAnd step (λ g. g ≡ fault)
+    → Means stack step (faults (fault_number fault))
+fault-handed-on stack step fault h =
+    let p = err_from_is_err_and step h in
+    rw (p.1, p.2)
 
 -- the answer goes onto the rest
 abbrev answered : (List ℕ → Effect) → Outcome → List ℕ → Effect

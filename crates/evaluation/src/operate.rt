@@ -3,9 +3,10 @@
 ghost use Rattle.std.specs.Prelude.{◌≡◌, ◌≤◌, length, take};
 ghost use Rattle.evaluation.specs.Operating.{evaluates};
 ghost use Rattle.machine.specs.Stack.{pop};
+ghost use Rattle.number.specs.declared.Number.{Number};
 ghost use Rattle.operator.specs.Instruction.{types_of};
 ghost use Rattle.stack.specs.Frames.{Performs};
-ghost use Rattle.stack.specs.Tops.{bytes_below, number_on, numbered};
+ghost use Rattle.stack.specs.Tops.{bytes_below, next_numbered, number_above, number_on, numbered};
 
 use machine::fault::Fault;
 use operator::instruction::types_of;
@@ -22,7 +23,7 @@ fn top_operand(stack: &[u8], operator: Operator, place: u8) -> Result<TopNumber,
     top_number(stack, types_of(operator, place))
 }
 
-// The operand below the one that came off before it, which left so many bytes.
+// The operand below the one that came off before it, which left so many bytes: whatever number that was.
 fn next_operand(
     stack: &[u8],
     above: usize,
@@ -30,14 +31,15 @@ fn next_operand(
     place: u8,
 ) -> Result<TopNumber, Fault>
     requires { above ≤ length stack.now }
-    ensures { (number_on stack.now result ≡ numbered (pop (types_of operator place) (take above stack.now)))
+    ensures found { (number_on stack.now result ≡ numbered (pop (types_of operator place) (take above stack.now)))
         × (bytes_below result ≤ length stack.now) }
+    ensures next { (x : Number) → number_on stack.now result
+        ≡ next_numbered (types_of operator place) (number_above x (take above stack.now)) }
 {
     number_below(stack, above, types_of(operator, place))
 }
 
 // The answer goes onto what lies below the operand that came off last, the one pushed first.
-#[tactic(auto, unfolding(machine::specs::Effect::operates))]
 fn operate_one(frame: &Frame<'_>, operator: Unary) -> Result<Step, Fault>
     ensures { Performs frame.now (evaluates (Operator.OfOne operator)) result }
 {
@@ -46,7 +48,6 @@ fn operate_one(frame: &Frame<'_>, operator: Unary) -> Result<Step, Fault>
     frame.process.push_outcome(x.below, answer, frame.at + 1)
 }
 
-#[tactic(auto, unfolding(machine::specs::Effect::operates))]
 fn operate_two(frame: &Frame<'_>, operator: Binary) -> Result<Step, Fault>
     ensures { Performs frame.now (evaluates (Operator.OfTwo operator)) result }
 {
@@ -57,7 +58,6 @@ fn operate_two(frame: &Frame<'_>, operator: Binary) -> Result<Step, Fault>
 }
 
 // CONSTRAIN of x, a, b.
-#[tactic(auto, unfolding(machine::specs::Effect::operates))]
 fn constrain(frame: &Frame<'_>) -> Result<Step, Fault>
     ensures { Performs frame.now (evaluates (Operator.Scale Scaling.Constrain)) result }
 {
@@ -70,7 +70,6 @@ fn constrain(frame: &Frame<'_>) -> Result<Step, Fault>
 }
 
 // MAP of a, b, c, d, e.
-#[tactic(auto, unfolding(machine::specs::Effect::operates))]
 fn map(frame: &Frame<'_>) -> Result<Step, Fault>
     ensures { Performs frame.now (evaluates (Operator.Scale Scaling.Map)) result }
 {
@@ -85,7 +84,6 @@ fn map(frame: &Frame<'_>) -> Result<Step, Fault>
 }
 
 // POW of x, y.
-#[tactic(auto, unfolding(machine::specs::Effect::operates))]
 fn power(frame: &Frame<'_>) -> Result<Step, Fault>
     ensures { Performs frame.now (evaluates (Operator.Scale Scaling.Power)) result }
 {

@@ -2,7 +2,8 @@
 ghost use Rattle.std.specs.Prelude.{true, ◌≡◌, ◌≤◌, length, slice_index, take};
 ghost use Rattle.machine.specs.Stack.{pop, pop_number, pop_string};
 ghost use Rattle.number.specs.Value.{number_of};
-ghost use Rattle.stack.specs.Tops.{bytes_below, is_numeric, number_on};
+ghost use Rattle.number.specs.declared.Number.{Number};
+ghost use Rattle.stack.specs.Tops.{bytes_below, is_numeric, next_numbered, number_above, number_on};
 ghost use Rattle.stack.specs.Tops.{numbered, value_end, value_on};
 
 use crate::{STRING_KIND, TopNumber, TopValue};
@@ -57,6 +58,8 @@ fn number_on_top(stack: &[u8], kind: u8) -> Result<TopValue, Fault>
 
 // Document 01: "popping from the top, for each value 5 nothing there, 6 a type not taken here, 5 too few bytes below
 // it, 6 malformed string"
+// Inlined: what a call hands back here is written in parts and read as a whole, for which a processor waits.
+#[inline(always)]
 #[tactic(auto, unfolding(machine::specs::Stack::pop))]
 pub fn top_value(stack: &[u8], types: Types) -> Result<TopValue, Fault>
     ensures { (value_on stack.now result ≡ pop types stack.now)
@@ -102,11 +105,13 @@ pub fn top_number(stack: &[u8], types: Types) -> Result<TopNumber, Fault>
     })
 }
 
-// The number below one that was popped before it, which left so many bytes.
+// The number below one that was popped before it, which left so many bytes: whatever number that was.
 pub fn number_below(stack: &[u8], above: usize, types: Types) -> Result<TopNumber, Fault>
     requires { (is_numeric types ≡ true) × (above ≤ length stack.now) }
-    ensures { (number_on stack.now result ≡ numbered (pop types (take above stack.now)))
+    ensures found { (number_on stack.now result ≡ numbered (pop types (take above stack.now)))
         × (bytes_below result ≤ length stack.now) }
+    ensures next { (x : Number) → number_on stack.now result
+        ≡ next_numbered types (number_above x (take above stack.now)) }
 {
     top_number(&stack[..above], types)
 }
