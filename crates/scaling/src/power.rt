@@ -1,12 +1,13 @@
 // POW of x, y: x to the power of y.
 ghost use Rattle.std.specs.Prelude.{◌≡◌};
+ghost use Rattle.std.specs.Int.{w16};
 ghost use Rattle.std.proofs.Math.IntN.{pow};
 ghost use Rattle.integer.specs.Modular.{wrapped};
 ghost use Rattle.scaling.specs.Power.{whole_exponent, exponent, power_real, raised, power};
 
 use integer::Whole;
+use number::Number;
 use number::promotion::{Pair, promote};
-use number::{Number, WholeNumber};
 use operator::{ArithmeticError, Outcome};
 
 const MAX_EXPONENT: i16 = 15;
@@ -35,15 +36,15 @@ fn exponent_of(y: Number) -> Option<u8>
     }
 }
 
-// "multiplying from the left starting at 1": of whole numbers modulo the type's width.
-fn power_whole<T: WholeNumber>(x: T, n: u8) -> Number
-    ensures { result ≡ T.number (wrapped T.width (pow (T.value x) n)) }
+// "multiplying from the left starting at 1": modulo 65,536, of which modulo 256 is a part.
+fn power16(x: i16, n: u8) -> i16
+    ensures { result ≡ wrapped w16 (pow x n) }
 {
-    let mut product = T::reduce(1);
+    let mut product: i16 = 1;
     for _ in 0..n {
         product = product.multiply(x);
     }
-    product.number()
+    product
 }
 
 // Of FLOATs: each step rounds, where the step of whole numbers wraps. Two definitions, so two functions.
@@ -61,8 +62,8 @@ fn raise(pair: Pair, n: u8) -> Number
     ensures { result ≡ raised pair n }
 {
     match pair {
-        Pair::Chars(x, _) => power_whole(x, n),
-        Pair::Ints(x, _) => power_whole(x, n),
+        Pair::Chars(x, _) => Number::Char(i8::reduce(power16(x as i16, n) as i64)),
+        Pair::Ints(x, _) => Number::Int(power16(x, n)),
         Pair::Floats(x, _) => Number::Float(power_real(x, n)),
     }
 }
