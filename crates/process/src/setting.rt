@@ -7,11 +7,11 @@ ghost use Rattle.process.specs.Stepping.{Stepping, left, left_by, stack_of};
 ghost use Rattle.stack.specs.Steps.{about, keeping};
 
 use crate::advance::go_on;
-use crate::ending::fail;
+use crate::ending::finish;
 use area::variables::assign_in;
 use machine::Process;
-use machine::fault::Fault;
 use stack::Step;
+use variable::assign::placing_fault;
 
 // Document 01: "SET first frees the old variable"; fault 10: "no variable entry or run". Its place is that of document
 // 02, Q-10. A SET that finds no place ends its process.
@@ -27,6 +27,6 @@ pub fn set_variable(area: &mut [u8], slot: usize, p: Process, d: Step, name: u8,
     let placing = assign_in(area, name, kind, p.id, &bytes[..n]);
     match placing {
         Ok(_) => go_on(area, slot, d.kept, d.pc, d.loopstart, b"", b"", file),
-        Err(_) => fail(area, slot, Fault::NoPlace),
+        Err(_) => finish(area, slot, placing_fault(placing)),
     }
 }

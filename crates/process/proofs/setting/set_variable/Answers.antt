@@ -1,8 +1,7 @@
 -- The variables are set in place; then the process goes on, or ends where no place was found.
-use Rattle.std.proofs.Common.{◌≡◌, length, sym, ap, arith, rules}
+use Rattle.std.proofs.Common.{◌≡◌, length, sym, arith, rules}
 use lib.Seq.{length-take-le}
 use Rattle.std.specs.Prelude.{Err}
-use Rattle.variable.specs.Assign.{placing_fault}
 use Rattle.machine.specs.Limits.{stack_size}
 use Rattle.process.proofs.Assigning.{set-done, set-few, set_on, set-refused}
 use Rattle.process.proofs.setting.set_variable.Goals as goal
@@ -34,12 +33,12 @@ pub returns-in-Ok : goal.returns-in-Ok
 returns-in-Ok c =
     set-done c.requires.0 c.args.name c.args.kind c.assign_in-placing.ensures c.in-Ok.is c.go_on.ensures
 
-pub fail-requires : goal.fail-requires
-fail-requires c =
+pub finish-requires : goal.finish-requires
+finish-requires c =
     let t = c.requires.0 in
     (omega (arith, t.size), t.low, set-few t c.args.name c.args.kind c.assign_in-placing.ensures (Err c.in-Err.field-0) tt c.in-Err.is)
 
 pub returns-in-Err : goal.returns-in-Err
 returns-in-Err c =
     set-refused c.requires.0 c.args.name c.args.kind c.assign_in-placing.ensures (Err c.in-Err.field-0) tt c.in-Err.is
-    (sym (ap placing_fault c.in-Err.is)) c.fail.ensures
+    c.placing_fault.ensures c.finish.ensures
