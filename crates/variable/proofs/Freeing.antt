@@ -11,7 +11,7 @@ use borrow.Author.Tests.{eqb-true, ne_eqb}
 use Rattle.buffer.specs.Lists.{keep}
 use Rattle.buffer.proofs.Kept.{keep_all, keep-keep, keep-length, keep-map, keep-none, keep-swap}
 use Rattle.variable.specs.Limits.{max_variables}
-use Rattle.variable.specs.Table.{Shaped, cell_of, counted, freed, freed_all, is_of, no_variable, owned, owned_by}
+use Rattle.variable.specs.Table.{Shaped, cell_of, counted, freed, freed_all, is_gone, is_of, no_variable, owned, owned_by}
 use Rattle.variable.specs.declared.Variable.{Variable}
 use Rattle.variable.specs.declared.Variables.{Variables}
 use Rattle.variable.proofs.Views.{take_bound}
@@ -80,3 +80,10 @@ module _ (v : Variables) (id : ℕ) where
       (keep-swap (owned_by id) (λ e. not (is_of name id e)) (λ e. not (eqb e.name name)) (counted v)
       (λ e k. ap (λ (b : Bool). not (eqb e.name name && b)) k ∙ ap not (and-true (eqb e.name name))))
       ∙ sym (keep-map (λ c. not (eqb c.name name)) (cell_of v.memory) (keep (owned_by id) (counted v)))
+
+-- ---- one test for both ways of freeing: that of a SET, and that of an ending
+pub is-gone-named : (name id : ℕ) (e : Variable) → is_gone false name id e ≡ is_of name id e
+is-gone-named name id e = refl
+
+pub is-gone-all : (name id : ℕ) (e : Variable) → is_gone true name id e ≡ owned_by id e
+is-gone-all name id e = refl
