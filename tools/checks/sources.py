@@ -4,10 +4,10 @@ import sys
 from pathlib import Path
 
 ROOT = Path(__file__).resolve().parents[2]
-# Programs that the gate runs, and what those of vectors share: they make discs and areas of their own.
+# Programs that the gate runs: they make discs and areas of their own.
 PROGRAMS = {
     "store_cases", "variable_cases", "kernel_cases", "guide_programs", "bench",
-    "float_vectors", "number_vectors", "store_vectors", "operation_vectors", "vectors",
+    "float_vectors", "number_vectors", "store_vectors", "operation_vectors",
 }
 WORD = re.compile(r"[\w'-]+")
 

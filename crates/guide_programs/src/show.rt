@@ -15,6 +15,9 @@ const SP_AT: usize = RECORDS_AT + 30;
 
 const STACK_AT: usize = RECORDS_AT + 32;
 
+// No program has more bytes.
+const LONGEST: usize = 64;
+
 // How many turns a program has in a round. Document 02, Q-9: as many as there can be, by a share.
 #[derive(Clone, Copy, PartialEq, Eq)]
 pub enum Turns {
@@ -45,6 +48,18 @@ impl<'a> Show<'a> {
     }
 }
 
+// The rows one behind the other, in the room that is lent. A row for which there is none is left out.
+fn lay<'a>(rows: &[&[u8]], room: &'a mut [u8; LONGEST]) -> &'a [u8] {
+    let mut len = 0;
+    for row in rows {
+        if let Some(place) = room[len..].get_mut(..row.len()) {
+            place.copy_from_slice(row);
+            len += row.len();
+        }
+    }
+    &room[..len]
+}
+
 // The operations up to the first round.
 fn start(show: &Show, code: &[u8], disc: &mut [u8], area: &mut [u8]) {
     export::arduinos_format(disc, area);
@@ -60,17 +75,17 @@ fn start(show: &Show, code: &[u8], disc: &mut [u8], area: &mut [u8]) {
 
 // Runs a program, with what the caller asks for after each round.
 pub fn run<F: FnMut(&Board) -> io::Result<()>>(
-    rt: &(impl Print + AllocGlobal),
+    rt: &impl Print,
     show: &Show,
     after: F,
 ) -> io::Result<()>
     requires { F.IsAlwaysCallable after }
 {
     println!(rt; "{}", show.title)?;
-    let code = show.rows.concat(rt.alloc())?;
+    let mut room = [0; LONGEST];
     let mut disc = [0; SHORT_DISC];
     let mut area = [0; AREA_LENGTH];
-    start(show, &code, &mut disc, &mut area);
+    start(show, lay(show.rows, &mut room), &mut disc, &mut area);
     let mut board = Board {
         disc: &mut disc,
         area,

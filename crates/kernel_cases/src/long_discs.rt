@@ -9,18 +9,18 @@ use std::io;
 const THIRD_START: usize = 2 * ENTRY_SIZE + NAME_SIZE;
 
 // "*store* takes up to 863 or 3,935"
-fn sizes(rt: &(impl Print + AllocGlobal)) -> io::Result<()> {
+fn sizes(rt: &impl Print) -> io::Result<()> {
     discs::store(
         rt,
         "store 3,935 bytes on an empty long disc",
-        LONG_DISC,
-        3935,
+        &mut [0; LONG_DISC],
+        &[1; 3935],
     )?;
     discs::refused_store(
         rt,
         "store 3,936 bytes on an empty long disc",
-        LONG_DISC,
-        3936,
+        &[0; LONG_DISC],
+        &[1; 3936],
     )
 }
 
@@ -36,17 +36,20 @@ fn store_in_gap(disc: &mut [u8], data: &[u8]) {
 }
 
 // Document 01, K12: "files of 100, 100, 100, the second erased: 100 bytes go to 261, 101 to 461"
-fn places(rt: &(impl Print + AllocGlobal)) -> io::Result<()> {
+fn places(rt: &impl Print) -> io::Result<()> {
     let mut disc = [0; LONG_DISC];
-    for size in [100, 101] {
-        let data = vec![in rt.alloc(); 4; size]?;
-        store_in_gap(&mut disc, &data);
-        println!(rt; "start of {size} bytes: {}", word_at(&disc, THIRD_START))?;
+    for data in [&[4; 100][..], &[4; 101][..]] {
+        store_in_gap(&mut disc, data);
+        println!(rt;
+            "start of {} bytes: {}",
+            data.len(),
+            word_at(&disc, THIRD_START)
+        )?;
     }
     Ok(())
 }
 
-pub fn cases(rt: &(impl Print + AllocGlobal)) -> io::Result<()> {
+pub fn cases(rt: &impl Print) -> io::Result<()> {
     sizes(rt)?;
     println!(rt; "and on a long disc:")?;
     places(rt)?;

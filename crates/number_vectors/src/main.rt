@@ -16,12 +16,7 @@ use operator::instruction::operator;
 use operator::operators::{Operator, Scaling};
 use std::io;
 
-fn write_scaling(
-    rt: &(impl Print + AllocGlobal),
-    instruction: u8,
-    o: Scaling,
-    grid: &Grid,
-) -> io::Result<()> {
+fn write_scaling(rt: &impl Print, instruction: u8, o: Scaling, grid: &Grid) -> io::Result<()> {
     match o {
         Scaling::Constrain => constrain::write_lines(rt, instruction, grid),
         Scaling::Map => map::write_lines(rt, instruction, grid),
@@ -29,7 +24,7 @@ fn write_scaling(
     }
 }
 
-fn write_operator(rt: &(impl Print + AllocGlobal), instruction: u8, grid: &Grid) -> io::Result<()> {
+fn write_operator(rt: &impl Print, instruction: u8, grid: &Grid) -> io::Result<()> {
     match operator(instruction) {
         Some(Operator::OfOne(o)) => unary::write_lines(rt, instruction, o, grid),
         Some(Operator::OfTwo(o)) => binary::write_lines(rt, instruction, o, grid),
@@ -38,7 +33,7 @@ fn write_operator(rt: &(impl Print + AllocGlobal), instruction: u8, grid: &Grid)
     }
 }
 
-fn write_operators(rt: &(impl Print + AllocGlobal), grid: &Grid) -> io::Result<()> {
+fn write_operators(rt: &impl Print, grid: &Grid) -> io::Result<()> {
     for instruction in 0..=u8::MAX {
         write_operator(rt, instruction, grid)?;
     }

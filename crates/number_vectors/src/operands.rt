@@ -1,8 +1,8 @@
 // Operands: every CHAR and every INT by its bits, and those of the grid that is read.
 use number::Number;
 use number::value::decode;
-use std::alloc::{AllocError, Global};
 use std::io::Read;
+use std::ops::Range;
 use std::{fmt, io};
 
 // A type, with its byte on the stack.
@@ -24,6 +24,11 @@ impl Kind {
             _ => Kind::Float,
         }
     }
+
+    // The bits of every CHAR or every INT.
+    pub fn bits(self) -> Range<u32> {
+        0..if self == Kind::Char { 256 } else { 65536 }
+    }
 }
 
 impl fmt::Display for Kind {
@@ -35,9 +40,16 @@ impl fmt::Display for Kind {
 
 // An operand of the grid: five bytes, a type and the value's bytes, as they lie on the stack. Type 0 is no operand.
 #[derive(Clone, Copy)]
-struct Operand {
+pub struct Operand {
     kind: u8,
     number: Number,
+}
+
+impl Operand {
+    // Its number, where it is of that type.
+    pub fn of(&self, kind: Kind) -> Option<Number> {
+        (self.kind == kind as u8).then_some(self.number)
+    }
 }
 
 impl From<[u8; 5]> for Operand {
@@ -65,13 +77,8 @@ impl Grid {
         Ok(Grid(operands))
     }
 
-    // The operands of a type.
-    pub fn of(&self, alloc: Global, kind: Kind) -> Result<Vec<Number>, AllocError> {
-        self.0
-            .iter()
-            .filter(|operand| operand.kind == kind as u8)
-            .map(|operand| operand.number)
-            .collect(alloc)
+    pub fn operands(&self) -> &[Operand] {
+        &self.0
     }
 
     // The operand of this type for a number drawn: every other one is of the grid.
@@ -118,17 +125,21 @@ pub fn whole(kind: Kind, bits: u32) -> Number {
     }
 }
 
-// Every CHAR or every INT, by its bits.
-pub fn wholes(alloc: Global, kind: Kind) -> Result<Vec<Number>, AllocError> {
-    let end = if kind == Kind::Char { 256 } else { 65536 };
-    (0..end).map(|bits| whole(kind, bits)).collect(alloc)
-}
-
-// Every CHAR, every INT, and the FLOATs of the grid.
-pub fn every(alloc: Global, grid: &Grid, kind: Kind) -> Result<Vec<Number>, AllocError> {
+// Calls on every CHAR, on every INT, or on the FLOATs of the grid.
+pub fn each<F: FnMut(Number)>(grid: &Grid, kind: Kind, mut call: F)
+    requires { F.IsAlwaysCallable call }
+{
     if kind == Kind::Float {
-        grid.of(alloc, kind)
+        for x in grid
+            .operands()
+            .iter()
+            .filter_map(|operand| operand.of(kind))
+        {
+            call(x);
+        }
     } else {
-        wholes(alloc, kind)
+        for bits in kind.bits() {
+            call(whole(kind, bits));
+        }
     }
 }

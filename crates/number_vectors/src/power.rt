@@ -1,7 +1,6 @@
 // POW, over every CHAR, every INT and the FLOATs of the grid, to the powers of 0 to 15 and some that are refused.
-use crate::operands::{Grid, Kind, every, whole};
+use crate::operands::{Grid, Kind, each, whole};
 use crate::tally::Tally;
-use number::Number;
 use operator::instruction::{takes, types_of};
 use operator::operators::{Operator, Scaling};
 use scaling::power::power_of;
@@ -14,28 +13,23 @@ const EXPONENTS: [u32; 24] = [
     65295,
 ];
 
-fn over_exponents(second: Kind, firsts: &[Number]) -> Tally {
+fn over_exponents(first: Kind, second: Kind, grid: &Grid) -> Tally {
     let mut tally = Tally::default();
-    for x in firsts {
+    each(grid, first, |x| {
         tally.count_all(
             EXPONENTS
                 .iter()
-                .map(|bits| power_of(*x, whole(second, *bits))),
+                .map(|bits| power_of(x, whole(second, *bits))),
         );
-    }
+    });
     tally
 }
 
-pub fn write_lines(
-    rt: &(impl Print + AllocGlobal),
-    instruction: u8,
-    grid: &Grid,
-) -> io::Result<()> {
+pub fn write_lines(rt: &impl Print, instruction: u8, grid: &Grid) -> io::Result<()> {
     for line in 0..9 {
         let (first, second) = (Kind::by(line / 3), Kind::by(line));
         if takes(types_of(Operator::Scale(Scaling::Power), 1), second as u8) {
-            let operands = every(rt.alloc(), grid, first)?;
-            let tally = over_exponents(second, &operands);
+            let tally = over_exponents(first, second, grid);
             println!(rt; "{instruction} {first} {second} {tally}")?;
         }
     }

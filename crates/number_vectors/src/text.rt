@@ -1,5 +1,5 @@
 // What PRINT writes of numbers.
-use crate::operands::{Grid, Kind, whole, wholes};
+use crate::operands::{Grid, Kind, whole};
 use crate::tally::checksum;
 use number::Number;
 use number::text::write;
@@ -18,18 +18,22 @@ fn write_multiples(rt: &impl Print) -> io::Result<()> {
     Ok(())
 }
 
-fn write_texts(rt: &impl Print, numbers: &[Number]) -> io::Result<()> {
-    for a in numbers {
-        write_line(rt, *a)?;
+fn write_texts(rt: &impl Print, kind: Kind, grid: &Grid) -> io::Result<()> {
+    for a in grid
+        .operands()
+        .iter()
+        .filter_map(|operand| operand.of(kind))
+    {
+        write_line(rt, a)?;
     }
     Ok(())
 }
 
-// A length, then so many bytes, for each text.
-fn checksum_of(numbers: &[Number]) -> u32 {
+// A length, then so many bytes, for the text of every CHAR or every INT.
+fn checksum_of(kind: Kind) -> u32 {
     let mut sum = 0;
-    for a in numbers {
-        let text = write(*a);
+    for bits in kind.bits() {
+        let text = write(whole(kind, bits));
         let bytes = text.as_slice();
         sum = checksum(sum, &[(bytes.len() % 256) as u8]);
         sum = checksum(sum, bytes);
@@ -37,12 +41,12 @@ fn checksum_of(numbers: &[Number]) -> u32 {
     sum
 }
 
-pub fn write_lines(rt: &(impl Print + AllocGlobal), grid: &Grid) -> io::Result<()> {
+pub fn write_lines(rt: &impl Print, grid: &Grid) -> io::Result<()> {
     write_multiples(rt)?;
-    write_texts(rt, &grid.of(rt.alloc(), Kind::Int)?)?;
-    write_texts(rt, &grid.of(rt.alloc(), Kind::Float)?)?;
+    write_texts(rt, Kind::Int, grid)?;
+    write_texts(rt, Kind::Float, grid)?;
     for kind in [Kind::Char, Kind::Int] {
-        let sum = checksum_of(&wholes(rt.alloc(), kind)?);
+        let sum = checksum_of(kind);
         println!(rt; "{kind} {sum:08x}")?;
     }
     Ok(())

@@ -8,12 +8,14 @@ use operation::files::{erase, run};
 use operation::format::{boot, format};
 use operation::list::list;
 use operation::turns::{round, turn};
-use std::alloc::Global;
 use std::fs::File;
 use std::io;
 use std::io::{BufReader, Read};
 use store::answer::number;
-use vectors::{LONGEST, print_line, read_length, run_all};
+use vectors::{print_line, read_length, run_all};
+
+// No buffer of a vector is longer.
+const LONGEST: usize = 4096;
 
 #[derive(Clone, Copy)]
 enum Operation {
@@ -57,26 +59,35 @@ struct Kept {
     out: [u8; LONGEST],
 }
 
-// What follows the letter of a vector: an ID, a share or a clock, and the buffers of the call.
+// Room for the buffers of a vector. It runs on copies.
 #[derive(Drop)]
-struct Arguments {
-    first: u32,
-    second: u32,
-    name: Vec<u8>,
-    disc: Vec<u8>,
-    area: Vec<u8>,
-    out: Vec<u8>,
+struct Room {
+    name: [u8; LONGEST],
+    disc: [u8; LONGEST],
+    area: [u8; LONGEST],
+    out: [u8; LONGEST],
 }
 
-impl Arguments {
-    fn read(alloc: Global, input: &mut impl Read, kept: &mut Kept) -> io::Result<Self> {
+// What follows the letter of a vector: an ID, a share or a clock, and the buffers of the call.
+#[derive(Drop)]
+struct Arguments<'a> {
+    first: u32,
+    second: u32,
+    name: &'a [u8],
+    disc: &'a mut [u8],
+    area: &'a mut [u8],
+    out: &'a mut [u8],
+}
+
+impl<'a> Arguments<'a> {
+    fn read(input: &mut impl Read, kept: &mut Kept, room: &'a mut Room) -> io::Result<Self> {
         Ok(Arguments {
             first: read_number(input)?,
             second: read_number(input)?,
-            name: read_changed(alloc, input, &mut [0; LONGEST])?,
-            disc: read_changed(alloc, input, &mut kept.disc)?,
-            area: read_changed(alloc, input, &mut kept.area)?,
-            out: read_changed(alloc, input, &mut kept.out)?,
+            name: read_changed(input, &mut [0; LONGEST], &mut room.name)?,
+            disc: read_changed(input, &mut kept.disc, &mut room.disc)?,
+            area: read_changed(input, &mut kept.area, &mut room.area)?,
+            out: read_changed(input, &mut kept.out, &mut room.out)?,
         })
     }
 }
@@ -95,20 +106,26 @@ fn read_number(input: &mut impl Read) -> io::Result<u32> {
 }
 
 // Reads the next buffer of a vector, which is given by what differs from what was kept: its length, then runs of bytes
-// that stay and of new ones.
-fn read_changed(alloc: Global, input: &mut impl Read, kept: &mut [u8]) -> io::Result<Vec<u8>> {
+// that stay and of new ones. Answers a copy in the front of its room.
+fn read_changed<'a>(
+    input: &mut impl Read,
+    kept: &mut [u8; LONGEST],
+    room: &'a mut [u8; LONGEST],
+) -> io::Result<&'a mut [u8]> {
     let length = read_length(input, kept.len())?;
     let mut at: usize = 0;
     while at < length {
         let first = at + usize::from(read_byte(input)?);
         let end = first + usize::from(read_byte(input)?);
         if end <= at || length < end {
-            return Ok(Vec::new(alloc));
+            return Ok(&mut []);
         }
         input.read_exact(&mut kept[first..end])?;
         at = end;
     }
-    Ok(kept[..length].to_vec(alloc)?)
+    let copy = &mut room[..length];
+    copy.copy_from_slice(&kept[..length]);
+    Ok(copy)
 }
 
 fn perform(rt: &impl Print, letter: u8, arguments: Arguments) -> io::Result<()> {
@@ -116,35 +133,40 @@ fn perform(rt: &impl Print, letter: u8, arguments: Arguments) -> io::Result<()> 
         first,
         second,
         name,
-        mut disc,
-        mut area,
-        mut out,
+        disc,
+        area,
+        out,
     } = arguments;
     let answer = match Operation::from(letter) {
-        Operation::Format => format(&mut disc, &mut area),
-        Operation::Boot => boot(&mut area),
-        Operation::Erase => erase(&mut disc, &area, &name),
-        Operation::Run => run(&disc, &mut area, &name),
-        Operation::Suspend => suspend(&disc, &mut area, first),
-        Operation::Resume => resume(&disc, &mut area, first),
-        Operation::Kill => kill(&disc, &mut area, first),
-        Operation::Share => share(&disc, &mut area, first, second),
-        Operation::List => list(&disc, &area, &mut out),
-        Operation::Turn => turn(&mut disc, &mut area, first, second, &mut out),
-        Operation::Round => round(&mut disc, &mut area, second, &mut out),
+        Operation::Format => format(disc, area),
+        Operation::Boot => boot(area),
+        Operation::Erase => erase(disc, area, name),
+        Operation::Run => run(disc, area, name),
+        Operation::Suspend => suspend(disc, area, first),
+        Operation::Resume => resume(disc, area, first),
+        Operation::Kill => kill(disc, area, first),
+        Operation::Share => share(disc, area, first, second),
+        Operation::List => list(disc, area, out),
+        Operation::Turn => turn(disc, area, first, second, out),
+        Operation::Round => round(disc, area, second, out),
     };
-    print_line(rt, letter, number(answer), &[&disc, &area, &out])
+    print_line(rt, letter, number(answer), &[disc, area, out])
 }
 
 fn main(rt: HostRuntime) -> io::Result<()> {
-    let alloc = rt.alloc();
     let file = File::open(&rt, "vectors")?;
     let mut kept = Kept {
         disc: [0; LONGEST],
         area: [0; LONGEST],
         out: [0; LONGEST],
     };
-    run_all(&mut BufReader::new(alloc, file)?, |input, letter| {
-        perform(&rt, letter, Arguments::read(alloc, input, &mut kept)?)
+    let mut room = Room {
+        name: [0; LONGEST],
+        disc: [0; LONGEST],
+        area: [0; LONGEST],
+        out: [0; LONGEST],
+    };
+    run_all(&mut BufReader::new(rt.alloc(), file)?, |input, letter| {
+        perform(&rt, letter, Arguments::read(input, &mut kept, &mut room)?)
     })
 }

@@ -4,17 +4,17 @@
 use std::{fmt, io};
 
 // The line of a call that must leave a buffer as it was. The call works on a copy.
-pub fn kept<F: FnOnce(&mut [u8]) -> i32>(
-    rt: &(impl Print + AllocGlobal),
+pub fn kept<const N: usize, F: FnOnce(&mut [u8]) -> i32>(
+    rt: &impl Print,
     label: impl fmt::Display + Drop,
-    buffer: &[u8],
+    buffer: &[u8; N],
     call: F,
 ) -> io::Result<()>
     requires { F.IsAlwaysCallable call }
 {
-    let mut after = buffer.to_vec(rt.alloc())?;
+    let mut after = *buffer;
     let number = call(&mut after);
-    let state = if buffer == after.as_slice() {
+    let state = if *buffer == after {
         "untouched"
     } else {
         "changed"

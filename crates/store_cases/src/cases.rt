@@ -12,7 +12,7 @@ const DOTS: [u8; 14] = [b'.'; 14];
 
 // A store that must leave the disc as it was.
 fn refused_store(
-    rt: &(impl Print + AllocGlobal),
+    rt: &impl Print,
     label: &str,
     disc: &Disc,
     name: &[u8],
@@ -22,12 +22,7 @@ fn refused_store(
 }
 
 // A retrieve into 14 bytes that must leave them as they were.
-fn refused_retrieve(
-    rt: &(impl Print + AllocGlobal),
-    label: &str,
-    disc: &Disc,
-    name: &[u8],
-) -> io::Result<()> {
+fn refused_retrieve(rt: &impl Print, label: &str, disc: &Disc, name: &[u8]) -> io::Result<()> {
     kept(rt, label, &DOTS, |out| number(retrieve(disc, name, out)))
 }
 
@@ -38,7 +33,7 @@ fn part_line(rt: &impl Print, label: &str, disc: &Disc, at: usize, bytes: &[u8])
 }
 
 // Document 01: "863 bytes store on an empty disc, 864 give 6"
-pub fn sizes(rt: &(impl Print + AllocGlobal)) -> io::Result<()> {
+pub fn sizes(rt: &impl Print) -> io::Result<()> {
     let mut disc = EMPTY;
     println!(rt;
         "store 863 bytes: {}",
@@ -49,17 +44,20 @@ pub fn sizes(rt: &(impl Print + AllocGlobal)) -> io::Result<()> {
 }
 
 // Document 01: "files of 100, 100, 100, the second erased: 100 bytes go to 261, 101 to 461"
-pub fn starts_in_gap(rt: &(impl Print + AllocGlobal)) -> io::Result<()> {
-    for (name, size) in [("equal", 100), ("longer", 101)] {
-        let data = vec![in rt.alloc(); 4; size]?;
-        let disc = with(&with_gap(), name.as_bytes(), &data);
-        println!(rt; "start of {size} bytes: {}", entry_at(&disc, 2).start)?;
+pub fn starts_in_gap(rt: &impl Print) -> io::Result<()> {
+    for (name, data) in [("equal", &[4; 100][..]), ("longer", &[4; 101][..])] {
+        let disc = with(&with_gap(), name.as_bytes(), data);
+        println!(rt;
+            "start of {} bytes: {}",
+            data.len(),
+            entry_at(&disc, 2).start
+        )?;
     }
     Ok(())
 }
 
 // Document 01: "8 ten files already, 7 name exists", in that order
-pub fn ten_files(rt: &(impl Print + AllocGlobal)) -> io::Result<()> {
+pub fn ten_files(rt: &impl Print) -> io::Result<()> {
     let mut disc = with_files(b"abcdefghi");
     println!(rt;
         "store the tenth file: {}",
@@ -71,7 +69,7 @@ pub fn ten_files(rt: &(impl Print + AllocGlobal)) -> io::Result<()> {
 }
 
 // Document 01: "5 bad name [..] 7 name exists, 9 no free run long enough"
-pub fn refused_stores(rt: &(impl Print + AllocGlobal)) -> io::Result<()> {
+pub fn refused_stores(rt: &impl Print) -> io::Result<()> {
     let disc = with_gap();
     refused_store(rt, "store a name that exists", &disc, b"one", b"1")?;
     refused_store(rt, "store a name with a space", &disc, b"a b", b"1")?;
@@ -82,7 +80,7 @@ pub fn refused_stores(rt: &(impl Print + AllocGlobal)) -> io::Result<()> {
 }
 
 // Document 01: "1: a buffer has the wrong length."
-pub fn wrong_lengths(rt: &(impl Print + AllocGlobal)) -> io::Result<()> {
+pub fn wrong_lengths(rt: &impl Print) -> io::Result<()> {
     let short = [0; 1023];
     let long = [0; 1025];
     kept(
@@ -107,7 +105,7 @@ pub fn wrong_lengths(rt: &(impl Print + AllocGlobal)) -> io::Result<()> {
 }
 
 // Document 01: "2: disc not good." One that counts eleven files is not.
-pub fn damaged_disc(rt: &(impl Print + AllocGlobal)) -> io::Result<()> {
+pub fn damaged_disc(rt: &impl Print) -> io::Result<()> {
     let mut disc = with_gap();
     disc[COUNT_AT] = 11;
     refused_store(rt, "store on a damaged disc", &disc, b"a", b"1")?;
@@ -126,7 +124,7 @@ pub fn damaged_disc(rt: &(impl Print + AllocGlobal)) -> io::Result<()> {
 
 // Document 01: "a line per file, name, space, length, newline; returns the bytes written". The rest of the output
 // stays.
-pub fn files_text(rt: &(impl Print + AllocGlobal)) -> io::Result<()> {
+pub fn files_text(rt: &impl Print) -> io::Result<()> {
     let disc = with(&with_gap(), b"eleven.byte", b"11");
     let mut out = [b'.'; 34];
     println!(rt; "files into 34 bytes: {}", number(files(&disc, &mut out)))?;
@@ -149,7 +147,7 @@ pub fn files_text(rt: &(impl Print + AllocGlobal)) -> io::Result<()> {
 }
 
 // Document 01: "10 no such file, tried before 4. Returns the length, its bytes written."
-pub fn retrieved(rt: &(impl Print + AllocGlobal)) -> io::Result<()> {
+pub fn retrieved(rt: &impl Print) -> io::Result<()> {
     let disc = with(&with_gap(), b"note", b"Hoist the jib.\n");
     let mut out = [b'.'; 17];
     println!(rt;

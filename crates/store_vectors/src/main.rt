@@ -3,12 +3,14 @@
 #![tactic(auto)]
 
 use disc_operation::operations::{files, free_space, retrieve, store};
-use std::alloc::Global;
 use std::fs::File;
 use std::io;
 use std::io::{BufReader, Read};
 use store::answer::number;
-use vectors::{LONGEST, print_line, read_length, run_all};
+use vectors::{print_line, read_length, run_all};
+
+// No buffer of a vector is longer, and no name.
+const LONGEST: usize = 4096;
 
 const LONGEST_NAME: usize = 16;
 
@@ -32,54 +34,71 @@ impl From<u8> for Operation {
     }
 }
 
-// What follows the letter of a vector: the buffers of the call.
+// Room for the buffers of a vector.
 #[derive(Drop)]
-struct Buffers {
-    disc: Vec<u8>,
-    name: Vec<u8>,
-    bytes: Vec<u8>,
-    out: Vec<u8>,
+struct Room {
+    disc: [u8; LONGEST],
+    name: [u8; LONGEST_NAME],
+    bytes: [u8; LONGEST],
+    out: [u8; LONGEST],
 }
 
-impl Buffers {
-    fn read(alloc: Global, input: &mut impl Read) -> io::Result<Self> {
+// What follows the letter of a vector: the buffers of the call.
+#[derive(Drop)]
+struct Buffers<'a> {
+    disc: &'a mut [u8],
+    name: &'a [u8],
+    bytes: &'a [u8],
+    out: &'a mut [u8],
+}
+
+impl<'a> Buffers<'a> {
+    fn read(input: &mut impl Read, room: &'a mut Room) -> io::Result<Self> {
         Ok(Buffers {
-            disc: read_buffer(alloc, input, LONGEST)?,
-            name: read_buffer(alloc, input, LONGEST_NAME)?,
-            bytes: read_buffer(alloc, input, LONGEST)?,
-            out: read_buffer(alloc, input, LONGEST)?,
+            disc: read_buffer(input, &mut room.disc)?,
+            name: read_buffer(input, &mut room.name)?,
+            bytes: read_buffer(input, &mut room.bytes)?,
+            out: read_buffer(input, &mut room.out)?,
         })
     }
 }
 
-// A buffer's length, then its bytes.
-fn read_buffer(alloc: Global, input: &mut impl Read, most: usize) -> io::Result<Vec<u8>> {
-    let length = read_length(input, most)?;
-    let mut bytes = vec![in alloc; 0; length]?;
-    input.read_exact(&mut bytes)?;
+// A buffer's length, then its bytes, which lie in the front of its room.
+fn read_buffer<'a, const N: usize>(
+    input: &mut impl Read,
+    room: &'a mut [u8; N],
+) -> io::Result<&'a mut [u8]> {
+    let length = read_length(input, N)?;
+    let bytes = &mut room[..length];
+    input.read_exact(bytes)?;
     Ok(bytes)
 }
 
 fn run(rt: &impl Print, letter: u8, buffers: Buffers) -> io::Result<()> {
     let Buffers {
-        mut disc,
+        disc,
         name,
         bytes,
-        mut out,
+        out,
     } = buffers;
     let answer = match Operation::from(letter) {
-        Operation::Store => store(&mut disc, &name, &bytes),
-        Operation::Retrieve => retrieve(&disc, &name, &mut out),
-        Operation::Files => files(&disc, &mut out),
-        Operation::FreeSpace => free_space(&disc),
+        Operation::Store => store(disc, name, bytes),
+        Operation::Retrieve => retrieve(disc, name, out),
+        Operation::Files => files(disc, out),
+        Operation::FreeSpace => free_space(disc),
     };
-    print_line(rt, letter, number(answer), &[&disc, &out])
+    print_line(rt, letter, number(answer), &[disc, out])
 }
 
 fn main(rt: HostRuntime) -> io::Result<()> {
-    let alloc = rt.alloc();
     let file = File::open(&rt, "vectors")?;
-    run_all(&mut BufReader::new(alloc, file)?, |input, letter| {
-        run(&rt, letter, Buffers::read(alloc, input)?)
+    let mut room = Room {
+        disc: [0; LONGEST],
+        name: [0; LONGEST_NAME],
+        bytes: [0; LONGEST],
+        out: [0; LONGEST],
+    };
+    run_all(&mut BufReader::new(rt.alloc(), file)?, |input, letter| {
+        run(&rt, letter, Buffers::read(input, &mut room)?)
     })
 }

@@ -10,9 +10,6 @@ use std::io::Read;
 // A proved loop ends; one over vectors at the latest after so many.
 const MOST: u32 = 100000;
 
-// No buffer of a vector is longer.
-pub const LONGEST: usize = 4096;
-
 // Runs each vector of the input. Its letter is read here, which says what it calls, the rest by what the caller passes.
 pub fn run_all<R: Read, F: FnMut(&mut R, u8) -> io::Result<()>>(
     input: &mut R,
