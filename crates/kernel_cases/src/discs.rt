@@ -1,7 +1,7 @@
 // What store and erase answer on an empty disc, on discs of another length and on a damaged one.
 use disc::layout::{COUNT_AT, SHORT_DISC};
 use machine::limits::AREA_LENGTH;
-use printing::kept;
+use printing::kept_array;
 use std::io;
 
 // A store on an empty disc, and one that must leave the disc as it was.
@@ -15,7 +15,7 @@ pub fn refused_store<const N: usize>(
     disc: &[u8; N],
     data: &[u8],
 ) -> io::Result<()> {
-    kept(
+    kept_array(
         rt,
         label,
         disc,
@@ -43,7 +43,7 @@ pub fn sizes(rt: &impl Print) -> io::Result<()> {
 fn erase<const N: usize>(rt: &impl Print, label: &str, disc: &[u8; N]) -> io::Result<()> {
     let mut area = [0; AREA_LENGTH];
     export::arduinos_boot(&mut area);
-    kept(
+    kept_array(
         rt,
         label,
         disc,

@@ -3,8 +3,28 @@
 
 use std::{fmt, io};
 
-// The line of a call that must leave a buffer as it was. The call works on a copy.
-pub fn kept<const N: usize, F: FnOnce(&mut [u8]) -> i32>(
+// The line of a call that must leave a buffer as it was. The call works on a copy, on the heap: the buffer may have any
+// length.
+pub fn kept<F: FnOnce(&mut [u8]) -> i32>(
+    rt: &(impl Print + AllocGlobal),
+    label: impl fmt::Display + Drop,
+    buffer: &[u8],
+    call: F,
+) -> io::Result<()>
+    requires { F.IsAlwaysCallable call }
+{
+    let mut after = buffer.to_vec(rt.alloc())?;
+    let number = call(&mut after);
+    let state = if buffer == after.as_slice() {
+        "untouched"
+    } else {
+        "changed"
+    };
+    println!(rt; "{label}: {number}, {state}")
+}
+
+// The same of an array, without a heap.
+pub fn kept_array<const N: usize, F: FnOnce(&mut [u8]) -> i32>(
     rt: &impl Print,
     label: impl fmt::Display + Drop,
     buffer: &[u8; N],

@@ -3,7 +3,7 @@ use crate::discs::{Disc, EMPTY, with, with_files, with_gap, with_garbage, withou
 use disc::directory::entry_at;
 use disc::layout::{COUNT_AT, DATA_START, ENTRY_SIZE};
 use disc_operation::operations::{files, free_space, retrieve, store};
-use printing::kept;
+use printing::kept_array;
 use std::io;
 use store::answer::number;
 
@@ -18,12 +18,12 @@ fn refused_store(
     name: &[u8],
     data: &[u8],
 ) -> io::Result<()> {
-    kept(rt, label, disc, |disc| number(store(disc, name, data)))
+    kept_array(rt, label, disc, |disc| number(store(disc, name, data)))
 }
 
 // A retrieve into 14 bytes that must leave them as they were.
 fn refused_retrieve(rt: &impl Print, label: &str, disc: &Disc, name: &[u8]) -> io::Result<()> {
-    kept(rt, label, &DOTS, |out| number(retrieve(disc, name, out)))
+    kept_array(rt, label, &DOTS, |out| number(retrieve(disc, name, out)))
 }
 
 // Whether the disc has these bytes from place at on.
@@ -83,19 +83,19 @@ pub fn refused_stores(rt: &impl Print) -> io::Result<()> {
 pub fn wrong_lengths(rt: &impl Print) -> io::Result<()> {
     let short = [0; 1023];
     let long = [0; 1025];
-    kept(
+    kept_array(
         rt,
         "store on 1023 bytes",
         &short,
         |disc| number(store(disc, b"a", b"1")),
     )?;
-    kept(
+    kept_array(
         rt,
         "retrieve on 1023 bytes",
         &DOTS,
         |out| number(retrieve(&short, b"a", out)),
     )?;
-    kept(
+    kept_array(
         rt,
         "files on 1025 bytes",
         &DOTS,
@@ -110,7 +110,7 @@ pub fn damaged_disc(rt: &impl Print) -> io::Result<()> {
     disc[COUNT_AT] = 11;
     refused_store(rt, "store on a damaged disc", &disc, b"a", b"1")?;
     refused_retrieve(rt, "retrieve on a damaged disc", &disc, b"one")?;
-    kept(
+    kept_array(
         rt,
         "files on a damaged disc",
         &DOTS,
@@ -134,7 +134,7 @@ pub fn files_text(rt: &impl Print) -> io::Result<()> {
         "files into 32 bytes: {}",
         number(files(&disc, &mut [b'.'; 32]))
     )?;
-    kept(
+    kept_array(
         rt,
         "files into 31 bytes",
         &[b'.'; 31],
